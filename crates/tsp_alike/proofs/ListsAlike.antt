@@ -86,16 +86,12 @@ filter_others t own off (p ∷ ps) = by_case (p.0 == own.0) refl (filter_others 
   by_case true e k = ap (λ b. if b then p ∷ filter t ps else filter t ps) (ap t (same_peer p own e) ∙ off) ∙ k
   by_case false e k = ap (λ z. if t p then p ∷ z else z) k
 
--- numbers are compared either way round
-eqb_swap : (a b : ℕ) → (a == b) ≡ false → (b == a) ≡ false
-eqb_swap a b e = ne_eqb b a (λ s. eqb-false a b e (sym s))
-
 -- another number than the own one is among all peers if it is among the others
 pub among_others : (p own : PeerId) → (p.0 == own.0) ≡ false → (ps : List PeerId) → is_among p ps ≡ is_among p (others own ps)
 among_others p own off [] = refl
 among_others p own off (q ∷ ps) = by_case (q.0 == own.0) refl (among_others p own off ps) where
   by_case : (b : Bool) → (q.0 == own.0) ≡ b → is_among p ps ≡ is_among p (others own ps) → is_among p (q ∷ ps) ≡ is_among p (if not b then q ∷ others own ps else others own ps)
-  by_case true e k = ap (λ b. b || is_among p ps) (ap (λ r. r.0 == p.0) (same_peer q own e) ∙ eqb_swap p.0 own.0 off) ∙ k
+  by_case true e k = ap (λ b. b || is_among p ps) (ap (λ r. r.0 == p.0) (same_peer q own e) ∙ ne_eqb own.0 p.0 (λ s. eqb-false p.0 own.0 off (sym s))) ∙ k
   by_case false e k = ap (λ b. (q.0 == p.0) || b) k
 
 -- a peer is among peers as its other name is among theirs
@@ -103,20 +99,14 @@ pub among_renamed : (m : Naming) (p : PeerId) (ps : List PeerId) → is_among (m
 among_renamed m p [] = refl
 among_renamed m p (q ∷ ps) = ap (λ b. b || is_among (m.names.peer p) (map m.names.peer ps)) (m.same q p) ∙ ap (λ b. (q.0 == p.0) || b) (among_renamed m p ps)
 
--- the first of some peers is among them
-among_first : (p : PeerId) (ps : List PeerId) → is_among p (p ∷ ps) ≡ true
-among_first p ps = ap (λ b. b || is_among p ps) (eq-eqb p.0 p.0 refl)
-
 among_rest : (q p : PeerId) (ps : List PeerId) → is_among p ps ≡ true → is_among p (q ∷ ps) ≡ true
-among_rest q p ps e = by_case (q.0 == p.0) where
-  by_case : (b : Bool) → (b || is_among p ps) ≡ true
-  by_case true = refl
-  by_case false = e
+among_rest q p ps e = elim (q.0 == p.0) as (λ b. (b || is_among p ps) ≡ true) [ true ↦ refl | false ↦ e ]
 
 -- peers are among themselves
 all_among : (ps : List PeerId) → All (λ p. is_among p ps ≡ true) ps
 all_among [] = All-nil (λ p. is_among p [] ≡ true)
-all_among (q ∷ ps) = All-cons (λ p. is_among p (q ∷ ps) ≡ true) q ps (among_first q ps) (All-weaker (λ p. is_among p ps ≡ true) (λ p. is_among p (q ∷ ps) ≡ true) (λ p. among_rest q p ps) ps (all_among ps))
+all_among (q ∷ ps) = All-cons (λ p. is_among p (q ∷ ps) ≡ true) q ps (ap (λ b. b || is_among q ps) (eq-eqb q.0 q.0 refl))
+    (All-weaker (λ p. is_among p ps ≡ true) (λ p. is_among p (q ∷ ps) ≡ true) (λ p. among_rest q p ps) ps (all_among ps))
 
 -- the standings of known peers
 standings_known : (m : Naming) (seen : List Seen) (ps : List PeerId) → All m.known ps → All (λ s. m.known s.peer) (map (standing seen) ps)

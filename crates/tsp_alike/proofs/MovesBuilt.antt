@@ -16,8 +16,8 @@ use Rattle.tsp_rules.proofs.Built.{Built, Empty, At, Then, Either, If, Reading, 
 use Rattle.tsp_base.specs.Words.{Past, plain, arms, bare, nothing, others, post_of, posts, posts_back, posts_time, posts_to_others, puts, shown, timed, word, either_by, reading, kept_name, role, Step, Acts, Row, Seen, added, grown, ◌followed_by◌, for_each, Estimate, Sending, open_send}
 use Rattle.tsp_alike.proofs.{Alike.AlikePast, Alike.Alike, Alike.Own, Alike.Moves, Alike.MovesAt, Renamed.renamed_standing}
 use Rattle.tsp_alike.proofs.NodesAlike.{later_known}
-use Rattle.tsp_alike.proofs.PortAlike.{kept_name_alike, role_alike, role_known, begun_alike, open_send_alike}
-use Rattle.tsp_alike.proofs.RoundsAlike.{asked_alike, request_open_alike, plain_alike, shown_alike, word_alike, target_alike, ticket_alike}
+use Rattle.tsp_alike.proofs.PortAlike.{Facts, facts_alike, role_alike, role_known, open_send_alike}
+use Rattle.tsp_alike.proofs.RoundsAlike.{request_open_alike, plain_alike, shown_alike, word_alike, target_alike, ticket_alike}
 use Rattle.tsp_alike.proofs.TestsAlike.{is_in_range_alike, may_set_alike, can_adjust_alike, due_stands, test_same}
 use Rattle.tsp_alike.proofs.ListsAlike.{list_known, Unnamed, list_same, open_send_renamed, open_send_unnamed, round_at_alike, round_at_known, acts_renamed, mapped_known, same-estimates}
 use Rattle.tsp_group.specs.{declared.group.Group.Group, Groups.group_of}
@@ -113,11 +113,11 @@ module _ {m : Naming} {p q : Past} (a : AlikePast m p q) (x : ℕ) where
   pub value_same : {A : Type 0} {f : A → A} {value : A → Value} {fact fact' : ℕ → Past → A} → Valued m A f value fact fact' →
       fact' (x + m.names.shift) q ≡ f (fact x p)
   value_same TicketAt = ticket_alike (plain_alike a.seen)
-  value_same NextNumber = ap₂ (λ w k. 32768 + (w + k) % 32768) (word_alike (plain_alike a.seen)) (begun_alike a.seen)
+  value_same NextNumber = ap₂ (λ w k. 32768 + (w + k) % 32768) (word_alike (plain_alike a.seen)) (ap (λ (f : Facts). f.begun) (facts_alike a.seen))
   value_same MasterName =
       ap₂ (λ r own. master_name_in r own (kept_name q.seen)) (role_alike a.seen) a.name
       ∙ name_in_role m.names (role p.seen) p.name (kept_name q.seen)
-      ∙ ap (master_name_in (role p.seen) p.name) (kept_name_alike a.seen)
+      ∙ ap (master_name_in (role p.seen) p.name) (ap (λ (f : Facts). f.kept_name) (facts_alike a.seen))
 
 -- acts that move
 module _ {m : Naming} {p q : Past} (a : AlikePast m p q) (x : ℕ) where
@@ -173,7 +173,7 @@ module _ {m : Naming} {p q : Past} (a : AlikePast m p q) (x : ℕ) where
   leaf_at (Reposts msg owed) = for_others (repost msg) (repost msg) (λ r. refl) (λ r k. k)
   leaf_at (Asks r known) =
       one (ap₂ (λ w k. Post (Peer (m.names.peer r)) (Stamp (Request w (k % 2 ^ 64))))
-      (word_alike (plain_alike a.seen)) (asked_alike a.seen)) known
+      (word_alike (plain_alike a.seen)) (ap (λ (f : Facts). f.asked) (facts_alike a.seen))) known
   leaf_at (Samples r reply sent now known owed) = one refl known
   leaf_at (Adjusts amount) = one (ap (Correct amount (is_step amount)) (shown_if amount (is_step amount))) tt
   leaf_at (Sets value) = one (ap (λ t. Correct (value -ℤ t) true value) (target_alike (plain_alike a.seen) x)) tt

@@ -9,7 +9,8 @@ use Rattle.tsp_rules.specs.GateRows.{any_port, ends_probes, follows_on, goes_on,
 use Rattle.tsp_rules.specs.{Guards.is_follow, Guards.is_master, Guards.is_starting_role, RoundRows.corrects, RoundRows.is_correct}
 use Rattle.tsp_base.specs.Words.{Deed, Begins, Acts, Step, Line, Row, first_port, is_shared, joined, line_of, placed, seen_as, view, is_among, others, role, sets_date}
 use Rattle.tsp_alike.proofs.{RoundsAlike.is_going_alike, ListsAlike.among_others, PortAlike.role_alike}
-use Rattle.tsp_alike.specs.AlikeNodes.{AlikeLines, AlikeNodes, AllKnown, Booted, Both, KnowsDeed, StepsAlike, TellsApart, is_later, naming_of, renamed_deed, renamed_placed}
+use Rattle.tsp_alike.specs.AlikeNodes.{AlikeConfigs, AlikeLines, AlikeNodes, namings, AllKnown, Booted, Both, KnowsDeed, StepsAlike, TellsApart, is_later}
+use Rattle.tsp_alike.specs.AlikeNodes.{naming_of, renamed_deed, renamed_placed}
 use Rattle.tsp_alike.proofs.Alike.{Alike, AlikePast, Booted as PortBooted, Own, Other, elsewhere, here, Moves}
 use Rattle.tsp_alike.proofs.TestsAlike.{follow_renamed, master_renamed, starting_renamed, hears_alike, is_last_probe_alike}
 
@@ -79,86 +80,130 @@ placed-known : (ms : Port → Naming) (q : Port) (acts : List Act) → All (Know
 placed-known ms q [] known = All-nil (λ (a : Placed). Knows (ms a.port) a.act)
 placed-known ms q (a ∷ acts) known = All-cons (λ (a : Placed). Knows (ms a.port) a.act) (record { port = q; act = a }) (placed q acts) (All-head (Knows (ms q)) a acts known) (placed-known ms q acts (All-tail (Knows (ms q)) a acts known))
 
--- how the ports of a node are set up, and whether it may be master, stay as they are in a life
-module _ (rs : Port → Renaming) (apart : (q : Port) → TellsApart (rs q)) (shift : ℕ) (ports : List PortSetup) (may : Bool) where
-  abbrev pub naming_on : Port → Naming
-  naming_on q = naming_of (rs q) (apart q) (slice_index_or ports q.0 no_port) may
+-- how a node is set up in a life, what its ports' peers are called otherwise, and by how much its ticks are later there
+pub record Life : Type 0 where
+  pub names : Port → Renaming
+  pub apart : (q : Port) → TellsApart (names q)
+  pub shift : ℕ
+  pub ports : List PortSetup
+  pub may : Bool
 
-  -- a past of a node that is set up so
-  abbrev pub past_with : List ℕ → Bool → Step → List Line → NodePast
-  past_with name strict step lines = record { name = name; may = may; strict = strict; ports = ports; step = step; lines = lines }
+abbrev pub naming_on : Life → Port → Naming
+naming_on l q = naming_of (l.names q) (l.apart q) (slice_index_or l.ports q.0 no_port) l.may
 
-  -- the second row over ports does on pasts that are alike what the first does
-  pub record NodeMoves (row row' : NodeRow) : Type 0 where
-    pub at : (x : ℕ) (name : List ℕ) (strict : Bool) (step : Step) (lines : List Line) (p' : NodePast) → AlikeNodes rs apart shift (past_with name strict step lines) p' →
-        StepsAlike rs apart shift x (past_with name strict step lines) p' (row x (past_with name strict step lines)) (row' (x + shift) p')
+-- a past of a node that is set up so
+abbrev pub past_with : Life → List ℕ → Bool → Step → List Line → NodePast
+past_with l name strict step lines = record { name = name; may = l.may; strict = strict; ports = l.ports; step = step; lines = lines }
 
-  pub steps_alike : (x : ℕ) (name : List ℕ) (strict : Bool) (step : Step) (lines : List Line) (p' : NodePast) (acts acts' : List Placed) → AlikeNodes rs apart shift (past_with name strict step lines) p' → acts' ≡ map (renamed_placed rs) acts →
-      AllKnown naming_on acts → StepsAlike rs apart shift x (past_with name strict step lines) p' acts acts'
-  steps_alike x name strict step lines p' acts acts' a same known = record {
-    same = same;
-    known = known;
-    after = record {
-      name = a.name;
-      may = a.may;
-      strict = a.strict;
-      shifts = a.shifts;
-      ports = a.ports;
-      setups = a.setups;
-      lines = subst (λ l. AlikeLines naming_on shift (joined step x acts lines) (joined p'.step (x + shift) l p'.lines)) (sym same) (joined_alike naming_on shift a.shifts step p'.step x acts known a.lines);
-    };
-  }
+-- the same and another past that is alike
+pub record Pair (l : Life) : Type 0 where
+  pub name : List ℕ
+  pub strict : Bool
+  pub step : Step
+  pub lines : List Line
+  pub other : NodePast
+  pub alike : AlikeNodes l.names l.apart l.shift (past_with l name strict step lines) other
 
-  -- so each port's pasts are alike
-  pub port_alike : (q : Port) → q.0 < length ports → (name : List ℕ) (strict : Bool) (step : Step) (lines : List Line) (p' : NodePast) → AlikeNodes rs apart shift (past_with name strict step lines) p' →
-      AlikePast (naming_on q) (on_port q (past_with name strict step lines)) (on_port q p')
-  port_alike q has name strict step lines p' a =
-      let s = a.setups q has in
+abbrev pub now : {l : Life} → Pair l → NodePast
+now {l} a = past_with l a.name a.strict a.step a.lines
+
+-- what both do in a step is alike
+abbrev pub Steps : {l : Life} → ℕ → Pair l → List Placed → List Placed → Type 0
+Steps {l} x a = StepsAlike l.names l.apart l.shift x (now a) a.other
+
+-- the second row over ports does on pasts that are alike what the first does
+pub record NodeMoves (l : Life) (row row' : NodeRow) : Type 0 where
+  pub at : (x : ℕ) (a : Pair l) → Steps x a (row x (now a)) (row' (x + l.shift) a.other)
+
+-- pasts that are set up alike are alike if their lines are
+pub with_lines : {rs : Port → Renaming} {shift : ℕ} {p p' : NodePast} (apart : (q : Port) → TellsApart (rs q)) → AlikeConfigs rs shift p p' → (s s' : Step)
+    {h h' : List Line} → AlikeLines (namings rs apart p) shift h h' →
+    AlikeNodes rs apart shift (record p { step = s; lines = h }) (record p' { step = s'; lines = h' })
+with_lines apart c s s' a = record { name = c.name; may = c.may; strict = c.strict; shifts = c.shifts; ports = c.ports; setups = c.setups; lines = a }
+
+pub configs_of : {rs : Port → Renaming} {shift : ℕ} {p p' : NodePast} {apart : (q : Port) → TellsApart (rs q)} → AlikeNodes rs apart shift p p' →
+    AlikeConfigs rs shift p p'
+configs_of a = record { name = a.name; may = a.may; strict = a.strict; shifts = a.shifts; ports = a.ports; setups = a.setups }
+
+-- each of these ports is one of the node
+abbrev pub AllPorts : Life → List Port → Type 0
+AllPorts l = All (λ (q : Port). q.0 < length l.ports)
+
+module _ {l : Life} where
+  pub steps_alike : (x : ℕ) (a : Pair l) (acts acts' : List Placed) → acts' ≡ map (renamed_placed l.names) acts → AllKnown (naming_on l) acts →
+      Steps x a acts acts'
+  steps_alike x a acts acts' same known =
+      let k = a.alike in
       record {
-        setup = record { own = s.own; others_are = s.others_are; count = s.count; apart = λ p e. others-apart (slice_index_or ports q.0 no_port).own p (slice_index_or ports q.0 no_port).peers e; known = λ p e. e; heard = λ p e off. sym (among_others p (slice_index_or ports q.0 no_port).own off (slice_index_or ports q.0 no_port).peers) ∙ e };
-        name = a.name;
-        may = a.may;
-        strict = a.strict;
-        stands = λ e. e;
-        seen = view_alike naming_on shift a.shifts q lines p'.lines a.lines;
+        same = same;
+        known = known;
+        after = with_lines l.apart (configs_of k) a.step a.other.step
+            (subst (λ z. AlikeLines (naming_on l) l.shift (joined a.step x acts a.lines) (joined a.other.step (x + l.shift) z a.other.lines)) (sym same)
+            (joined_alike (naming_on l) l.shift k.shifts a.step a.other.step x acts known k.lines));
       }
 
-  pub nothing_moves : NodeMoves nothing_at_all nothing_at_all
+  -- so each port's pasts are alike
+  pub port_alike : (q : Port) → q.0 < length l.ports → (a : Pair l) → AlikePast (naming_on l q) (on_port q (now a)) (on_port q a.other)
+  port_alike q has a =
+      let k = a.alike in
+      let s = k.setups q has in
+      let port : PortSetup = slice_index_or l.ports q.0 no_port in
+      record {
+        setup = record {
+          own = s.own;
+          others_are = s.others_are;
+          count = s.count;
+          apart = λ p e. others-apart port.own p port.peers e;
+          known = λ p e. e;
+          heard = λ p e off. sym (among_others p port.own off port.peers) ∙ e;
+        };
+        name = k.name;
+        may = k.may;
+        strict = k.strict;
+        stands = λ e. e;
+        seen = view_alike (naming_on l) l.shift k.shifts q a.lines a.other.lines k.lines;
+      }
+
+  pub none_at : (x : ℕ) (a : Pair l) → Steps x a [] []
+  none_at x a = steps_alike x a [] [] refl (All-nil (λ (k : Placed). Knows (naming_on l k.port) k.act))
+
+  pub nothing_moves : NodeMoves l nothing_at_all nothing_at_all
   unfolding nothing_at_all
-  nothing_moves = record { at = λ x name strict step lines p' a. steps_alike x name strict step lines p' [] [] a refl (All-nil (λ (a : Placed). Knows (naming_on a.port) a.act)) }
+  nothing_moves = record { at = none_at }
 
-  pub on_moves : (q : Port) (row row' : Row) → q.0 < length ports → Moves (naming_on q) row row' → NodeMoves (on q row) (on q row')
+  pub on_moves : (q : Port) {row row' : Row} → q.0 < length l.ports → Moves (naming_on l q) row row' → NodeMoves l (on q row) (on q row')
   unfolding on
-  on_moves q row row' has k = record {
-    at = λ x name strict step lines p' a.
-        let p : NodePast = past_with name strict step lines in
-        let m = k.at x (on_port q p) (on_port q p') (port_alike q has name strict step lines p' a) in
-        steps_alike x name strict step lines p' (placed q (row x (on_port q p))) (placed q (row' (x + shift) (on_port q p'))) a
-        (ap (λ n. placed q (row' (x + n) (on_port q p'))) (sym (a.shifts q)) ∙ ap (placed q) m.same ∙ placed-renamed rs q (row x (on_port q p)))
-        (placed-known naming_on q (row x (on_port q p)) m.known);
+  on_moves q {row} {row'} has k = record {
+    at = λ x a.
+        let acts : List Act = row x (on_port q (now a)) in
+        let m = k.at x (on_port q (now a)) (on_port q a.other) (port_alike q has a) in
+        steps_alike x a (placed q acts) (placed q (row' (x + l.shift) (on_port q a.other)))
+        (ap (λ n. placed q (row' (x + n) (on_port q a.other))) (sym (a.alike.shifts q)) ∙ ap (placed q) m.same ∙ placed-renamed l.names q acts)
+        (placed-known (naming_on l) q acts m.known);
   }
 
-  pub then_moves : (r r' s s' : NodeRow) → NodeMoves r r' → NodeMoves s s' → NodeMoves (r and_then s) (r' and_then s')
+  pub then_moves : {r r' s s' : NodeRow} → NodeMoves l r r' → NodeMoves l s s' → NodeMoves l (r and_then s) (r' and_then s')
   unfolding ◌and_then◌
-  then_moves r r' s s' k l = record {
-    at = λ x name strict step lines p' a.
-        let p : NodePast = past_with name strict step lines in
-        let first = k.at x name strict step lines p' a in
-        let next = l.at x name strict step (joined step x (r x p) lines) (spread (x + shift) p' (r' (x + shift) p')) first.after in
-        let mid : NodePast = spread x p (r x p) in
-        steps_alike x name strict step lines p' (r x p ++ s x mid) (r' (x + shift) p' ++ s' (x + shift) (spread (x + shift) p' (r' (x + shift) p'))) a
-        (ap (λ l. l ++ s' (x + shift) (spread (x + shift) p' (r' (x + shift) p'))) first.same ∙ ap (λ l. map (renamed_placed rs) (r x p) ++ l) next.same ∙ sym (map-append (renamed_placed rs) (r x p) (s x mid)))
-        (All-append (λ (a : Placed). Knows (naming_on a.port) a.act) (r x p) (s x mid) first.known next.known);
+  then_moves {r} {r'} {s} {s'} k n = record {
+    at = λ x a.
+        let first = k.at x a in
+        let ours : List Placed = r x (now a) in
+        let theirs : List Placed = r' (x + l.shift) a.other in
+        let mid : Pair l = record a { lines = joined a.step x ours a.lines; other = spread (x + l.shift) a.other theirs; alike = first.after } in
+        let next = n.at x mid in
+        let more : List Placed = s x (now mid) in
+        let more' : List Placed = s' (x + l.shift) mid.other in
+        steps_alike x a (ours ++ more) (theirs ++ more')
+        (ap (λ z. z ++ more') first.same ∙ ap (λ z. map (renamed_placed l.names) ours ++ z) next.same ∙ sym (map-append (renamed_placed l.names) ours more))
+        (All-append (λ (k : Placed). Knows (naming_on l k.port) k.act) ours more first.known next.known);
   }
 
-  -- each of these ports is one of the node
-  abbrev pub AllPorts : List Port → Type 0
-  AllPorts = All (λ (q : Port). q.0 < length ports)
-
-  pub for_ports_move : (row row' : Port → NodeRow) → ((q : Port) → q.0 < length ports → NodeMoves (row q) (row' q)) → (qs : List Port) → AllPorts qs → NodeMoves (for_ports row qs) (for_ports row' qs)
+  pub for_ports_move : {row row' : Port → NodeRow} → ((q : Port) → q.0 < length l.ports → NodeMoves l (row q) (row' q)) → (qs : List Port) → AllPorts l qs →
+      NodeMoves l (for_ports row qs) (for_ports row' qs)
   unfolding for_ports
-  for_ports_move row row' k [] has = nothing_moves
-  for_ports_move row row' k (q ∷ qs) has = then_moves (row q) (row' q) (for_ports row qs) (for_ports row' qs) (k q (All-head (λ (r : Port). r.0 < length ports) q qs has)) (for_ports_move row row' k qs (All-tail (λ (r : Port). r.0 < length ports) q qs has))
+  for_ports_move k [] has = nothing_moves
+  for_ports_move k (q ∷ qs) has = then_moves (k q (All-head (λ (r : Port). r.0 < length l.ports) q qs has))
+      (for_ports_move k qs (All-tail (λ (r : Port). r.0 < length l.ports) q qs has))
 
 -- what a node's rows over its ports read is the same for pasts that are alike
 
@@ -196,60 +241,58 @@ any-same : (t t' : Port → Bool) → ((q : Port) → t' q ≡ t q) → (qs : Li
 any-same t t' same [] = refl
 any-same t t' same (q ∷ qs) = ap₂ ◌||◌ (same q) (any-same t t' same qs)
 
-module _ (rs : Port → Renaming) (apart : (q : Port) → TellsApart (rs q)) (shift : ℕ) (ports : List PortSetup) (may : Bool) {name : List ℕ} {strict : Bool} {step : Step} {lines : List Line} {p' : NodePast}
-    (a : AlikeNodes rs apart shift (past_with rs apart shift ports may name strict step lines) p') where
-  abbrev p : NodePast
-  p = past_with rs apart shift ports may name strict step lines
+module _ {l : Life} (a : Pair l) where
+  seen-alike : (q : Port) → Alike (naming_on l q) (view q a.lines) (view q a.other.lines)
+  seen-alike q = view_alike (naming_on l) l.shift a.alike.shifts q a.lines a.other.lines a.alike.lines
 
-  seen-alike : (q : Port) → Alike (naming_on rs apart shift ports may q) (view q lines) (view q p'.lines)
-  seen-alike q = view_alike (naming_on rs apart shift ports may) shift a.shifts q lines p'.lines a.lines
+  pub follows_same : (q : Port) → follows_on a.other q ≡ follows_on (now a) q
+  follows_same q = ap is_follow (role_alike (seen-alike q)) ∙ follow_renamed (l.names q) (role (view q a.lines))
 
-  pub follows_same : (q : Port) → follows_on p' q ≡ follows_on p q
-  follows_same q = ap is_follow (role_alike (seen-alike q)) ∙ follow_renamed (rs q) (role (view q lines))
+  pub leads_same : (q : Port) → leads_on a.other q ≡ leads_on (now a) q
+  leads_same q = ap is_master (role_alike (seen-alike q)) ∙ master_renamed (l.names q) (role (view q a.lines))
 
-  pub leads_same : (q : Port) → leads_on p' q ≡ leads_on p q
-  leads_same q = ap is_master (role_alike (seen-alike q)) ∙ master_renamed (rs q) (role (view q lines))
+  pub awake_same : (q : Port) → is_awake_on a.other q ≡ is_awake_on (now a) q
+  awake_same q = ap (λ r. not (is_starting_role r)) (role_alike (seen-alike q)) ∙ ap not (starting_renamed (l.names q) (role (view q a.lines)))
 
-  pub awake_same : (q : Port) → is_awake_on p' q ≡ is_awake_on p q
-  awake_same q = ap (λ r. not (is_starting_role r)) (role_alike (seen-alike q)) ∙ ap not (starting_renamed (rs q) (role (view q lines)))
-
-  pub goes_same : (q : Port) → goes_on p' q ≡ goes_on p q
+  pub goes_same : (q : Port) → goes_on a.other q ≡ goes_on (now a) q
   goes_same q = is_going_alike (seen-alike q)
 
-  all-same : ports_from 0 p'.ports ≡ ports_from 0 ports
-  all-same = ports_same 0 ports p'.ports a.ports
+  pub all_same : ports_from 0 a.other.ports ≡ ports_from 0 l.ports
+  all_same = ports_same 0 l.ports a.other.ports a.alike.ports
 
-  pub other_same : (q : Port) → other_ports q p' ≡ other_ports q p
-  other_same q = ap (filter (λ r. not (r.0 == q.0))) all-same
+  pub other_same : (q : Port) → other_ports q a.other ≡ other_ports q (now a)
+  other_same q = ap (filter (λ r. not (r.0 == q.0))) all_same
 
-  pub stirred_same : (q : Port) (kind : Kind) → stirred_ports q kind p' ≡ stirred_ports q kind p
-  stirred_same q kind = ap (λ l. if sets_date kind then l else filter (λ r. not (r.0 == q.0)) l) all-same
+  pub stirred_same : (q : Port) (kind : Kind) → stirred_ports q kind a.other ≡ stirred_ports q kind (now a)
+  stirred_same q kind = ap (λ l. if sets_date kind then l else filter (λ r. not (r.0 == q.0)) l) all_same
 
   none-lower : (t t' : Port → Bool) → ((r : Port) → t' r ≡ t r) → (q : Port) →
-      not (any_port t' (lower_ports q p')) ≡ not (any_port t (lower_ports q p))
-  none-lower t t' same q = ap not (ap (any_port t') (ap (filter (λ r. nat_lt r.0 q.0)) all-same) ∙ any-same t t' same (lower_ports q p))
+      not (any_port t' (lower_ports q a.other)) ≡ not (any_port t (lower_ports q (now a)))
+  none-lower t t' same q = ap not (ap (any_port t') (ap (filter (λ r. nat_lt r.0 q.0)) all_same) ∙ any-same t t' same (lower_ports q (now a)))
 
-  pub steers_same : (q : Port) (x : ℕ) → steers q (x + shift) p' ≡ steers q x p
-  steers_same q x = ap₂ ◌&&◌ (follows_same q) (none-lower (follows_on p) (follows_on p') follows_same q)
+  pub steers_same : (q : Port) (x : ℕ) → steers q (x + l.shift) a.other ≡ steers q x (now a)
+  steers_same q x = ap₂ ◌&&◌ (follows_same q) (none-lower (follows_on (now a)) (follows_on a.other) follows_same q)
 
-  pub leads_clock_same : (q : Port) (x : ℕ) → leads_clock q (x + shift) p' ≡ leads_clock q x p
+  pub leads_clock_same : (q : Port) (x : ℕ) → leads_clock q (x + l.shift) a.other ≡ leads_clock q x (now a)
   leads_clock_same q x =
-      ap₂ ◌&&◌ (ap not (ap (any_port (follows_on p')) all-same ∙ any-same (follows_on p) (follows_on p') follows_same (ports_from 0 ports)))
-      (none-lower (leads_on p) (leads_on p') leads_same q)
+      ap₂ ◌&&◌ (ap not (ap (any_port (follows_on a.other)) all_same ∙ any-same (follows_on (now a)) (follows_on a.other) follows_same (ports_from 0 l.ports)))
+      (none-lower (leads_on (now a)) (leads_on a.other) leads_same q)
 
-  pub in_charge_same : (q : Port) (x : ℕ) → in_charge q (x + shift) p' ≡ in_charge q x p
+  pub in_charge_same : (q : Port) (x : ℕ) → in_charge q (x + l.shift) a.other ≡ in_charge q x (now a)
   in_charge_same q x = ap₂ ◌||◌ (steers_same q x) (leads_clock_same q x)
 
-  pub waits_same : (q : Port) (x : ℕ) → waits q (x + shift) p' ≡ waits q x p
-  waits_same q x = ap (any_port (goes_on p')) (other_same q) ∙ any-same (goes_on p) (goes_on p') goes_same (other_ports q p)
+  pub waits_same : (q : Port) (x : ℕ) → waits q (x + l.shift) a.other ≡ waits q x (now a)
+  waits_same q x = ap (any_port (goes_on a.other)) (other_same q) ∙ any-same (goes_on (now a)) (goes_on a.other) goes_same (other_ports q (now a))
 
-  pub ends_same : (q : Port) → q.0 < length ports → (acts acts' : List Act) → acts' ≡ map (renamed_act (rs q)) acts → ends_probes acts' (on_port q p') p'.ports ≡ ends_probes acts (on_port q p) ports
+  pub ends_same : (q : Port) → q.0 < length l.ports → (acts acts' : List Act) → acts' ≡ map (renamed_act (l.names q)) acts → ends_probes acts'
+      (on_port q a.other) a.other.ports ≡ ends_probes acts (on_port q (now a)) l.ports
   ends_same q has acts acts' e =
-      ap (λ b. b && (is_last_probe (on_port q p') && nat_le 2 (length p'.ports))) (ap has_rung e ∙ has_rung_renamed (rs q) acts)
-      ∙ ap (λ b. has_rung acts && (b && nat_le 2 (length p'.ports))) (is_last_probe_alike (port_alike rs apart shift ports may q has name strict step lines p' a))
-      ∙ ap (λ n. has_rung acts && (is_last_probe (on_port q p) && nat_le 2 n)) a.ports
+      ap (λ b. b && (is_last_probe (on_port q a.other) && nat_le 2 (length a.other.ports))) (ap has_rung e ∙ has_rung_renamed (l.names q) acts)
+      ∙ ap (λ b. has_rung acts && (b && nat_le 2 (length a.other.ports))) (is_last_probe_alike (port_alike q has a))
+      ∙ ap (λ n. has_rung acts && (is_last_probe (on_port q (now a)) && nat_le 2 n)) a.alike.ports
 
   -- a port hears a peer under the other name
-  pub hears_same : (q : Port) → q.0 < length ports → (from : Place) (x : ℕ) → hears_on (renamed_place (rs q) from) q (x + shift) p' ≡ hears_on from q x p
+  pub hears_same : (q : Port) → q.0 < length l.ports → (from : Place) (x : ℕ) → hears_on (renamed_place (l.names q) from) q
+      (x + l.shift) a.other ≡ hears_on from q x (now a)
   hears_same q has Stranger x = refl
-  hears_same q has (Peer r) x = hears_alike (port_alike rs apart shift ports may q has name strict step lines p' a) r x
+  hears_same q has (Peer r) x = hears_alike (port_alike q has a) r x

@@ -1,18 +1,19 @@
 -- Facts of a port at alike pasts: role, alarms, hold, what a step took, table, backers, rivals, and its numbered sends.
 use Rattle.std.proofs.Common.{◌∷◌, ap₂, sym, ap, true≢false, ◌∙◌, ◌≡◌, ℕ, ◌+◌, Bool, true, false, if◌then◌else◌, List, map, Option, None, Some, is_some, refl, ◌==◌, ◌&&◌, []}
-use Rattle.tsp_rules.specs.Values.{Boot, Back, Took, Become, Arm, Ring, Late, Backer, Join, Leave, Rival, Quit, Alarm, Window, Quiet, PeerId, Place, Peer, Stranger, Follow, HOLD, ELECT_MIN, Post, Acked, Gave, Correct, Message}
+use Rattle.tsp_rules.specs.Values.{Role, Stamp, Request, Probe, CloseAlarm, Boot, Back, Took, Become, Arm, Ring, Late, Backer, Join, Leave, Rival, Quit, Alarm}
+use Rattle.tsp_rules.specs.Values.{Window, Quiet, PeerId, Place, Peer, Stranger, Follow, HOLD, ELECT_MIN, Post, Acked, Gave, Correct, Message}
 use Rattle.tsp_rules.specs.Renames.{Renaming, Naming, Knows, renamed_place, renamed_role, known_role, later_sends}
-use Rattle.tsp_base.specs.Words.{Deed, Begins, Acts, Seen, Deadlines, deadline, with_deadline, Held, may_back, may_back_after, may_stand, Received, MessageValue, role, taken, acting, acting_after, name_in, said, said_by, message_in, kept_name, held, armed, armed_after, in_table, backers, is_rival, Said, is_correction, is_numbered, is_date_request, is_set_date_request, open_to, posts_of, message_at, sending_at, open_send, begun, last_to, number_of, last_number, last_post, corrects_by, is_acknowledged, correcting_of, last_taken, Dating, dating_of, last_date, last_asked, Step, message_of, sending_of}
+use Rattle.tsp_base.specs.Words.{Correcting, Deed, Begins, Acts, Seen, Deadlines, deadline, with_deadline, Held, may_back, may_back_after, may_stand, Received}
+use Rattle.tsp_base.specs.Words.{MessageValue, role, has_own_number, taken, acting, name_in, said, said_by, message_in, kept_name, held, armed, armed_after}
+use Rattle.tsp_base.specs.Words.{in_table, backers, is_rival, Said, is_correction, is_numbered, is_date_request, is_set_date_request, is_starting, asked}
+use Rattle.tsp_base.specs.Words.{probes, open_to, posts_of, message_at, sending_at, open_send, begun, last_to, number_of, last_number, last_post, corrects_by}
+use Rattle.tsp_base.specs.Words.{is_acknowledged, correcting_of, last_taken, Dating, dating_of, last_date, last_asked, Step, message_of, sending_of}
 use Rattle.tsp_alike.proofs.Alike.{Alike, Booted, Own, Other, here}
 use Rattle.tsp_alike.specs.AlikeNodes.{renamed_deed, KnowsDeed}
 use Rattle.tsp_alike.proofs.Renamed.{sending_later, later, later_deadlines, renamed_back, renamed_held, renamed_taken, renamed_said, le_after, past_later, later_date, renamed_correcting}
 
 -- what a deed does to a fact, with other names
 module _ (n : Renaming) where
-  pub acting_deed : (d : Deed) (was : Bool) → acting_after (renamed_deed n d) was ≡ acting_after d was
-  acting_deed (Acts (Late a)) was = refl
-  acting_deed _ was = refl
-
   with_later : (d : Deadlines) (a : Alarm) (at : Option ℕ) → with_deadline (later_deadlines n d) a (later n at) ≡ later_deadlines n (with_deadline d a at)
   with_later d Quiet at = refl
   with_later d _ at = refl
@@ -39,6 +40,18 @@ module _ (n : Renaming) where
   pub said_renamed : (t : Option Received) → said (renamed_taken n t) ≡ renamed_said n (said t)
   said_renamed None = refl
   said_renamed (Some r) = by_renamed r.from (message_in r.taken)
+
+  asked_if : (b : Bool) (x : ℕ) (was : Option ℕ) → (if b then Some (x + n.shift) else later n was) ≡ later n (if b then Some x else was)
+  asked_if true x was = refl
+  asked_if false x was = refl
+
+  correcting_renamed : (o : Option Said) → correcting_of (renamed_said n o) ≡ renamed_correcting n (correcting_of o)
+  correcting_renamed None = refl
+  correcting_renamed (Some s) = by_case (is_correction s.message.kind) where
+    by_case : (b : Bool) → (if b then Some (record { from = n.peer s.from; number = s.message.number }) else None) ≡ renamed_correcting n
+        (if b then Some (record { from = s.from; number = s.message.number }) else None)
+    by_case true = refl
+    by_case false = refl
 
 -- the same, where peers are told apart or known
 module _ (m : Naming) where
@@ -67,14 +80,88 @@ module _ (m : Naming) where
       let b = past_later m.names h.quit ELECT_MIN x in
       rw (le_after h.boot ELECT_MIN x m.names.shift, b, back_renamed h.back x own) refl
 
+-- facts of a port, of its clock and of its sends that are told apart by no peer
+pub record Facts : Type 0 where
+  pub role : Role
+  pub taken : Option Received
+  pub acting : Bool
+  pub held : Held
+  pub kept_name : List ℕ
+  pub backers : List PeerId
+  pub begun : ℕ
+  pub last_taken : Option Correcting
+  pub last_asked : Option ℕ
+  pub is_starting : Bool
+  pub asked : ℕ
+  pub probes : ℕ
+
+abbrev pub facts : List Seen → Facts
+facts seen = record {
+  role = role seen;
+  taken = taken seen;
+  acting = acting seen;
+  held = held seen;
+  kept_name = kept_name seen;
+  backers = backers seen;
+  begun = begun seen;
+  last_taken = last_taken seen;
+  last_asked = last_asked seen;
+  is_starting = is_starting seen;
+  asked = asked seen;
+  probes = probes seen;
+}
+
+abbrev pub renamed_facts : Renaming → Facts → Facts
+renamed_facts n f = record f {
+  role = renamed_role n f.role;
+  taken = renamed_taken n f.taken;
+  held = renamed_held n f.held;
+  backers = map n.peer f.backers;
+  last_taken = renamed_correcting n f.last_taken;
+  last_asked = later n f.last_asked;
+}
+
+change : (c : Facts → Facts) {f g : Facts} → f ≡ g → c f ≡ c g
+change c e = ap c e
+
 module _ {m : Naming} where
-  -- roles
+  pub facts_alike : {seen seen' : List Seen} → Alike m seen seen' → facts seen' ≡ renamed_facts m.names (facts seen)
+  facts_alike (Booted s s' cause x old old') = refl
+  facts_alike (Own s s' x Begins ok knows a) = change (λ f. record f { taken = None; acting = false; is_starting = false }) (facts_alike a)
+  facts_alike (Own s s' x (Acts Boot) ok knows a) = absurd (true≢false (sym ok))
+  facts_alike (Own s s' x (Acts (Took from t)) ok knows a) =
+      change (λ f. record f { taken = Some (record { from = renamed_place m.names from; taken = t }); acting = true }) (facts_alike a)
+  facts_alike (Own s s' x (Acts (Become (Follow p))) ok knows {before = b} a) =
+      let followed : List ℕ → Facts → Facts = λ name f. record f { role = Follow (m.names.peer p); kept_name = name; backers = []; probes = 0 } in
+      change (λ f. followed (name_in f.taken) f) (facts_alike a) ∙ ap (λ z. followed z (renamed_facts m.names (facts b))) (name_renamed m.names (taken b))
+  facts_alike (Own s s' x (Acts (Become r)) ok knows a) = change (λ f. record f { role = r; backers = []; probes = 0 }) (facts_alike a)
+  facts_alike (Own s s' x (Acts (Ring Probe)) ok knows a) = change (λ f. record f { acting = true; probes = f.probes + 1 }) (facts_alike a)
+  facts_alike (Own s s' x (Acts (Ring alarm)) ok knows a) = change (λ f. record f { acting = true }) (facts_alike a)
+  facts_alike (Own s s' x (Acts (Late alarm)) ok knows a) = change (λ f. record f { acting = true }) (facts_alike a)
+  facts_alike (Own s s' x (Acts (Arm CloseAlarm at)) ok knows a) = change (λ f. record f { is_starting = true; probes = 0 }) (facts_alike a)
+  facts_alike (Own s s' x (Acts (Back p)) ok knows a) = change (λ f. record f { held = record f.held { back = Some (x + m.names.shift, m.names.peer p) } })
+      (facts_alike a)
+  facts_alike (Own s s' x (Acts (Quit p)) ok knows a) = change (λ f. record f { held = record f.held { quit = Some (x + m.names.shift) } }) (facts_alike a)
+  facts_alike (Own s s' x (Acts (Backer p)) ok knows a) = change (λ f. record f { backers = m.names.peer p ∷ f.backers }) (facts_alike a)
+  facts_alike (Own s s' x (Acts (Post to (Message msg))) ok knows {before = b} a) =
+      let begins : Facts → Facts = λ f. record f { begun = if has_own_number msg.kind && f.acting then f.begun + 1 else f.begun } in
+      let asks : Option ℕ → Facts → Facts = λ at f. record (begins f) { last_asked = at } in
+      change (λ f. asks (if is_set_date_request msg.kind && f.acting then Some (x + m.names.shift) else f.last_asked) f) (facts_alike a)
+      ∙ ap (λ z. asks z (renamed_facts m.names (facts b))) (asked_if m.names (is_set_date_request msg.kind && acting b) x (last_asked b))
+  facts_alike (Own s s' x (Acts (Post to (Stamp (Request word counter)))) ok knows a) = change (λ f. record f { asked = f.asked + 1 }) (facts_alike a)
+  facts_alike (Own s s' x (Acts (Correct amount stepped value)) ok knows {before = b} a) =
+      let takes : Option Correcting → Facts → Facts = λ c f. record f { last_taken = c } in
+      change (λ f. takes (correcting_of (said f.taken)) f) (facts_alike a)
+      ∙ ap (λ z. takes z (renamed_facts m.names (facts b))) (ap correcting_of (said_renamed m.names (taken b)) ∙ correcting_renamed m.names (said (taken b)))
+  facts_alike (Own s s' x _ ok knows a) = facts_alike a
+  facts_alike (Other n shift s s' x (Acts (Correct amount stepped value)) ok a) = change (λ f. record f { last_taken = None }) (facts_alike a)
+  facts_alike (Other n shift s s' x _ ok a) = facts_alike a
+
   pub role_alike : {seen seen' : List Seen} → Alike m seen seen' → role seen' ≡ renamed_role m.names (role seen)
-  role_alike (Booted s s' cause x old old') = refl
-  role_alike (Own s s' x (Acts Boot) ok knows a) = refl
-  role_alike (Own s s' x (Acts (Become r)) ok knows a) = refl
-  role_alike (Own s s' x _ ok knows a) = role_alike a
-  role_alike (Other n shift s s' x d ok a) = role_alike a
+  role_alike a = ap (λ (f : Facts). f.role) (facts_alike a)
+
+  acting_alike : {seen seen' : List Seen} → Alike m seen seen' → acting seen' ≡ acting seen
+  acting_alike a = ap (λ (f : Facts). f.acting) (facts_alike a)
 
   -- only a known peer is followed, and only a port that may stand for election is a candidate
   pub role_known : {seen seen' : List Seen} → Alike m seen seen' → known_role m (role seen)
@@ -83,19 +170,6 @@ module _ {m : Naming} where
   role_known (Own s s' x (Acts (Become r)) ok knows a) = knows
   role_known (Own s s' x _ ok knows a) = role_known a
   role_known (Other n shift s s' x d ok a) = role_known a
-
-  -- what a step took
-  pub taken_alike : {seen seen' : List Seen} → Alike m seen seen' → taken seen' ≡ renamed_taken m.names (taken seen)
-  taken_alike (Booted s s' cause x old old') = refl
-  taken_alike (Own s s' x Begins ok knows a) = refl
-  taken_alike (Own s s' x (Acts (Took from t)) ok knows a) = refl
-  taken_alike (Own s s' x _ ok knows a) = taken_alike a
-  taken_alike (Other n shift s s' x d ok a) = taken_alike a
-
-  pub acting_alike : {seen seen' : List Seen} → Alike m seen seen' → acting seen' ≡ acting seen
-  acting_alike (Booted s s' cause x old old') = refl
-  acting_alike (Own s s' x d ok knows {before = b} a) = ap (acting_after (renamed_deed m.names d)) (acting_alike a) ∙ acting_deed m.names d (acting b)
-  acting_alike (Other n shift s s' x d ok a) = acting_alike a
 
   -- alarms
   pub armed_alike : {seen seen' : List Seen} → Alike m seen seen' → armed seen' ≡ later_deadlines m.names (armed seen)
@@ -113,37 +187,13 @@ module _ {m : Naming} where
   window_stands (Other n shift s s' x d ok a) e = window_stands a e
 
   -- the hold
-  pub held_alike : {seen seen' : List Seen} → Alike m seen seen' → held seen' ≡ renamed_held m.names (held seen)
-  held_alike (Booted s s' cause x old old') = refl
-  held_alike (Own s s' x (Acts Boot) ok knows a) = refl
-  held_alike (Own s s' x (Acts (Back p)) ok knows a) = rw (held_alike a) refl
-  held_alike (Own s s' x (Acts (Quit p)) ok knows a) = rw (held_alike a) refl
-  held_alike (Own s s' x _ ok knows a) = held_alike a
-  held_alike (Other n shift s s' x d ok a) = held_alike a
-
   pub may_back_alike : {seen seen' : List Seen} → Alike m seen seen' → (x : ℕ) (p : PeerId) → may_back (held seen') (x + m.names.shift) (m.names.peer p) ≡ may_back (held seen) x p
-  may_back_alike {seen = z} a x p = ap (λ h. may_back h (x + m.names.shift) (m.names.peer p)) (held_alike a) ∙ back_renamed m (held z).back x p
+  may_back_alike {seen = z} a x p = ap (λ h. may_back h (x + m.names.shift) (m.names.peer p)) (ap (λ (f : Facts). f.held) (facts_alike a)) ∙ back_renamed m
+      (held z).back x p
 
   pub may_stand_alike : {seen seen' : List Seen} → Alike m seen seen' → (x : ℕ) (own : PeerId) → may_stand (held seen') (x + m.names.shift) (m.names.peer own) ≡ may_stand (held seen) x own
-  may_stand_alike {seen = z} a x own = ap (λ h. may_stand h (x + m.names.shift) (m.names.peer own)) (held_alike a) ∙ stand_renamed m (held z) x own
-
-  -- the name of the master that was followed last
-  pub kept_name_alike : {seen seen' : List Seen} → Alike m seen seen' → kept_name seen' ≡ kept_name seen
-  kept_name_alike (Booted s s' cause x old old') = refl
-  kept_name_alike (Own s s' x (Acts Boot) ok knows a) = refl
-  kept_name_alike (Own s s' x (Acts (Become (Follow p))) ok knows {before = b} a) =
-      ap name_in (taken_alike a) ∙ name_renamed m.names (taken b)
-  kept_name_alike (Own s s' x _ ok knows a) = kept_name_alike a
-  kept_name_alike (Other n shift s s' x d ok a) = kept_name_alike a
-
-  -- backers
-  pub backers_alike : {seen seen' : List Seen} → Alike m seen seen' → backers seen' ≡ map m.names.peer (backers seen)
-  backers_alike (Booted s s' cause x old old') = refl
-  backers_alike (Own s s' x (Acts Boot) ok knows a) = refl
-  backers_alike (Own s s' x (Acts (Become r)) ok knows a) = refl
-  backers_alike (Own s s' x (Acts (Backer p)) ok knows a) = ap (λ ps. m.names.peer p ∷ ps) (backers_alike a)
-  backers_alike (Own s s' x _ ok knows a) = backers_alike a
-  backers_alike (Other n shift s s' x d ok a) = backers_alike a
+  may_stand_alike {seen = z} a x own = ap (λ h. may_stand h (x + m.names.shift) (m.names.peer own)) (ap (λ (f : Facts). f.held) (facts_alike a))
+      ∙ stand_renamed m (held z) x own
 
   pub in_table_alike : (p : PeerId) → {seen seen' : List Seen} → Alike m seen seen' → in_table (m.names.peer p) seen' ≡ in_table p seen
   in_table_alike p (Booted s s' cause x old old') = refl
@@ -190,19 +240,6 @@ module _ {m : Naming} where
   sending_at_alike Nowhere posts = refl
   sending_at_alike (There s s' x d a) posts = ap (λ o. sending_of o (x + m.names.shift) posts) (message_renamed m.names d) ∙ sending_later m.names (message_of d) x posts
 
--- what a deed does to a fact, with other names
-module _ (n : Renaming) where
-  asked_if : (b : Bool) (x : ℕ) (was : Option ℕ) → (if b then Some (x + n.shift) else later n was) ≡ later n (if b then Some x else was)
-  asked_if true x was = refl
-  asked_if false x was = refl
-
-  correcting_renamed : (o : Option Said) → correcting_of (renamed_said n o) ≡ renamed_correcting n (correcting_of o)
-  correcting_renamed None = refl
-  correcting_renamed (Some s) = by_case (is_correction s.message.kind) where
-    by_case : (b : Bool) → (if b then Some (record { from = n.peer s.from; number = s.message.number }) else None) ≡ renamed_correcting n (if b then Some (record { from = s.from; number = s.message.number }) else None)
-    by_case true = refl
-    by_case false = refl
-
 -- the same for one peer, where peers are told apart
 module _ (m : Naming) where
   date_if : (b : Bool) (x number : ℕ) (was : Option Dating) → (if b then Some (record { at = x + m.names.shift; number = number }) else later_date m.names was) ≡ later_date m.names (if b then Some (record { at = x; number = number }) else was)
@@ -242,14 +279,6 @@ module _ {m : Naming} where
   pub open_send_alike : (p : PeerId) → {seen seen' : List Seen} → Alike m seen seen' → open_send (m.names.peer p) seen' ≡ later_sends m.names (open_send p seen)
   open_send_alike p {seen = z} {seen' = z'} a = ap (sending_at (open_to (m.names.peer p) z')) (posts_of_alike p a) ∙ sending_at_alike (open_to_alike p a) (posts_of p z)
 
-  -- how many sends began with the port's own numbers
-  pub begun_alike : {seen seen' : List Seen} → Alike m seen seen' → begun seen' ≡ begun seen
-  begun_alike (Booted s s' boot x old old') = refl
-  begun_alike (Own s s' x (Acts Boot) ok knows a) = refl
-  begun_alike (Own s s' x (Acts (Post to (Message msg))) ok knows a) = rw (acting_alike a, begun_alike a) refl
-  begun_alike (Own s s' x _ ok knows a) = begun_alike a
-  begun_alike (Other n shift s s' x d ok a) = begun_alike a
-
   -- the last correction of a peer
   pub last_to_alike : (p : PeerId) → {seen seen' : List Seen} → Alike m seen seen' → AlikePlaces m (last_to p seen) (last_to (m.names.peer p) seen')
   last_to_alike p (Booted s s' boot x old old') = Nowhere
@@ -285,33 +314,13 @@ module _ {m : Naming} where
   is_acknowledged_alike p (Own s s' x _ ok knows a) = is_acknowledged_alike p a
   is_acknowledged_alike p (Other n shift s s' x d ok a) = is_acknowledged_alike p a
 
-  -- the correction that was taken last
-  pub last_taken_alike : {seen seen' : List Seen} → Alike m seen seen' → last_taken seen' ≡ renamed_correcting m.names (last_taken seen)
-  last_taken_alike (Booted s s' boot x old old') = refl
-  last_taken_alike (Own s s' x (Acts Boot) ok knows a) = refl
-  last_taken_alike (Own s s' x (Acts (Correct amount stepped value)) ok knows {before = b} a) =
-      ap (λ took. correcting_of (said took)) (taken_alike a) ∙ ap correcting_of (said_renamed m.names (taken b))
-      ∙ correcting_renamed m.names (said (taken b))
-  last_taken_alike (Own s s' x _ ok knows a) = last_taken_alike a
-  last_taken_alike (Other n shift s s' x (Acts (Correct amount stepped value)) ok a) = refl
-  last_taken_alike (Other n shift s s' x _ ok a) = last_taken_alike a
-
   -- dates
   pub last_date_alike : (p : PeerId) → {seen seen' : List Seen} → Alike m seen seen' → last_date (m.names.peer p) seen' ≡ later_date m.names (last_date p seen)
   last_date_alike p (Booted s s' boot x old old') = refl
   last_date_alike p (Own s s' x (Acts Boot) ok knows a) = refl
   last_date_alike p (Own s s' x (Acts (Correct amount stepped value)) ok knows {before = b} a) =
-      ap₂ (dating_of (m.names.peer p) (x + m.names.shift)) (ap said (taken_alike a) ∙ said_renamed m.names (taken b)) (last_date_alike p a)
+      ap₂ (dating_of (m.names.peer p) (x + m.names.shift)) (ap (λ (f : Facts). said f.taken) (facts_alike a) ∙ said_renamed m.names (taken b))
+      (last_date_alike p a)
       ∙ dating_renamed m p x (said (taken b)) (last_date p b)
   last_date_alike p (Own s s' x _ ok knows a) = last_date_alike p a
   last_date_alike p (Other n shift s s' x d ok a) = last_date_alike p a
-
-  pub last_asked_alike : {seen seen' : List Seen} → Alike m seen seen' → last_asked seen' ≡ later m.names (last_asked seen)
-  last_asked_alike (Booted s s' boot x old old') = refl
-  last_asked_alike (Own s s' x (Acts Boot) ok knows a) = refl
-  last_asked_alike (Own s s' x (Acts (Post to (Message msg))) ok knows {before = b} a) =
-      ap₂ (λ begins was. if is_set_date_request msg.kind && begins then Some (x + m.names.shift) else was) (acting_alike a)
-      (last_asked_alike a)
-      ∙ asked_if m.names (is_set_date_request msg.kind && acting b) x (last_asked b)
-  last_asked_alike (Own s s' x _ ok knows a) = last_asked_alike a
-  last_asked_alike (Other n shift s s' x d ok a) = last_asked_alike a

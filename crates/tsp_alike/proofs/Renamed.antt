@@ -71,9 +71,6 @@ le_later a x c = by_case (nat_le a x) refl where
 pub le_after : (a long x c : ℕ) → nat_le ((a + c) + long) (x + c) ≡ nat_le (a + long) x
 le_after a long x c = let e : (a + c) + long ≡ (a + long) + c = omega arith in ap (λ n. nat_le n (x + c)) e ∙ le_later (a + long) x c
 
-pub le_until : (x a long c : ℕ) → nat_le (x + c) ((a + c) + long) ≡ nat_le x (a + long)
-le_until x a long c = let e : (a + c) + long ≡ (a + long) + c = omega arith in ap (λ n. nat_le (x + c) n) e ∙ le_later x (a + long) c
-
 pub lt_after : (a long x c : ℕ) → nat_lt ((a + c) + long) (x + c) ≡ nat_lt (a + long) x
 lt_after a long x c = let e : suc ((a + c) + long) ≡ suc (a + long) + c = omega arith in ap (λ n. nat_le n (x + c)) e ∙ le_later (suc (a + long)) x c
 
@@ -100,4 +97,5 @@ module _ (m : Renaming) where
   -- an alarm's deadline is met
   pub met_later : (at : Option ℕ) (x : ℕ) → is_met (later m at) (x + m.shift) ≡ is_met at x
   met_later None x = refl
-  met_later (Some at) x = le_until x at SLACK m.shift
+  met_later (Some at) x =
+      let e : (at + m.shift) + SLACK ≡ (at + SLACK) + m.shift = omega arith in ap (λ n. nat_le (x + m.shift) n) e ∙ le_later x (at + SLACK) m.shift

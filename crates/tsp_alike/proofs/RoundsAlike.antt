@@ -1,17 +1,15 @@
 -- Facts of a node and of a port's rounds at alike pasts: word, ticket and clock are the same; ticks are later.
 use Rattle.std.proofs.lemmas.Int.{ints}
 use Rattle.std.proofs.Common.{if◌then◌else◌, Some, ap, ap₂, arith, sym, true≢false, ◌∙◌, ◌≡◌, ℕ, ◌+◌, ◌-◌, ◌/◌, ◌%◌, ℤ, pos, ◌+ℤ◌, ◌-ℤ◌, true, List, refl, ◌∷◌, [], ◌==◌, int_lt, Bool, false, ◌&&◌, Option, None, is_some}
-use Rattle.tsp_base.specs.RoundFacts.{is_measured_after, word_asked_by, probes_after}
-use Rattle.tsp_base.specs.Words.{Deed, Begins, Acts, Seen, plain, word, word_after, wall, wall_after, boot_tick, corrects, ticket, moved, target, last_correct, eased, rest, rest_at, shown, Step, Did, correct_tick, is_going, is_starting, is_measured, asked, exchange, exchange_after, probes, target_there, armed, Sampled, better, best, best_after, request_at_place, request_open, estimate, estimate_of}
+use Rattle.tsp_base.specs.RoundFacts.{is_measured_after, word_asked_by}
+use Rattle.tsp_base.specs.Words.{Deed, Begins, Acts, Seen, plain, word, word_after, wall, wall_after, boot_tick, corrects, ticket, moved, target, last_correct}
+use Rattle.tsp_base.specs.Words.{eased, rest, rest_at, shown, Step, Did, correct_tick, is_going, is_starting, is_measured, exchange, exchange_after}
+use Rattle.tsp_base.specs.Words.{target_there, armed, Sampled, better, best, best_after, request_at_place, request_open, estimate, estimate_of}
 use Rattle.tsp_rules.specs.Renames.{Renaming, Naming}
-use Rattle.tsp_rules.specs.Values.{Boot, Correct, SLEW, Post, Become, Arm, Ring, Late, Leave, Sample, Abandon, Stamp, Probe, CloseAlarm, PeerId, Peer, Request}
-use Rattle.tsp_alike.proofs.PortAlike.{armed_alike, AlikePlaces, Nowhere, There, either_place}
+use Rattle.tsp_rules.specs.Values.{Boot, Correct, SLEW, Post, Become, Arm, Ring, Late, Leave, Sample, Abandon, Stamp, CloseAlarm, PeerId, Peer, Request}
+use Rattle.tsp_alike.proofs.PortAlike.{armed_alike, Facts, facts_alike, AlikePlaces, Nowhere, There, either_place}
 use Rattle.tsp_alike.specs.AlikeNodes.{renamed_deed, is_later, SameBoot}
 use Rattle.tsp_alike.proofs.{Alike.Alike, Alike.Booted, Alike.Own, Alike.Other, Alike.here, Renamed.later, Renamed.same_time}
-
--- a value that starts with the boot's tick
-same_target : (w : ℤ) (b c x : ℕ) (z : ℤ) → ((w -ℤ pos (b + c)) +ℤ z) +ℤ pos (x + c) ≡ ((w -ℤ pos b) +ℤ z) +ℤ pos x
-same_target w b c x z = omega (arith, ints)
 
 -- a deed of a step
 abbrev pub did : Step → ℕ → Deed → Did
@@ -65,7 +63,7 @@ module _ {c : ℕ} where
 
   -- the wall clock isn't moved: what the boot's tick takes off, the later tick adds
   pub target_alike : {ds ds' : List Did} → AlikeDids c ds ds' → (x : ℕ) → target ds' (x + c) ≡ target ds x
-  target_alike {ds = z} a x = rw (wall_alike a, boot_tick_alike a, moved_alike a) (same_target (wall z) (boot_tick z) c x (moved z))
+  target_alike a x = rw (wall_alike a, boot_tick_alike a, moved_alike a) (omega (arith, ints))
 
   pub last_correct_alike : {ds ds' : List Did} → AlikeDids c ds ds' → last_correct ds' ≡ last_correct ds + c
   last_correct_alike (Began s s' boot x old old') = refl
@@ -125,11 +123,6 @@ sampled counter diff err ticket trip place =
 
 -- what a deed does to a fact, with other names
 module _ (n : Renaming) where
-  probes_deed : (d : Deed) (was : ℕ) → probes_after (renamed_deed n d) was ≡ probes_after d was
-  probes_deed (Acts (Arm CloseAlarm at)) was = refl
-  probes_deed (Acts (Ring Probe)) was = refl
-  probes_deed _ was = refl
-
   word_deed : (d : Deed) → word_asked_by (renamed_deed n d) ≡ word_asked_by d
   word_deed (Acts (Post to (Stamp (Request word counter)))) = refl
   word_deed _ = refl
@@ -161,31 +154,12 @@ module _ {m : Naming} where
   pub is_going_alike : {seen seen' : List Seen} → Alike m seen seen' → is_going seen' ≡ is_going seen
   is_going_alike {seen = z} a = ap (λ d. is_some d.close) (armed_alike a) ∙ some_later m.names (armed z).close
 
-  is_starting_alike : {seen seen' : List Seen} → Alike m seen seen' → is_starting seen' ≡ is_starting seen
-  is_starting_alike (Booted s s' boot x old old') = refl
-  is_starting_alike (Own s s' x Begins ok knows a) = refl
-  is_starting_alike (Own s s' x (Acts (Arm CloseAlarm at)) ok knows a) = refl
-  is_starting_alike (Own s s' x _ ok knows a) = is_starting_alike a
-  is_starting_alike (Other n shift s s' x d ok a) = is_starting_alike a
-
   pub is_measured_alike : (p : PeerId) → {seen seen' : List Seen} → Alike m seen seen' → is_measured (m.names.peer p) seen' ≡ is_measured p seen
   is_measured_alike p (Booted s s' boot x old old') = refl
   is_measured_alike p (Own s s' x d ok knows {before = b} a) =
-      ap₂ (is_measured_after (m.names.peer p) (renamed_deed m.names d)) (is_starting_alike a) (is_measured_alike p a)
+      ap₂ (is_measured_after (m.names.peer p) (renamed_deed m.names d)) (ap (λ (f : Facts). f.is_starting) (facts_alike a)) (is_measured_alike p a)
       ∙ is_measured_deed m p d (is_starting b) (is_measured p b)
   is_measured_alike p (Other n shift s s' x d ok a) = is_measured_alike p a
-
-  pub asked_alike : {seen seen' : List Seen} → Alike m seen seen' → asked seen' ≡ asked seen
-  asked_alike (Booted s s' boot x old old') = refl
-  asked_alike (Own s s' x (Acts Boot) ok knows a) = refl
-  asked_alike (Own s s' x (Acts (Post to (Stamp (Request word counter)))) ok knows a) = ap (λ k. k + 1) (asked_alike a)
-  asked_alike (Own s s' x _ ok knows a) = asked_alike a
-  asked_alike (Other n shift s s' x d ok a) = asked_alike a
-
-  pub probes_alike : {seen seen' : List Seen} → Alike m seen seen' → probes seen' ≡ probes seen
-  probes_alike (Booted s s' boot x old old') = refl
-  probes_alike (Own s s' x d ok knows {before = b} a) = ap (probes_after (renamed_deed m.names d)) (probes_alike a) ∙ probes_deed m.names d (probes b)
-  probes_alike (Other n shift s s' x d ok a) = probes_alike a
 
   -- open exchanges
   pub exchange_alike : (p : PeerId) (c : ℕ) → {seen seen' : List Seen} → Alike m seen seen' → AlikePlaces m (exchange p c seen) (exchange (m.names.peer p) c seen')

@@ -3,16 +3,17 @@ use Rattle.std.proofs.Common.{ap, ap₂, ◌∙◌, sym, ◌≡◌, ℕ, ◌+◌
 use Rattle.std.proofs.{lemmas.List.length-map, lemmas.Bool.and_right}
 use Rattle.tsp_rules.specs.Renames.{Renaming, Naming, renamed_place, renamed_role, later_send, later_sends}
 use Rattle.tsp_rules.specs.SendRows.{answers_election, answers_other, is_quit, may_correct, may_set}
-use Rattle.tsp_rules.specs.{DateRows.all_settled, DateRows.answers_date, DateRows.are_settled, DateRows.is_last, GateRows.is_last_probe}
+use Rattle.tsp_rules.specs.{DateRows.answers_date, DateRows.are_settled, DateRows.is_last, GateRows.is_last_probe}
 use Rattle.tsp_rules.specs.{SlaveRows.is_by, SlaveRows.is_next, ClockRows.can_adjust, CommonRows.is_idle}
 use Rattle.tsp_rules.specs.Values.{Alarm, Probe, CloseAlarm, ResolveAlarm, PeerId, Place, Peer, Stranger, Role, Follow, Window, GAP, REUSE, DATEHOLD, LAST, TRIES, RETRY}
 use Rattle.tsp_rules.specs.Guards.{is_armed, is_due, is_follow, is_heard, is_master, is_met, is_over, is_own, is_starting_role, may_stand_at, is_clock_value, is_in_range, table_at}
 use Rattle.tsp_rules.proofs.RowCodes.{Test, Table, Due, InTime, Armed, MayStand, MayBack, MayJoin, MayCorrect, MayBeAsked, MayPassOn, MayDate, Follows, HasWon, HasMore, HasElection, HasOther, HasDate, HasQuit, IsAwake, IsGoing, IsMaster, IsSlave, IsNewRival, IsFree, IsHeard, IsOwn, IsLeft, IsSendDue, IsSpent, IsRepeated, IsDated, TakesAmount, TakesValue}
 use Rattle.tsp_base.specs.Words.{Past, deadline, armed, backers, held, is_correction, may_stand, role, plain, correct_tick, Correcting, Dating, is_past, last_asked, last_date, last_post, last_taken, open_send, Sending}
 use Rattle.tsp_alike.proofs.{ListsAlike.is_among_alike, ListsAlike.list_same, Alike.AlikePast}
-use Rattle.tsp_alike.proofs.RoundsAlike.{correct_tick_alike, target_alike, ticket_alike, plain_alike, is_going_alike, probes_alike, some_later}
+use Rattle.tsp_alike.proofs.RoundsAlike.{correct_tick_alike, target_alike, ticket_alike, plain_alike, is_going_alike, some_later}
 use Rattle.tsp_alike.proofs.Renamed.{later_date, renamed_correcting, met_later, over_later, le_after, lt_after, lt_until, past_later}
-use Rattle.tsp_alike.proofs.PortAlike.{backers_alike, deadline_alike, in_table_alike, is_rival_alike, may_back_alike, may_stand_alike, role_alike, window_stands, is_acknowledged_alike, last_asked_alike, last_date_alike, last_number_alike, last_post_alike, last_taken_alike, open_send_alike}
+use Rattle.tsp_alike.proofs.PortAlike.{Facts, deadline_alike, facts_alike, in_table_alike, is_rival_alike, may_back_alike, may_stand_alike, role_alike}
+use Rattle.tsp_alike.proofs.PortAlike.{window_stands, is_acknowledged_alike, last_date_alike, last_number_alike, last_post_alike, open_send_alike}
 
 -- tests of renamed values
 module _ (n : Renaming) where
@@ -127,9 +128,6 @@ module _ {m : Naming} {p q : Past} (a : AlikePast m p q) where
   are_settled_alike [] x = refl
   are_settled_alike (r ∷ rs) x = ap₂ ◌&&◌ (ap₂ ◌||◌ (long_posted r x) (is_acknowledged_alike r a.seen)) (are_settled_alike rs x)
 
-  all_settled_alike : (x : ℕ) → all_settled (x + m.names.shift) q ≡ all_settled x p
-  all_settled_alike x = ap (λ rs. are_settled rs (x + m.names.shift) q) (list_same a x Table) ∙ are_settled_alike (table_at x p) x
-
 -- each test that a row makes
 module _ {m : Naming} {p q : Past} (a : AlikePast m p q) (x : ℕ) where
   abbrev y : ℕ
@@ -145,15 +143,17 @@ module _ {m : Naming} {p q : Past} (a : AlikePast m p q) (x : ℕ) where
   test_same (MayCorrect r number) = may_correct_alike a r number x
   test_same MayBeAsked = ap₂ ◌&&◌ (ap is_idle (role_alike a.seen) ∙ idle_renamed m.names (role p.seen)) (may_stand_at_alike a x)
   test_same (MayPassOn r) =
-      let asked = ap (λ o. is_past o REUSE y) (last_asked_alike a.seen) ∙ past_later m.names (last_asked p.seen) REUSE x in
+      let asked = ap (λ o. is_past o REUSE y) (ap (λ (f : Facts). f.last_asked) (facts_alike a.seen)) ∙ past_later m.names (last_asked p.seen) REUSE x in
       ap₂ ◌&&◌ asked (of_send a (λ o. not (is_some o)) (λ s. refl) r)
-  test_same (MayDate time) = ap₂ ◌&&◌ (long_since a x) (ap (λ b. is_clock_value time && b) (all_settled_alike a x))
+  test_same (MayDate time) =
+      let settled = ap (λ rs. are_settled rs y q) (list_same a x Table) ∙ are_settled_alike a (table_at x p) x in
+      ap₂ ◌&&◌ (long_since a x) (ap (λ b. is_clock_value time && b) settled)
   test_same Follows = follows_alike a
   -- only a port that may stand for election asks whether it has won
   test_same (HasWon stands) =
-      let backing = ap length (backers_alike a.seen) ∙ length-map (backers p.seen) m.names.peer in
+      let backing = ap length (ap (λ (f : Facts). f.backers) (facts_alike a.seen)) ∙ length-map (backers p.seen) m.names.peer in
       ap₂ ◌||◌ (ap not (a.strict stands)) (ap₂ (λ count backers. nat_lt count (2 * backers + 2)) a.setup.count backing)
-  test_same HasMore = ap (λ k. nat_lt k 3) (probes_alike a.seen)
+  test_same HasMore = ap (λ k. nat_lt k 3) (ap (λ (f : Facts). f.probes) (facts_alike a.seen))
   test_same (HasElection r number) = of_send a (answers_election number) (λ s. refl) r
   test_same (HasOther r number) = of_send a (answers_other number) (λ s. refl) r
   test_same (HasDate r number) = of_send a (answers_date number) (λ s. refl) r
@@ -169,7 +169,8 @@ module _ {m : Naming} {p q : Past} (a : AlikePast m p q) (x : ℕ) where
   test_same (IsLeft steer kind) = ap (λ b. not steer && (is_correction kind && b)) (follows_alike a)
   test_same (IsSendDue s) = le_after s.began (s.posts * RETRY) x m.names.shift
   test_same (IsSpent s) = ap (λ b. b || nat_le TRIES s.posts) (lt_after s.began LAST x m.names.shift)
-  test_same (IsRepeated r number) = ap (is_by (m.names.peer r) number) (last_taken_alike a.seen) ∙ by_renamed m r number (last_taken p.seen)
+  test_same (IsRepeated r number) = ap (is_by (m.names.peer r) number) (ap (λ (f : Facts). f.last_taken) (facts_alike a.seen)) ∙ by_renamed m r number
+      (last_taken p.seen)
   test_same (IsDated r number) = ap (is_last number y) (last_date_alike r a.seen) ∙ last_later m.names number x (last_date r p.seen)
   test_same (TakesAmount number amount) = ap₂ ◌&&◌ (is_next_alike a number x) (can_adjust_alike a amount x)
   test_same (TakesValue number value) = ap (λ b. b && is_clock_value value) (is_next_alike a number x)

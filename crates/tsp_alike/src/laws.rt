@@ -7,6 +7,7 @@ pub fn answers_are_alike()
 {}
 
 /// Nor do the acts with which it begins a life.
+#[tactic(auto, using(crate::proofs::AlikeLaws::boots_are_alike))]
 pub fn boots_are_alike()
     ensures { BootsAreAlike }
 {}

@@ -91,6 +91,7 @@ impl Gateway {
     }
 
     /// Goes on right after the Boot on a port.
+    #[tactic(auto, using(crate::proofs::AnyLemmas::places, crate::proofs::AnyLemmas::ports_few))]
     fn begin<D: Desk>(&mut self, q: usize, tick: u64, desk: &mut D)
         requires port { q < length (ports_in self.old) }
         requires tick { IsTick tick }

@@ -65,6 +65,7 @@ impl Gateway {
     }
 
     /// Gives up the round of a port, where one is going.
+    #[tactic(auto, using(crate::proofs::AnyLemmas::places, crate::proofs::AnyLemmas::ports_few))]
     fn abandon<D: Desk>(&mut self, r: usize, desk: &mut D)
         requires port { r < length (ports_in self.old) }
         requires room { 1 ≤ D.spare desk.old }

@@ -28,6 +28,7 @@ fn is_awake(role: Role) -> bool
 
 impl Gateway {
     /// Whether a port heeds this sender: it is another one of its peers, and the quiet time is over.
+    #[tactic(auto, using(crate::proofs::AnyLemmas::places))]
     pub(crate) fn hears(&self, q: usize, from: Place) -> bool
         requires { q < length (ports_in self.now) }
         ensures { (x : ℕ) (past : NodePast) → GatewayStands past self.now
@@ -42,6 +43,7 @@ impl Gateway {
 
     /// Passes on another node's LOOP, or stops leading on a port where an own one came back, as `judge` of
     /// `tsp_loop` says.
+    #[tactic(auto, using(crate::proofs::AnyLemmas::places, crate::proofs::AnyLemmas::ports_few))]
     pub(crate) fn judge_loop<D: Desk>(&mut self, q: usize, m: &Message, tick: u64, desk: &mut D)
         requires kind { m.now.kind ≡ Loop }
         requires port { q < length (ports_in self.old) }
@@ -70,6 +72,7 @@ impl Gateway {
     }
 
     /// A port that is master stops leading.
+    #[tactic(auto, using(crate::proofs::AnyLemmas::places, crate::proofs::AnyLemmas::ports_few))]
     fn give_up<D: Desk>(&mut self, q: usize, tick: u64, desk: &mut D)
         requires port { q < length (ports_in self.old) }
         requires room { 2 ≤ D.spare desk.old }
@@ -99,6 +102,7 @@ impl Gateway {
     }
 
     /// Posts a LOOP to each other peer of a port, where its quiet time is over.
+    #[tactic(auto, using(crate::proofs::AnyLemmas::places, crate::proofs::AnyLemmas::ports_few))]
     fn forward_on<D: Desk>(&self, r: usize, m: &Message, desk: &mut D)
         requires kind { m.now.kind ≡ Loop }
         requires port { r < length (ports_in self.now) }

@@ -35,6 +35,7 @@ pub(crate) fn repost<D: Desk>(station: &Station, message: &Message, port: Port, 
 
 impl Gateway {
     /// Posts a LOOP to each other peer of a port, with the port's number, the node's name and `HOPS` hops.
+    #[tactic(auto, using(crate::proofs::AnyLemmas::places, crate::proofs::AnyLemmas::ports_few))]
     pub(crate) fn send_loops<D: Desk>(&self, q: usize, desk: &mut D)
         requires port { q < length (ports_in self.now) }
         requires room { peers_at q (ports_in self.now) ≤ D.spare desk.old }

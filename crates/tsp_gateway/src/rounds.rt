@@ -71,6 +71,7 @@ impl Gateway {
 
     /// Handles a port's Close where it is due: it moves the clock where the port leads it, and then the
     /// rounds of the other ports are given up. The caller handles a due Probe before.
+    #[tactic(auto, using(crate::proofs::AnyLemmas::places, crate::proofs::AnyLemmas::ports_few))]
     pub(crate) fn close<D: Desk>(&mut self, q: usize, tick: u64, desk: &mut D)
         requires port { q < length (ports_in self.old) }
         requires room { 2 * peers_at q (ports_in self.old) + 16 ≤ D.spare desk.old }

@@ -61,6 +61,7 @@ impl Gateway {
 
     /// Takes a message that isn't a LOOP. Where that corrects the clock, the rounds of the other ports are
     /// given up; where it was a date, the port's own too.
+    #[tactic(auto, using(crate::proofs::AnyLemmas::places, crate::proofs::AnyLemmas::ports_few))]
     fn take_message<D: Desk>(
         &mut self,
         tick: u64,
@@ -95,6 +96,7 @@ impl Gateway {
     }
 
     /// Puts the Took of octets, and does nothing else with them.
+    #[tactic(auto, using(crate::proofs::AnyLemmas::ports_few))]
     fn note<D: Desk>(&mut self, tick: u64, q: usize, from: Place, taken: &Taken, desk: &mut D)
         requires port { q < length (ports_in self.old) }
         requires room { 1 ≤ D.spare desk.old }
@@ -110,6 +112,7 @@ impl Gateway {
 
     /// Takes octets that aren't a message: a stamp, or no datagram. They don't correct the clock.
     #[inline(always)]
+    #[tactic(auto, using(crate::proofs::AnyLemmas::places, crate::proofs::AnyLemmas::ports_few))]
     fn take_other<D: Desk>(&mut self, tick: u64, q: usize, from: Place, taken: &Taken, desk: &mut D)
         requires other { HoldsNoMessage taken.now }
         requires port { q < length (ports_in self.old) }

@@ -118,6 +118,7 @@ impl Gateway {
     }
 
     /// Repeats the due sends of a port.
+    #[tactic(auto, using(crate::proofs::AnyLemmas::places, crate::proofs::AnyLemmas::ports_few))]
     fn send<D: Desk>(&mut self, q: usize, tick: u64, desk: &mut D)
         requires port { q < length (ports_in self.old) }
         requires room { 2 * peers_at q (ports_in self.old) + 16 ≤ D.spare desk.old }
@@ -134,6 +135,7 @@ impl Gateway {
 
     /// Handles one alarm of a port where it is due, but no Close: it leaves the other ports alone. `wait` says
     /// whether a Round that is in time is put off.
+    #[tactic(auto, using(crate::proofs::AnyLemmas::places, crate::proofs::AnyLemmas::ports_few))]
     pub(crate) fn ring<D: Desk>(
         &mut self,
         q: usize,

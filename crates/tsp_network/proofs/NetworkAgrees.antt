@@ -1,6 +1,7 @@
 -- A daemon's session and its node in the run are alike, and stay so from turn to turn: what the daemons of a network did is the run of its
 -- events.
-use Rattle.std.proofs.Common.{sym, ap, arith, append_assoc, length-append, ◌∙◌, ◌≡◌, ℕ, suc, ◌+◌, ℤ, List, [], ◌∷◌, ◌++◌, length, refl, subst, eq-eqb, ◌-◌, ◌<◌, ◌≤◌, ◌==◌, Bool, true, false, slice_index_or, eqb-true, if◌then◌else◌, map, Option, None, Some}
+use Rattle.std.proofs.Common.{sym, ap, ap₂, arith, append_assoc, length-append, ◌∙◌, ◌≡◌, ℕ, suc, ◌+◌, ℤ, List, [], ◌∷◌, ◌++◌, length, refl, subst, eq-eqb, ◌-◌}
+use Rattle.std.proofs.Common.{◌<◌, ◌≤◌, ◌==◌, Bool, true, false, slice_index_or, eqb-true, if◌then◌else◌, map, Option, None, Some}
 use Rattle.std.proofs.lemmas.Bool.{eqb-false, ne_eqb}
 use Rattle.tsp_args.specs.declared.serve.ServeWords.{ServeWords}
 use Rattle.tsp_io.specs.Links.{Arrival}
@@ -10,7 +11,7 @@ use Rattle.tsp_network.specs.Networks.{named_acts, daemon_tick, Network, acted, 
 use Rattle.tsp_network.proofs.SetUpLemmas.{daemon_ports, tells_apart, AllMatch, NoneMatch, acts_match, match_append, configs_alike}
 use Rattle.tsp_network.specs.Lives.{Life, session_after, session_of, turn_told, turn_acts, Daemons, AreStarted, first_acts}
 use Rattle.tsp_network.specs.Rosters.{renaming_on}
-use Rattle.tsp_rules.specs.NodeRows.{NodePast, PortSetup, in_node_step, no_port, port_setup, spread}
+use Rattle.tsp_rules.specs.NodeRows.{NodePast, PortSetup, in_node_step, no_port}
 use Rattle.tsp_rules.specs.GateRows.{NodeGiven, NodeTurn, GotOn, answers_all, boots_all}
 use Rattle.tsp_rules.specs.{Renames.Renaming, Values.Placed, Values.Peer, Values.Stranger, Values.Port, Values.Boot}
 use Rattle.tsp_base.specs.Words.{IsHeader, Begins, Line, Step, dids, first_port, joined, line_of, of, stepped, tick_at, up, Booted, Acts}
@@ -18,8 +19,9 @@ use Rattle.tsp_promises.proofs.Clocks.{tick-mono}
 use Rattle.tsp_run.proofs.RunLemmas.{stepped_own, stepped_other, up_joined, posts_stepped}
 use Rattle.tsp_run.specs.{Run.step_tick, Run.boot_step, Run.joins, Run.posts, Run.posts_from, Setup.node_line, Setup.past_of, Setup.rests}
 use Rattle.tsp_run.{proofs.Happens.acts_by, proofs.Happens.stepping, proofs.SettingLemmas.each-is-set, specs.Networks.networks}
-use Rattle.tsp_alike.specs.AlikeNodes.{AlikeLines, AlikeNodes, AlikeSetup, AllKnown, Both, ComesOn, TellsApart, naming_of, namings, renamed_given, SameBoot, renamed_placed}
-use Rattle.tsp_alike.proofs.AlikeLaws.{answers-are-alike, boots-are-alike}
+use Rattle.tsp_alike.specs.AlikeNodes.{AlikeLines, AlikeNodes, AllKnown, Both, ComesOn, TellsApart, naming_of, namings, renamed_given, SameBoot, renamed_placed}
+use Rattle.tsp_alike.proofs.AlikeLaws.{answers_are_alike, boots_are_alike}
+use Rattle.tsp_alike.proofs.NodesAlike.{configs_of, with_lines}
 
 -- a session of which this is told, and no more
 abbrev pub told_so : List Arrival → List ℕ → Session → Session
@@ -34,10 +36,6 @@ pub data Reached : Life → Type 0 where
   Began : (origin sent : ℕ) (wall : ℤ) (word first : ℕ) → Reached (record { origin = origin; sent_before = sent; wall = wall; word = word; arrivals = []; readings = first ∷ [] })
   Went : {life : Life} → Reached life → (arrival : Arrival) (early tick : ℕ) → Reached (turn_told arrival early tick life)
 
--- one turn: what is told after it is left
-turn-left : (s : Session) (a : Arrival) (e t : ℕ) (came : List Arrival) (ts : List ℕ) → turned (told_so (a ∷ came) (e ∷ t ∷ ts) s) ≡ told_so came ts (turned (told_so (a ∷ []) (e ∷ t ∷ []) s))
-turn-left s a e t came ts = refl
-
 -- after as many turns as were told, what is told besides is left
 pub left_over : (s : ServeWords) {life : Life} → Reached life → (came : List Arrival) (ts : List ℕ) → session_after (length life.arrivals) s (with_more came ts life) ≡ told_so came ts (session_of s life)
 left_over s (Began origin sent wall word first) came ts = refl
@@ -47,7 +45,6 @@ left_over s (Went {life} r arrival early tick) came ts =
     ∙ ap (λ l. turned (session_after (length life.arrivals) s (record life { arrivals = l; readings = (life.readings ++ early ∷ tick ∷ []) ++ ts }))) (append_assoc life.arrivals (arrival ∷ []) came)
     ∙ ap (λ l. turned (session_after (length life.arrivals) s (record life { arrivals = life.arrivals ++ arrival ∷ came; readings = l }))) (append_assoc life.readings (early ∷ tick ∷ []) ts)
     ∙ ap turned (left_over s r (arrival ∷ came) (early ∷ tick ∷ ts))
-    ∙ turn-left (session_of s life) arrival early tick came ts
     ∙ ap (told_so came ts) (sym (ap turned (left_over s r (arrival ∷ []) (early ∷ tick ∷ []))))
     ∙ ap (λ n. told_so came ts (session_after n s (turn_told arrival early tick life))) (sym count)
 
@@ -61,29 +58,19 @@ session_told s {life} r a e t =
 pub acts_told : (s : ServeWords) {life : Life} → Reached life → (a : Arrival) (e t : ℕ) → turn_acts s life (turn_told a e t life) ≡ acts_in_turn (told_so (a ∷ []) (e ∷ t ∷ []) (session_of s life))
 acts_told s {life} r a e t = ap acts_in_turn (left_over s r (a ∷ []) (e ∷ t ∷ []))
 
--- a step begins on both
-pub begins_alike : (rs : Port → Renaming) (apart : (q : Port) → TellsApart (rs q)) (shift : ℕ) (s s' : Step) (x : ℕ) (p p' : NodePast) → AlikeNodes rs apart shift p p' → AlikeNodes rs apart shift (in_node_step s x p) (in_node_step s' (x + shift) p')
-begins_alike rs apart shift s s' x p p' a = record {
-  name = a.name;
-  may = a.may;
-  strict = a.strict;
-  shifts = a.shifts;
-  ports = a.ports;
-  setups = a.setups;
-  lines = Both s s' x first_port Begins refl tt a.lines;
-}
+-- of a past only its lines and its setup matter
+later_lines : {rs : Port → Renaming} {shift : ℕ} {p p' : NodePast} (apart : (q : Port) → TellsApart (rs q)) → AlikeNodes rs apart shift p p' → (s : Step)
+    (h : List Line) → h ≡ p'.lines →
+    AlikeNodes rs apart shift p (record p' { step = s; lines = h })
+later_lines {rs} {shift} {p} apart a s h same = with_lines apart (configs_of a) p.step s
+    (subst (λ z. AlikeLines (namings rs apart p) shift p.lines z) (sym same) a.lines)
 
--- only the lines and the setup of a past matter
-pub alike_lines : (rs : Port → Renaming) (apart : (q : Port) → TellsApart (rs q)) (shift : ℕ) (p p' p'' : NodePast) → AlikeNodes rs apart shift p p' → p''.name ≡ p'.name → p''.may ≡ p'.may → p''.strict ≡ p'.strict → p''.ports ≡ p'.ports → p''.lines ≡ p'.lines → AlikeNodes rs apart shift p p''
-alike_lines rs apart shift p p' p'' a name may strict ports lines = record {
-  name = name ∙ a.name;
-  may = may ∙ a.may;
-  strict = λ e. strict ∙ a.strict e;
-  shifts = a.shifts;
-  ports = ap (λ (l : List PortSetup). length l) ports ∙ a.ports;
-  setups = λ q has. subst (λ (l : List PortSetup). AlikeSetup (rs q) (port_setup q p) (slice_index_or l q.0 no_port)) (sym ports) (a.setups q has);
-  lines = subst (λ l. AlikeLines (namings rs apart p) shift p.lines l) (sym lines) a.lines;
-}
+-- the lines of a node after its own step
+own_lines : (step : Step) (x z : ℕ) (acts ours : List Placed) (h : List Line) → z ≡ x → acts ≡ ours →
+    of step.node (stepped step x acts h) ≡ joined step z ours (line_of step z first_port Begins ∷ of step.node h)
+own_lines step x z acts ours h tick same =
+    stepped_own step.node step x acts h (eq-eqb step.node step.node refl)
+    ∙ ap₂ (λ y l. joined step y l (line_of step y first_port Begins ∷ of step.node h)) (sym tick) same
 
 -- what comes on a port comes on it in a step too
 comes-step : (s : Step) (x : ℕ) (past : NodePast) (g : NodeGiven) → ComesOn past g → ComesOn (in_node_step s x past) g
@@ -120,66 +107,12 @@ module _ (d : Daemons) (is : IsHeader d.header) where
     began = (let one = a.began in let two = ticks_rise n t at later in omega (arith, one, two));
     ports = a.ports;
     up_is = ap (λ l. up (dids l)) same ∙ a.up_is;
-    alike = alike_lines _ _ life.origin _ (past_of d.header (rests n) h) (past_of d.header (rests n) h') a.alike refl refl refl refl same;
+    alike = later_lines (tells_apart d is n a.low life.origin) a.alike (rests n) (of n h') same;
   }
 
   -- what a daemon is given in a turn in which this comes
   abbrev pub given : ℕ → Life → Arrival → NodeGiven
   given n life a = given_of (session_of (d.words n) life).past.ports a
-
-  -- a turn of a daemon is a step of its node: with the same acts, after which both agree
-  pub record TurnAgrees (step : Step) (life now : Life) (g : NodeGiven) (h : List Line) : Type 0 where
-    pub low : step.node < length d.header.nodes
-    pub same : named_acts nets step.node life.origin (turn_acts (d.words step.node) life now) ≡ answers_all (renamed_given (renaming_on nets step.node life.origin) g) (step_tick d.header step) (in_node_step step (step_tick d.header step) (past_of d.header step h))
-    pub may : Bool
-    pub known : AllKnown (λ q. naming_of (renaming_on nets step.node life.origin q) (tells_apart d is step.node low life.origin q) (slice_index_or (daemon_ports d step.node) q.0 no_port) may) (turn_acts (d.words step.node) life now)
-    pub after : Agrees step.node now step.at (stepped step (step_tick d.header step) (named_acts nets step.node life.origin (turn_acts (d.words step.node) life now)) h)
-
-  pub turn_agrees : (step : Step) (life : Life) (t : ℕ) (h : List Line) (a : Arrival) (early : ℕ) → Agrees step.node life t h → t ≤ step.at → ComesOn (session_of (d.words step.node) life).past (given step.node life a) →
-      TurnAgrees step life (turn_told a early (step_tick d.header step - life.origin) life) (given step.node life a) h
-  turn_agrees step life t h a early k later comes =
-      let n : ℕ = step.node in
-      let x : ℕ = step_tick d.header step in
-      let y : ℕ = x - life.origin in
-      let s = d.words n in
-      let past : NodePast = (session_of s life).past in
-      let g : NodeGiven = given n life a in
-      let now : Life = turn_told a early y life in
-      let before = k.began in
-      let rise = ticks_rise n t step.at later in
-      let tick : y + life.origin ≡ x = omega (arith, before, rise) in
-      let rs : Port → Renaming = renaming_on nets n life.origin in
-      let apart : (q : Port) → TellsApart (rs q) = tells_apart d is n k.low life.origin in
-      let p : NodePast = turn_begun g y past in
-      let acts : List Placed = answers_all g y p in
-      let acts_are : turn_acts s life now ≡ acts = acts_told s k.reached a early y in
-      let here : NodePast = past_of d.header step h in
-      let p' : NodePast = in_node_step step (y + life.origin) here in
-      let alike : AlikeNodes rs apart life.origin past here = alike_lines rs apart life.origin past (past_of d.header (rests n) h) here k.alike refl refl refl refl refl in
-      let first : Step = record { at = y; node = 0; cause = turn_cause g } in
-      let both = answers-are-alike rs apart life.origin g y p p' (begins_alike rs apart life.origin first step y past here alike) (comes-step first y past g comes) in
-      let ours : List Placed = answers_all (renamed_given rs g) (y + life.origin) p' in
-      let named : named_acts nets n life.origin (turn_acts s life now) ≡ ours = ap (named_acts nets n life.origin) acts_are ∙ sym both.same in
-      let later_session : session_of s now ≡ turned (told_so (a ∷ []) (early ∷ y ∷ []) (session_of s life)) = session_told s k.reached a early y in
-      let theirs : List Placed = named_acts nets n life.origin (turn_acts s life now) in
-      let own : (n == n) ≡ true = eq-eqb n n refl in
-      let lines : of n (stepped step x theirs h) ≡ joined step (y + life.origin) ours (line_of step (y + life.origin) first_port Begins ∷ of n h) =
-      stepped_own n step x theirs h own ∙ ap (λ z. joined step z theirs (line_of step z first_port Begins ∷ of n h)) (sym tick) ∙ ap (λ l. joined step (y + life.origin) l (line_of step (y + life.origin) first_port Begins ∷ of n h)) named in
-      record {
-        low = k.low;
-        same = named ∙ ap (λ z. answers_all (renamed_given rs g) z (in_node_step step z here)) tick;
-        may = past.may;
-        known = subst (λ (l : List PortSetup). AllKnown (λ q. naming_of (rs q) (apart q) (slice_index_or l q.0 no_port) past.may) (turn_acts s life now)) k.ports (subst (λ l. AllKnown (namings rs apart p) l) (sym acts_are) both.known);
-        after = record {
-          low = k.low;
-          reached = Went k.reached a early y;
-          began = omega (arith, before, rise);
-          ports = ap (λ (z : Session). z.past.ports) later_session ∙ k.ports;
-          up_is = ap (λ l. up (dids l)) (stepped_own n step x theirs h own) ∙ up_joined step x theirs (line_of step x first_port Begins ∷ of n h) k.up_is;
-          alike = subst (λ (z : Session). AlikeNodes rs apart life.origin z.past (past_of d.header (rests n) (stepped step x theirs h))) (sym later_session)
-              (alike_lines rs apart life.origin (spread y p acts) (spread (y + life.origin) p' ours) (past_of d.header (rests n) (stepped step x theirs h)) both.after refl refl refl refl lines);
-        };
-      }
 
   -- a daemon that runs agrees with its node
   abbrev pub OneAgrees : ℕ → Option Life → ℕ → List Line → Type 0
@@ -223,20 +156,54 @@ module _ (d : Daemons) (is : IsHeader d.header) where
             let more : List Line = stepped step (step_tick d.header step) (named_acts nets step.node now.origin acts) h in
             later-one m (w.lives m) t step.at h more (stepped_other m step (step_tick d.header step) (named_acts nets step.node now.origin acts) h off) later (a.nodes m)
 
-  -- a daemon takes a turn, and its node what comes to it
+  -- a daemon takes a turn, and its node what comes to it: both act the same, and agree after it
   pub turn_agrees_all : (w : Network) (t : ℕ) (h : List Line) (k : ℕ) (step : Step) (a : Arrival) (life : Life) (g : NodeGiven) → AllAgree w t h → t ≤ step.at → w.lives step.node ≡ Some life →
       renamed_given (renaming_on nets step.node life.origin) (given step.node life a) ≡ g → ComesOn (session_of (d.words step.node) life).past (given step.node life a) →
       AllAgree (turns d k step a (w.lives step.node) w) step.at (joins (Some (stepping d.header h (answers_all g) step)) h)
   turn_agrees_all w t h k step a life g all later lives same comes =
+      let n : ℕ = step.node in
+      let own : Agrees n life t h = subst (λ o. OneAgrees n o t h) lives (all.nodes n) in
       let x : ℕ = step_tick d.header step in
-      let own : Agrees step.node life t h = subst (λ o. OneAgrees step.node o t h) lives (all.nodes step.node) in
-      let r = turn_agrees step life t h a (d.early k) own later comes in
-      let now : Life = turn_told a (d.early k) (x - life.origin) life in
-      let acts : List Placed = turn_acts (d.words step.node) life now in
-      let theirs : named_acts nets step.node life.origin acts ≡ acts_by d.header h (answers_all g) step = r.same ∙ ap (λ z. answers_all z x (in_node_step step x (past_of d.header step h))) same in
-      let sends = acts_match d is step.node r.low life.origin r.may step.at acts r.known in
+      let y : ℕ = x - life.origin in
+      let before = own.began in
+      let rise = ticks_rise n t step.at later in
+      let tick : y + life.origin ≡ x = omega (arith, before, rise) in
+      let s = d.words n in
+      let past : NodePast = (session_of s life).past in
+      let given_is : NodeGiven = given n life a in
+      let early : ℕ = d.early k in
+      let now : Life = turn_told a early y life in
+      let rs : Port → Renaming = renaming_on nets n life.origin in
+      let apart : (q : Port) → TellsApart (rs q) = tells_apart d is n own.low life.origin in
+      let p : NodePast = turn_begun given_is y past in
+      let acts : List Placed = turn_acts s life now in
+      let acts_are : acts ≡ answers_all given_is y p = acts_told s own.reached a early y in
+      let here : NodePast = past_of d.header step h in
+      let p' : NodePast = in_node_step step (y + life.origin) here in
+      let first : Step = record { at = y; node = 0; cause = turn_cause given_is } in
+      let begun : AlikeNodes rs apart life.origin p p' = with_lines apart (configs_of own.alike) first step
+      (Both first step y first_port Begins refl tt own.alike.lines) in
+      let both = answers_are_alike rs apart life.origin given_is y p p' begun (comes-step first y past given_is comes) in
+      let ours : List Placed = answers_all (renamed_given rs given_is) (y + life.origin) p' in
+      let theirs : List Placed = named_acts nets n life.origin acts in
+      let named : theirs ≡ ours = ap (named_acts nets n life.origin) acts_are ∙ sym both.same in
+      let later_session = session_told s own.reached a early y in
+      let known = subst (λ (l : List PortSetup). AllKnown (λ q. naming_of (rs q) (apart q) (slice_index_or l q.0 no_port) past.may) acts) own.ports
+      (subst (λ l. AllKnown (namings rs apart p) l) (sym acts_are) both.known) in
+      let after : Agrees n now step.at (stepped step x theirs h) = record {
+        low = own.low;
+        reached = Went own.reached a early y;
+        began = omega (arith, before, rise);
+        ports = ap (λ (z : Session). z.past.ports) later_session ∙ own.ports;
+        up_is = ap (λ l. up (dids l)) (own_lines step x x theirs theirs h refl refl) ∙ up_joined step x theirs
+            (line_of step x first_port Begins ∷ of n h) own.up_is;
+        alike = subst (λ (z : Session). AlikeNodes rs apart life.origin z.past (past_of d.header (rests n) (stepped step x theirs h))) (sym later_session)
+            (later_lines apart both.after (rests n) (of n (stepped step x theirs h)) (own_lines step x (y + life.origin) theirs ours h tick named));
+      } in
+      let acts_same : theirs ≡ acts_by d.header h (answers_all g) step = named ∙ ap₂ (λ z c. answers_all c z (in_node_step step z here)) tick same in
+      let sends = acts_match d is n own.low life.origin past.may step.at acts known in
       subst (λ o. AllAgree (turns d k step a o w) step.at (joins (Some (stepping d.header h (answers_all g) step)) h)) (sym lives)
-      (subst (λ l. AllAgree (turned_to d step life now w) step.at (stepped step x l h)) theirs (acted_agrees w t h step now acts all later r.after sends))
+      (subst (λ l. AllAgree (turned_to d step life now w) step.at (stepped step x l h)) acts_same (acted_agrees w t h step now acts all later after sends))
 
   -- a daemon starts, and its node boots
   pub boot_agrees : AreStarted d → (w : Network) (t : ℕ) (h : List Line) (k at n word : ℕ) → AllAgree w t h → t ≤ at → n < length d.header.nodes → d.origin k ≤ daemon_tick d n at →
@@ -261,23 +228,20 @@ module _ (d : Daemons) (is : IsHeader d.header) where
       let same : SameBoot first step = record { word = word; wall = wall; first = refl; second = refl } in
       let rs : Port → Renaming = renaming_on nets n origin in
       let apart : (q : Port) → TellsApart (rs q) = tells_apart d is n low origin in
-      let b = boots-are-alike rs apart origin y first step base here configs same in
+      let b = boots_are_alike rs apart origin y first step base here configs same in
       let ours : List Placed = boots_all (y + origin) p' in
       let theirs : List Placed = named_acts nets n origin acts in
       let named : theirs ≡ ours = sym b.same in
-      let own : (n == n) ≡ true = eq-eqb n n refl in
       let boot : Placed = record { port = first_port; act = Boot } in
       let whole : theirs ≡ boot ∷ map (renamed_placed rs) b.rest = ap (map (renamed_placed rs)) b.is in
-      let lines : of n (stepped step x theirs h) ≡ joined step (y + origin) ours (line_of step (y + origin) first_port Begins ∷ of n h) =
-      stepped_own n step x theirs h own ∙ ap (λ z. joined step z theirs (line_of step z first_port Begins ∷ of n h)) (sym tick) ∙ ap (λ l. joined step (y + origin) l (line_of step (y + origin) first_port Begins ∷ of n h)) named in
       let after : Agrees n now at (stepped step x theirs h) = record {
         low = low;
         reached = Began origin (length w.sent) wall word y;
         began = began;
         ports = ports;
-        up_is = ap (λ l. up (dids l)) (stepped_own n step x theirs h own) ∙ ap (λ l. up (dids (joined step x l (line_of step x first_port Begins ∷ of n h)))) whole
+        up_is = ap (λ l. up (dids l)) (own_lines step x x theirs (boot ∷ map (renamed_placed rs) b.rest) h refl whole)
             ∙ up_joined step x (map (renamed_placed rs) b.rest) (line_of step x first_port (Acts Boot) ∷ line_of step x first_port Begins ∷ of n h) refl;
-        alike = alike_lines rs apart origin (spread y p acts) (spread (y + origin) p' ours) (past_of d.header (rests n) (stepped step x theirs h)) b.after refl refl refl refl lines;
+        alike = later_lines apart b.after (rests n) (of n (stepped step x theirs h)) (own_lines step x (y + origin) theirs ours h tick named);
       } in
       let known = subst (λ (l : List PortSetup). AllKnown (λ q. naming_of (rs q) (apart q) (slice_index_or l q.0 no_port) base.may) b.rest) ports b.known in
       let sends : AllMatch d (map (sent_by n) (sends_of acts)) (posts_from at n theirs) =

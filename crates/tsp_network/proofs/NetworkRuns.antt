@@ -1,5 +1,5 @@
 -- Event after event a network of daemons does what the run of its events does, and what can happen in it isn't impossible in the run.
-use Rattle.std.proofs.Common.{sym, ap, subst, inl, inr, ◌∙◌, ◌≡◌, ℕ, ◌<◌, ◌≤◌, ◌==◌, not, true, List, length, Option, None, Some, All, refl, arith, length-append, ◌-◌, ◌^◌, nat_le, Bool, false, if◌then◌else◌, [], ◌∷◌, ◌++◌, slice_get}
+use Rattle.std.proofs.Common.{sym, ap, subst, inl, inr, ◌∙◌, ◌≡◌, ℕ, ◌<◌, ◌≤◌, ◌==◌, not, true, List, length, Option, None, Some, All, refl, arith, length-append, ◌-◌, ◌^◌, nat_le, false, if◌then◌else◌, [], ◌∷◌, ◌++◌, slice_get}
 use Rattle.std.proofs.lemmas.List.Elements.{All-get_or, All-filter, All-nil, All-cons}
 use Rattle.std.proofs.lemmas.Bool.{le-ltb, lt-ltb}
 use Rattle.tsp_rules.specs.Values.{BootAt, Turn, Take, Bytes, Peer, Stranger, Place, Port, Event, Message, Stamp, Datagram, Request, Reply}
@@ -19,7 +19,7 @@ use Rattle.tsp_network.specs.Events.{MayCome, AllHappen, CanHappen, IsRunning, R
 use Rattle.tsp_network.specs.Rosters.{neighbours_on, place_in, destination, sender_for}
 use Rattle.tsp_network.proofs.SetUpLemmas.{comes_as, MatchedAt, match_at, match_length}
 use Rattle.tsp_network.specs.Lives.{Daemons, AreStarted, Life, session_of, turn_told}
-use Rattle.tsp_codec.{proofs.Written.length-canon, specs.Canon.canon, specs.Canon.room_for, specs.Taken.taken_of}
+use Rattle.tsp_codec.{proofs.Written.length_canon, specs.Canon.canon, specs.Canon.room_for, specs.Taken.taken_of}
 use Rattle.tsp_promises.specs.Sound.{IsSound}
 use Rattle.tsp_io.specs.Links.{Arrival}
 
@@ -55,14 +55,11 @@ sender_known d is n low q has (Peer m) (inr member) =
 
 -- a written datagram has at most 268 octets
 canon-small : (x : Datagram) → IsSound x → length (canon x) ≤ 512
-canon-small (Message m) s = let size = length-canon (Message m) (sound_writable (Message m) s) in let room = small-room (length m.name) in omega (arith, size, room) where
+canon-small (Message m) s = let size = length_canon (Message m) (sound_writable (Message m) s) in let room = small-room (length m.name) in omega (arith, size, room) where
   small-room : (n : ℕ) → room_for n ≤ 256
-  small-room n = by_case (nat_le n 63) where
-    by_case : (b : Bool) → (if b then 64 else 256) ≤ 256
-    by_case true = omega arith
-    by_case false = omega arith
-canon-small (Stamp (Request word counter)) s = let size = length-canon (Stamp (Request word counter)) s in omega (arith, size)
-canon-small (Stamp (Reply r)) s = let size = length-canon (Stamp (Reply r)) s in omega (arith, size)
+  small-room n = elim (nat_le n 63) as (λ b. (if b then 64 else 256) ≤ 256) [ true ↦ omega arith | false ↦ omega arith ]
+canon-small (Stamp (Request word counter)) s = let size = length_canon (Stamp (Request word counter)) s in omega (arith, size)
+canon-small (Stamp (Reply r)) s = let size = length_canon (Stamp (Reply r)) s in omega (arith, size)
 
 -- a daemon that runs
 pub record Running (o : Option Life) : Type 0 where

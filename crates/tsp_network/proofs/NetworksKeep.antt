@@ -11,7 +11,7 @@ use Rattle.tsp_base.specs.declared.event.EventFault.TheVariants.{NoDatagram}
 use Rattle.tsp_run.proofs.RefusalLemmas.{CanHappen as CanBe, can_happen, first_of-none, up-down}
 use Rattle.tsp_run.specs.Refusals.{down, impossible, node_in, no_datagram, scene, time_back}
 use Rattle.tsp_run.specs.{Run.boot_step, Run.goes_to, Run.last_at, Run.posts, Run.run, Run.step_tick, declared.address.Address.Address}
-use Rattle.tsp_run.proofs.{PossibleRun.possible_before, RunPremises.possible-runs-keep-premises, RunPromises.possible-runs-keep-promises}
+use Rattle.tsp_run.proofs.{PossibleRun.possible_before, RunPremises.possible_runs_keep_premises, RunPromises.possible-runs-keep-promises}
 use Rattle.tsp_run.specs.{Networks.networks, Networks.network_from, Possible.Possible, Promises.Promises, declared.posted.Posted.Posted}
 use Rattle.tsp_run.{proofs.NetworkLemmas.some_same, proofs.RunLemmas.stepped_other, specs.Ranges.IsInRange}
 use Rattle.tsp_network.proofs.NetworkRuns.{Nothing, Outcome, RunAgrees, Starts, Turns, outcome, event_agrees, run_agrees, longer}
@@ -153,8 +153,8 @@ all-suit : (d : Daemons) (events : List Event) → AllHappen d events → AllSui
 all-suit d [] all = tt
 all-suit d (e ∷ before) all = (suits-so d (length before) (network d before) e all.1, all-suit d before all.2)
 
-pub runs-are-networks : RunsAreNetworks
-runs-are-networks = record {
+pub runs_are_networks : RunsAreNetworks
+runs_are_networks = record {
   all = run_is_network;
   only = λ d events n. (all-suit d events n.happen, (let few = n.few in run_agrees d n.header_is n.started events n.happen (omega (arith, few))).possible);
 }
@@ -303,8 +303,8 @@ numbers_are_addresses d n q k m started on member off =
     ∙ flat-at d.address n 0 0 nets q.0 k i (ap (λ z. network_from n z 0 0 nets) (let e : 0 + q.0 ≡ q.0 = omega arith in e) ∙ on) p.few
     ∙ ap (λ z. Some (d.address k z)) p.is
 
-pub networks-keep-promises : NetworksKeepPromises
-networks-keep-promises d setting events n set =
+pub networks_keep_promises : NetworksKeepPromises
+networks_keep_promises d setting events n set =
     let few = n.few in
     let r = run_agrees d n.header_is n.started events n.happen (omega (arith, few)) in
     let kept : Promises setting (run d.header events) = possible-runs-keep-promises d.header setting events set r.possible in
@@ -316,5 +316,5 @@ networks-keep-promises d setting events n set =
           subst (λ q. IsSent d s q) (some_same (sym m.there ∙ post)) m.matches.sent;
       tried = λ m life there. (all-tried d events m life there).tried;
       promises = subst (λ h. Promises setting h) (sym r.agree.history) kept;
-      premises = possible-runs-keep-premises d.header events r.possible;
+      premises = possible_runs_keep_premises d.header events r.possible;
     }

@@ -122,15 +122,13 @@ below-all : (count n : ℕ) → n ≤ count → All (λ m. m < count) (numbers_b
 below-all count zero few = All-nil (λ m. m < count)
 below-all count (suc n) few = All-append (λ m. m < count) (numbers_below n) (n ∷ []) (below-all count n (omega (arith, few))) (All-cons (λ m. m < count) n [] (omega (arith, few)) (All-nil (λ m. m < count)))
 
-good-net : (count : ℕ) (net : List ℕ) → IsNet count net → GoodNet count net
-good-net count net is = record { rising = is.ascending; low = is.known }
-
 -- the networks of a header are
 pub header_nets : (header : HeaderValue) → IsHeader header → All (GoodNet (length header.nodes)) (networks header)
 header_nets header is = by_nets header.nets is.nets_are where
   by_nets : (nets : List (List ℕ)) → All (IsNet (length header.nodes)) nets → All (GoodNet (length header.nodes)) (networks_among (length header.nodes) nets)
   by_nets [] all = All-cons (GoodNet (length header.nodes)) (numbers_below (length header.nodes)) [] (record { rising = ascending-below (length header.nodes); low = below-all (length header.nodes) (length header.nodes) (omega arith) }) (All-nil (GoodNet (length header.nodes)))
-  by_nets (net ∷ rest) all = All-weaker (IsNet (length header.nodes)) (GoodNet (length header.nodes)) (good-net (length header.nodes)) (net ∷ rest) all
+  by_nets (net ∷ rest) all = All-weaker (IsNet (length header.nodes)) (GoodNet (length header.nodes)) (λ k is. record { rising = is.ascending; low = is.known })
+      (net ∷ rest) all
 
 -- what is known of a port: its network, and the nodes that it reaches
 pub record PortIs (count n r : ℕ) (nets : List (List ℕ)) : Type 0 where

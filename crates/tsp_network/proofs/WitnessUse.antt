@@ -2,19 +2,18 @@
 -- one to which happens what can't happen in a network, and which so doesn't do what the run of its events does.
 use Rattle.std.proofs.Common.{sym, ap, subst, arith, ◌∙◌, ◌≡◌, ℕ, zero, suc, ◌<◌, ◌≤◌, ◌^◌, List, [], ◌∷◌, slice_index_or, refl, inr, true, pos, negsuc, length, Some, slice_get, inl, All}
 use Rattle.std.proofs.lemmas.List.{Elements.All-nil, Elements.All-cons, Sums.count_by-le-length}
-use Rattle.tsp_rules.specs.Values.{Event, Message, Peer, Place, Stranger}
-use Rattle.tsp_rules.specs.GateRows.{GotOn}
+use Rattle.tsp_rules.specs.{Values.Event, Values.Message, Values.Peer, Values.Place, Values.Stranger, GateRows.GotOn}
 use Rattle.tsp_base.specs.Words.{HeaderValue, IsHeader, IsName, IsNet, KeepsDrift, Came, Handed, dids, first_port, has_member, peer_of as peer, posted, stepped}
 use Rattle.tsp_promises.specs.{Once.OnceObeyed, Premises.Honest, Premises.Life, Premises.Words, Setting.Setting}
-use Rattle.tsp_run.{proofs.NetworkLemmas.some_same, proofs.RunPremises.possible-runs-keep-premises, specs.declared.posted.Posted.Posted}
-use Rattle.tsp_run.specs.{Networks.networks, Possible.Possible, Possible.Happens, Premised.Apart, Premised.Sealed, Ranges.IsInRange}
+use Rattle.tsp_run.{proofs.NetworkLemmas.some_same, proofs.RunPremises.possible_runs_keep_premises, specs.declared.posted.Posted.Posted}
+use Rattle.tsp_run.specs.{Networks.networks, Possible.Possible, Possible.Happens, Premised.Apart, Ranges.IsInRange}
 use Rattle.tsp_run.{proofs.PromptRun.posted-at, specs.Run.run, specs.Run.posts, specs.Setup.node_line}
 use Rattle.tsp_network.specs.NetworkUse.{Misdelivered, astray, first_at, led, three_daemons, three_nodes, NetworksBreak, on_second_port, one_daemon, one_node, start, NetworkUse, acts_by_node, two_daemons, two_nodes, used}
 use Rattle.tsp_network.proofs.UseLemmas.{history, set_post, set_time, stray_acts, stray_step, taken_astray, computed}
 use Rattle.tsp_network.proofs.NetworksKeep.{run_is_network, SendAt, quiet, runs_up, send_at}
 use Rattle.tsp_network.proofs.NetworkAgrees.{AllAgree, OneAgrees, turn_agrees_all, Agrees}
-use Rattle.tsp_network.specs.{Kept.AllSuit, Networks.network, Networks.daemon_tick, Networks.Network, Networks.copy_at}
-use Rattle.tsp_network.proofs.{NetworkRuns.run_agrees, NetworkRuns.Running, NetworkRuns.running, SetUpLemmas.comes_as, SetUpLemmas.place-of}
+use Rattle.tsp_network.specs.{Networks.network, Networks.daemon_tick, Networks.Network, Networks.copy_at}
+use Rattle.tsp_network.proofs.{NetworkRuns.run_agrees, NetworkRuns.running, SetUpLemmas.comes_as, SetUpLemmas.place-of}
 use Rattle.tsp_network.specs.{Events.IsNetwork, Events.MayCome, Events.AllHappen, Lives.AreStarted, Lives.session_of, Rosters.neighbours_on}
 use Rattle.tsp_codec.specs.{Canon.canon, Taken.taken_of}
 
@@ -44,9 +43,6 @@ used-started (suc (suc n)) low = let bad : ⊥ = omega (arith, low) in absurd ba
 begun : (n : ℕ) → daemon_tick two_daemons n 1000000 ≡ 1000000 → 1000000 ≤ daemon_tick two_daemons n 1000000
 begun n e = omega (arith, e)
 
-used-suits : AllSuit two_daemons used
-used-suits = (tt, (tt, (tt, (tt, (tt, (tt, (tt, (tt, (tt, (tt, (tt, (tt, (tt, (tt, (tt, (tt, (tt, (tt, (tt, (tt, (tt, (begun 1 refl, (begun 0 refl, tt)))))))))))))))))))))))
-
 -- events, each in its ranges
 abbrev pub InRanges : List Event → Type 0
 InRanges [] = Unit {0}
@@ -64,26 +60,42 @@ used-possible : Possible two_nodes used
 used-possible = possible-so used-header (tt, (tt, (tt, (tt, (tt, (tt, (tt, (tt, (tt, (tt, (tt, (tt, (tt, (tt, (tt, (tt, (tt, (tt, (tt, (tt, (tt, (omega arith, (omega arith, tt))))))))))))))))))))))) computed.used.happens 16 computed.used.count (omega arith)
 
 used-is : IsNetwork two_daemons used
-used-is = run_is_network two_daemons used used-started used-suits used-possible
+used-is = run_is_network two_daemons used used-started (
+  tt,
+  (
+    tt,
+    (
+      tt,
+      (
+        tt,
+        (
+          tt,
+          (
+            tt,
+            (tt, (tt, (tt, (tt, (tt, (tt, (tt, (tt, (tt, (tt, (tt, (tt, (tt, (tt, (tt, (begun 1 refl, (begun 0 refl, tt))))))))))))))))),
+          ),
+        ),
+      ),
+    ),
+  ),
+) used-possible
 
 history-is : (network two_daemons used).history ≡ run two_nodes used
 history-is = (run_agrees two_daemons used-header used-started used used-is.happen used-is.few).agree.history
-
-used-sealed : Sealed used
-used-sealed = (tt, (tt, (tt, (tt, (tt, (tt, (tt, (tt, (tt, (tt, (tt, (tt, (tt, (tt, (tt, (tt, (tt, (tt, (tt, (tt, (tt, (tt, (tt, tt)))))))))))))))))))))))
 
 used-apart : Apart used
 used-apart = (tt, (tt, (tt, (tt, (tt, (tt, (tt, (tt, (tt, (tt, (tt, (tt, (tt, (tt, (tt, (tt, (tt, (tt, (tt, (tt, (tt, ((λ e. (let bad : ⊥ = omega (arith, e) in bad), tt), (tt, tt)))))))))))))))))))))))
 
 pub network_use : NetworkUse
 network_use =
-    let kept = possible-runs-keep-premises two_nodes used used-possible in
+    let kept = possible_runs_keep_premises two_nodes used used-possible in
     let same = sym history-is in
     record {
       is = used-is;
       master = ap (acts_by_node 0) history-is ∙ computed.used.acts_a;
       slave = ap (acts_by_node 1) history-is ∙ computed.used.acts_b;
-      honest = subst Honest same (kept.honest used-sealed);
+      honest = subst Honest same (kept.honest
+          (tt, (tt, (tt, (tt, (tt, (tt, (tt, (tt, (tt, (tt, (tt, (tt, (tt, (tt, (tt, (tt, (tt, (tt, (tt, (tt, (tt, (tt, (tt, tt))))))))))))))))))))))));
       life = subst Life same (kept.life computed.used.prompt);
       words = subst Words same (kept.words used-apart);
     }
@@ -106,17 +118,12 @@ led-started (suc zero) low = record { name = refl; may = refl; strict = λ e. re
 led-started (suc (suc zero)) low = record { name = refl; may = refl; strict = λ e. refl; ports = refl }
 led-started (suc (suc (suc n))) low = let bad : ⊥ = omega (arith, low) in absurd bad
 
-led-suits : AllSuit three_daemons led
-led-suits = (tt, (tt, (tt, (tt, (tt, (tt, (tt, (tt, (tt, (tt, (tt, (tt, (tt, (tt, (tt, (omega arith, (omega arith, (omega arith, tt))))))))))))))))))
-
-led-sealed : Sealed led
-led-sealed = (tt, (tt, (tt, (tt, (tt, (tt, (tt, (tt, (tt, (tt, (tt, (tt, (tt, (tt, (tt, (tt, (tt, (tt, tt))))))))))))))))))
-
 led-possible : Possible three_nodes led
 led-possible = possible-so led-header (tt, (tt, (tt, (tt, (tt, (tt, (tt, (tt, (tt, (tt, (tt, (tt, (tt, (tt, (tt, (omega arith, (omega arith, (omega arith, tt)))))))))))))))))) computed.astray.happens 15 computed.astray.count (omega arith)
 
 led-is : IsNetwork three_daemons led
-led-is = run_is_network three_daemons led led-started led-suits led-possible
+led-is = run_is_network three_daemons led led-started
+    (tt, (tt, (tt, (tt, (tt, (tt, (tt, (tt, (tt, (tt, (tt, (tt, (tt, (tt, (tt, (omega arith, (omega arith, (omega arith, tt)))))))))))))))))) led-possible
 
 abbrev now : Network
 now = network three_daemons led
@@ -127,13 +134,10 @@ agree = (run_agrees three_daemons led-header led-started led led-is.happen led-i
 sent : SendAt three_daemons set_post now.sent 14
 sent = send_at three_daemons agree.sends 14 set_post computed.astray.posted
 
-c-runs : Running (now.lives 2)
-c-runs = running (now.lives 2) (runs_up now history 2 agree.history (quiet three_daemons led) computed.astray.is_up)
-
 -- what c does with the copy, as a node would
 astray-is : (astray sent.send).history ≡ stepped stray_step 390001400 stray_acts history
 astray-is =
-    let r = c-runs in
+    let r = running (now.lives 2) (runs_up now history 2 agree.history (quiet three_daemons led) computed.astray.is_up) in
     let s = sent.send in
     let a = agree in
     let nets : List (List ℕ) = networks three_nodes in
@@ -148,7 +152,8 @@ astray-is =
     after.history ∙ ap (λ l. stepped stray_step 390001400 l history) computed.astray.acts_are
 
 honest-run : Honest history
-honest-run = (possible-runs-keep-premises three_nodes led led-possible).honest led-sealed
+honest-run = (possible_runs_keep_premises three_nodes led led-possible).honest
+    (tt, (tt, (tt, (tt, (tt, (tt, (tt, (tt, (tt, (tt, (tt, (tt, (tt, (tt, (tt, (tt, (tt, (tt, tt))))))))))))))))))
 
 handed : {A : Type 0} → Came 14 ≡ Handed → A
 handed e = let bad : ⊥ = cc in absurd bad

@@ -1,9 +1,8 @@
 -- Who is whom: by which numbers the daemons of a network know each other. A daemon is number 0 for itself, and its peers have the numbers
 -- from 1 on, port by port, and on each port in the order of the nodes.
 use Rattle.std.specs.Prelude.{ℕ, zero, suc, ◌+◌, ◌-◌, ◌==◌, nat_le, nat_lt, not, ◌&&◌, if◌then◌else◌, List, [], ◌∷◌, length, filter, Option, None, Some, slice_index_or}
-use Rattle.tsp_rules.specs.Values.{Place, Peer, Stranger, Port}
+use Rattle.tsp_rules.specs.{Values.Place, Values.Peer, Values.Stranger, Values.Port, Renames.Renaming}
 use Rattle.tsp_base.specs.Words.{has_member, peer_of}
-use Rattle.tsp_rules.specs.Renames.{Renaming}
 use Rattle.tsp_run.specs.{Networks.address_of, declared.address.Address.Address}
 
 -- the other members of a network

@@ -16,6 +16,7 @@ pub fn numbers_are_addresses()
 
 /// A network's events are the possible schedules at which the daemons can do what the nodes do: those,
 /// and no others.
+#[tactic(auto, using(crate::proofs::NetworksKeep::runs_are_networks))]
 pub fn runs_are_networks()
     ensures { RunsAreNetworks }
 {}

@@ -4,9 +4,8 @@ use Rattle.std.specs.Global.{Vec}
 use Rattle.tsp_rules.specs.Values.{Datagram, Message, Stamp, Kind, Body, Place, Peer, Stranger, Port, Request, Reply}
 use Rattle.tsp_base.specs.Words.{IsReply, body_fits, IsName}
 use Rattle.tsp_run.specs.declared.posted.Posted.{Posted}
-use Rattle.tsp_networks.specs.declared.head.StoredDatagram.{StoredDatagram}
+use Rattle.tsp_networks.specs.{declared.head.StoredDatagram.StoredDatagram, declared.head.Head.Head, declared.way.Way.Way, Posts.posted_on}
 use Rattle.tsp_networks.specs.declared.head.StoredDatagram.TheVariants.{Message as HeldMessage, Request as HeldRequest, Reply as HeldReply}
-use Rattle.tsp_networks.specs.{Posts.posted_on, declared.head.Head.Head, declared.way.Way.Way}
 
 -- the octets that a datagram adds to all names: its own name, if it has one
 abbrev pub own_name_in : Datagram → List ℕ

@@ -210,9 +210,9 @@ pub(crate) fn way_of(head: &Head) -> Way
     ensures { result ≡ way_in head.now }
 {
     match &head.held {
-        StoredDatagram::Message { port, to_peer, .. } => way_with(head, *port, *to_peer),
-        StoredDatagram::Request { port, to_peer, .. } => way_with(head, *port, *to_peer),
-        StoredDatagram::Reply { port, to_peer, .. } => way_with(head, *port, *to_peer),
+        StoredDatagram::Message { port, to_peer, .. }
+        | StoredDatagram::Request { port, to_peer, .. }
+        | StoredDatagram::Reply { port, to_peer, .. } => way_with(head, *port, *to_peer),
     }
 }
 

@@ -12,8 +12,8 @@ use tsp_base::datagram::Datagram;
 /// The greatest length of a name, in octets.
 const LONGEST: usize = 255;
 
-/// Room is made for so many posts at least. Lists of that size have pages of their own, so that nothing is copied when
-/// they grow, and a page that nothing was put on takes no memory.
+/// Room is made for so many posts at least. With the C library of the machines that were tried, lists of that size have
+/// pages of their own, so that nothing is copied when they grow, and a page that nothing was put on takes no memory.
 const MANY: usize = 4096;
 
 /// Posted datagrams, numbered from 0, and room for more. It counts its room itself, so that a step that has enough
@@ -102,7 +102,7 @@ impl Posts {
         self.reserve_anew(n)
     }
 
-    /// The same where there isn't so much room. (A call of its own, since it is rare.)
+    /// The same if there isn't so much room. (A call of its own, since it is rare.)
     #[inline(never)]
     fn reserve_anew(&mut self, n: usize) -> Result<(), AllocError>
         ensures items { self.new.items ≡ self.old.items }

@@ -3,7 +3,7 @@ use Rattle.std.proofs.Common.{append-nil, sym, ◌∙◌, ap, ◌≡◌, ℕ, �
 use Rattle.std.proofs.lemmas.Bool.{false≢true}
 use Rattle.tsp_rules.specs.Values.{Act, Took, Post, Abandon, Placed, Stamp, Taken, Place, Port, Role, Master, Reply}
 use Rattle.tsp_rules.proofs.Emits.{Sort, Booting, Asking, Correcting, Numbering, Passing, Posting, Leading, Following, Changing, Backing, Counting, Rounding, Alarming, Tabling, Rivalling, Acking, Giving, Sampling, Closing, Moving, Tracing, Emits, Emits_more, Keeps_by, is_in, sort_of}
-use Rattle.tsp_rules.{proofs.BuiltAnswers.date_sorts, specs.Guards.is_master}
+use Rattle.tsp_rules.{proofs.BuiltAnswers.date_sorts, specs.Guards.is_master, proofs.Parts.Performs_part}
 use Rattle.tsp_base.specs.Words.{Past, Performs, Keeps, Received, role, said, taken, Row, nothing, puts, grown, ReplyValue}
 use Rattle.tsp_base.proofs.PerformsLemmas.{Performs_from, Performs_nothing, Performs_to}
 use Rattle.tsp_acks.{specs.Stands.StationStands, specs.Stands.StandsActing, proofs.ActingLemmas.taken-acts}
@@ -29,19 +29,14 @@ pub Performs_station : {row : Row} {x : ℕ} {port : Port} {before after : PortV
     ((past : Past) → PortStands past before → StationStands (grown x past (row x past)) after.station → MasterStands (grown x past (row x past)) after.master) →
     ((past : Past) → PortStands past before → StationStands (grown x past (row x past)) after.station → ResolveStands (grown x past (row x past)) after.resolve) →
     Performs StationStands StationStands row x port before.station after.station old new → Performs PortStands PortStands row x port before after old new
-Performs_station {row = row} {x = x} {before = before} e f g k was master resolve d = record {
-  acts = λ past h. d.acts past h.station;
-  stands = λ past h.
-      let s = d.stands past h.station in
-      record {
-        station = s;
-        last = rw e (Remembers_by row k x past before.last h.last);
-        master = master past h s;
-        resolve = resolve past h s;
-        dates = rw g (was x past before.dates h.dates);
-        clock = rw f (ClockStands_by row k x past before.clock h.clock);
-      };
-}
+Performs_station {row = row} {x = x} {before = before} e f g k was master resolve d = Performs_part d (λ past h. h.station) (λ past h s. record {
+  station = s;
+  last = rw e (Remembers_by row k x past before.last h.last);
+  master = master past h s;
+  resolve = resolve past h s;
+  dates = rw g (was x past before.dates h.dates);
+  clock = rw f (ClockStands_by row k x past before.clock h.clock);
+})
 
 -- the slaves are forgotten where a port led and leads no more, and so are the rivals
 pub slaves_part : (row : Row) → Emits role_sorts row → (x : ℕ) (past : Past) (before after : PortValue) → Clears (is_master before.station.role && not (is_master after.station.role)) before.master after.master →
@@ -72,19 +67,14 @@ untaken_by row e x past h = Keeps_by untaking_sorts IsUntaken row untaken_act e 
 -- a call in a step that has taken nothing yet
 pub Performs_untaken : {row : Row} {x : ℕ} {port : Port} {before after : PortValue} {old new : List Placed} → Emits untaking_sorts row →
     Performs PortStands PortStands row x port before after old new → Performs PortUntaken PortUntaken row x port before after old new
-Performs_untaken {row = row} {x = x} e d = record {
-  acts = λ past h. d.acts past h.stands;
-  stands = λ past h. record { stands = d.stands past h.stands; untaken = untaken_by row e x past h.untaken };
-}
+Performs_untaken {row = row} {x = x} e d = Performs_part d (λ past h. h.stands) (λ past h s. record { stands = s; untaken = untaken_by row e x past h.untaken })
 
 -- a call on a port is one on its node
 pub node_by : {fits then_fits : Past → PortValue → Type 0} {row : Row} {x : ℕ} {port : Port} {before after : Node} {old new : List Placed} → after.tracing ≡ before.tracing → Emits silent_trace row →
     Performs fits then_fits row x port (port_with before.part before.clock) (port_with after.part after.clock) old new →
     Performs (λ past node. Traced fits past (traced_of node)) (λ past node. Traced then_fits past (traced_of node)) row x port before after old new
-node_by {row = row} {x = x} {before = before} e k d = record {
-  acts = λ past h. d.acts past h.port;
-  stands = λ past h. record { port = d.stands past h.port; trace = rw e (TraceStands_by row (Emits_more silent_trace refl k) x past before.tracing h.trace) };
-}
+node_by {row = row} {x = x} {before = before} e k d = Performs_part d (λ past h. h.port)
+    (λ past h s. record { port = s; trace = rw e (TraceStands_by row (Emits_more silent_trace refl k) x past before.tracing h.trace) })
 
 -- so is the first call of a step on a port
 pub node_begun : {row : Row} {x : ℕ} {port : Port} {before after : Node} {old new : List Placed} → after.tracing ≡ before.tracing → Emits silent_trace row →
@@ -93,7 +83,7 @@ node_begun {before = before} {after = after} e k d = node_by {then_fits = PortUn
 
 -- and so is a port's taking
 pub node_takes : {row : Row} {x : ℕ} {port : Port} {before after : Node} {old new : List Placed} → Performs TakeStands TakeStands row x port (traced_of before) (traced_of after) old new → Performs NodeUntaken NodeStands row x port before after old new
-node_takes d = record { acts = λ past h. d.acts past (record { port = h.port.stands; trace = h.trace }); stands = λ past h. d.stands past (record { port = h.port.stands; trace = h.trace }) }
+node_takes d = Performs_part d (λ past h. record { port = h.port.stands; trace = h.trace }) (λ past h s. s)
 
 -- a node that has taken nothing stands
 pub node_rests : {x : ℕ} {port : Port} {node : Node} {old : List Placed} → Performs NodeUntaken NodeStands nothing x port node node old old
@@ -129,57 +119,44 @@ pub Performs_heard : {r : Received} {row : Row} {x : ℕ} {port : Port} {before 
     ((past : Past) → PortStands past before → StationStands (grown x past (row x past)) after.station → ResolveStands (grown x past (row x past)) after.resolve) →
     ((took : Option Received) → took ≡ Some r → Performs SlaveStands SlaveStands row x port (record { station = before.station; last = before.last; clock = before.clock; took = took }) (record { station = after.station; last = after.last; clock = after.clock; took = took }) old new) →
     Performs (PortTook r) PortStands row x port before after old new
-Performs_heard {r = r} {row = row} {x = x} {before = before} same was none master resolve d = record {
-  acts = λ past h. (d (Some r) refl).acts past (record { station = h.stands.station; last = h.stands.last; clock = h.stands.clock; took = h.took });
-  stands = λ past h.
-      let s = (d (Some r) refl).stands past (record { station = h.stands.station; last = h.stands.last; clock = h.stands.clock; took = h.took }) in
-      record {
-        station = s.station;
-        last = s.last;
-        master = master past h.stands s.station;
-        resolve = resolve past h.stands s.station;
-        dates = rw same (dates_aside row x past before was none h);
-        clock = s.clock;
-      };
-}
+Performs_heard {r = r} {row = row} {x = x} {before = before} same was none master resolve d = Performs_part (d (Some r) refl)
+    (λ past h. record { station = h.stands.station; last = h.stands.last; clock = h.stands.clock; took = h.took }) (λ past h s. record {
+      station = s.station;
+      last = s.last;
+      master = master past h.stands s.station;
+      resolve = resolve past h.stands s.station;
+      dates = rw same (dates_aside row x past before was none h);
+      clock = s.clock;
+    })
 
 -- what a master makes of what was taken
 pub Performs_led : {r : Received} {row : Row} {x : ℕ} {port : Port} {before after : PortValue} {old new : List Placed} → after.last ≡ before.last → after.resolve ≡ before.resolve → after.dates ≡ before.dates →
     Emits beside_sorts row → Emits unchanging row → Keeps DatesStand row →
     Performs LeadStands LeadStands row x port (record { master = before.master; station = before.station; clock = before.clock }) (record { master = after.master; station = after.station; clock = after.clock }) old new → Performs (PortTook r) PortStands row x port before after old new
-Performs_led {r = r} {row = row} {x = x} {before = before} e f g k u was d = record {
-  acts = λ past h. d.acts past (lead past h);
-  stands = λ past h.
-      let s = d.stands past (lead past h) in
-      record {
-        station = s.station;
-        last = rw e (Remembers_by row k x past before.last h.stands.last);
-        master = s.master;
-        resolve = rw f (ResolveStands_by row u x past before.resolve h.stands.resolve);
-        dates = rw g (was x past before.dates h.stands.dates);
-        clock = s.clock;
-      };
-} where
-  lead : (past : Past) → PortTook r past before → LeadStands past (record { master = before.master; station = before.station; clock = before.clock })
-  lead past h = record { master = h.stands.master; station = h.stands.station; acted = taken-acts past.seen r h.took; clock = h.stands.clock }
+Performs_led {r = r} {row = row} {x = x} {before = before} e f g k u was d = Performs_part d
+    (λ past h. record { master = h.stands.master; station = h.stands.station; acted = taken-acts past.seen r h.took; clock = h.stands.clock })
+    (λ past h s. record {
+      station = s.station;
+      last = rw e (Remembers_by row k x past before.last h.stands.last);
+      master = s.master;
+      resolve = rw f (ResolveStands_by row u x past before.resolve h.stands.resolve);
+      dates = rw g (was x past before.dates h.stands.dates);
+      clock = s.clock;
+    })
 
 -- what is done about rivals
 pub Performs_resolved : {row : Row} {x : ℕ} {port : Port} {before after : PortValue} {old new : List Placed} → after.last ≡ before.last → after.master ≡ before.master → after.dates ≡ before.dates → after.clock ≡ before.clock →
     Emits beside_sorts row → Emits quiet_sorts row → Keeps DatesStand row →
     Performs ResolvingStands ResolvingStands row x port (record { resolve = before.resolve; station = before.station }) (record { resolve = after.resolve; station = after.station }) old new → Performs PortStands PortStands row x port before after old new
-Performs_resolved {row = row} {x = x} {before = before} e m g f k q was d = record {
-  acts = λ past h. d.acts past (record { resolve = h.resolve; station = h.station });
-  stands = λ past h.
-      let s = d.stands past (record { resolve = h.resolve; station = h.station }) in
-      record {
-        station = s.station;
-        last = rw e (Remembers_by row k x past before.last h.last);
-        master = rw m (Keeps_by quiet_sorts MasterStands row MasterStands_quiet q x past before.master h.master);
-        resolve = s.resolve;
-        dates = rw g (was x past before.dates h.dates);
-        clock = rw f (ClockStands_by row k x past before.clock h.clock);
-      };
-}
+Performs_resolved {row = row} {x = x} {before = before} e m g f k q was d = Performs_part d (λ past h. record { resolve = h.resolve; station = h.station })
+    (λ past h s. record {
+      station = s.station;
+      last = rw e (Remembers_by row k x past before.last h.last);
+      master = rw m (Keeps_by quiet_sorts MasterStands row MasterStands_quiet q x past before.master h.master);
+      resolve = s.resolve;
+      dates = rw g (was x past before.dates h.dates);
+      clock = rw f (ClockStands_by row k x past before.clock h.clock);
+    })
 
 -- nothing is done with what was taken
 pub Performs_pass : {r : Received} {x : ℕ} {port : Port} {state : PortValue} {old : List Placed} → Performs (PortTook r) PortStands nothing x port state state old old
@@ -233,75 +210,60 @@ no_lead state r n e h f = n (sym e ∙ h.station.role ∙ f)
 pub Performs_acknowledged : {r : Received} {row : Row} {x : ℕ} {port : Port} {before after : PortValue} {old new : List Placed} → after.last ≡ before.last → after.resolve ≡ before.resolve → after.dates ≡ before.dates → after.clock ≡ before.clock →
     Emits (Acking ∷ []) row →
     Performs OwnStands OwnStands row x port (record { master = before.master; station = before.station }) (record { master = after.master; station = after.station }) old new → Performs (PortTook r) PortStands row x port before after old new
-Performs_acknowledged {row = row} {x = x} {before = before} e u g f k d = record {
-  acts = λ past h. d.acts past (record { master = h.stands.master; station = h.stands.station });
-  stands = λ past h.
-      let s = d.stands past (record { master = h.stands.master; station = h.stands.station }) in
-      record {
-        station = s.station;
-        last = rw e (Remembers_by row (Emits_more (Acking ∷ []) refl k) x past before.last h.stands.last);
-        master = s.master;
-        resolve = rw u (ResolveStands_by row (Emits_more (Acking ∷ []) refl k) x past before.resolve h.stands.resolve);
-        dates = rw g (DatesStand_by row (Emits_more (Acking ∷ []) refl k) x past before.dates h.stands.dates);
-        clock = rw f (ClockStands_by row (Emits_more (Acking ∷ []) refl k) x past before.clock h.stands.clock);
-      };
-}
+Performs_acknowledged {row = row} {x = x} {before = before} e u g f k d = Performs_part d
+    (λ past h. record { master = h.stands.master; station = h.stands.station }) (λ past h s. record {
+      station = s.station;
+      last = rw e (Remembers_by row (Emits_more (Acking ∷ []) refl k) x past before.last h.stands.last);
+      master = s.master;
+      resolve = rw u (ResolveStands_by row (Emits_more (Acking ∷ []) refl k) x past before.resolve h.stands.resolve);
+      dates = rw g (DatesStand_by row (Emits_more (Acking ∷ []) refl k) x past before.dates h.stands.dates);
+      clock = rw f (ClockStands_by row (Emits_more (Acking ∷ []) refl k) x past before.clock h.stands.clock);
+    })
 
 -- a port answers a client, which changes nothing but the trace
 pub Performs_named_by : {r : Received} {row : Row} {x : ℕ} {port : Port} {before after : PortValue} {old new : List Placed} → after.master ≡ before.master → after.resolve ≡ before.resolve → after.dates ≡ before.dates → after.clock ≡ before.clock → Emits (Posting ∷ []) row →
     Performs NamingStands NamingStands row x port (record { station = before.station; last = before.last }) (record { station = after.station; last = after.last }) old new → Performs (PortTook r) PortStands row x port before after old new
-Performs_named_by {row = row} {x = x} {before = before} m u v f k d = record {
-  acts = λ past h. d.acts past (record { station = h.stands.station; last = h.stands.last });
-  stands = λ past h.
-      let s = d.stands past (record { station = h.stands.station; last = h.stands.last }) in
-      record {
-        station = s.station;
-        last = s.last;
-        master = rw m (Keeps_by quiet_sorts MasterStands row MasterStands_quiet (Emits_more (Posting ∷ []) refl k) x past before.master h.stands.master);
-        resolve = rw u (ResolveStands_by row (Emits_more (Posting ∷ []) refl k) x past before.resolve h.stands.resolve);
-        dates = rw v (DatesStand_by row (Emits_more (Posting ∷ []) refl k) x past before.dates h.stands.dates);
-        clock = rw f (ClockStands_by row (Emits_more (Posting ∷ []) refl k) x past before.clock h.stands.clock);
-      };
-}
+Performs_named_by {row = row} {x = x} {before = before} m u v f k d = Performs_part d (λ past h. record { station = h.stands.station; last = h.stands.last })
+    (λ past h s. record {
+      station = s.station;
+      last = s.last;
+      master = rw m (Keeps_by quiet_sorts MasterStands row MasterStands_quiet (Emits_more (Posting ∷ []) refl k) x past before.master h.stands.master);
+      resolve = rw u (ResolveStands_by row (Emits_more (Posting ∷ []) refl k) x past before.resolve h.stands.resolve);
+      dates = rw v (DatesStand_by row (Emits_more (Posting ∷ []) refl k) x past before.dates h.stands.dates);
+      clock = rw f (ClockStands_by row (Emits_more (Posting ∷ []) refl k) x past before.clock h.stands.clock);
+    })
 
 pub Performs_turned_by : {r : Received} {row : Row} {x : ℕ} {port : Port} {before after : PortValue} {was is : Bool} {old new : List Placed} → after.last ≡ before.last → after.master ≡ before.master → after.resolve ≡ before.resolve → after.dates ≡ before.dates →
     after.clock ≡ before.clock → Emits (Tracing ∷ Posting ∷ []) row →
     Performs TracingStands TracingStands row x port (record { station = before.station; on = was }) (record { station = after.station; on = is }) old new → Performs (TookStands r) TakeStands row x port (record { port = before; tracing = was }) (record { port = after; tracing = is }) old new
-Performs_turned_by {row = row} {x = x} {before = before} l m u v f k d = record {
-  acts = λ past h. d.acts past (record { station = h.port.stands.station; trace = h.trace });
-  stands = λ past h.
-      let s = d.stands past (record { station = h.port.stands.station; trace = h.trace }) in
-      record {
-        port = record {
-          station = s.station;
-          last = rw l (Remembers_by row (Emits_more (Tracing ∷ Posting ∷ []) refl k) x past before.last h.port.stands.last);
-          master = rw m (Keeps_by quiet_sorts MasterStands row MasterStands_quiet (Emits_more (Tracing ∷ Posting ∷ []) refl k) x past before.master h.port.stands.master);
-          resolve = rw u (ResolveStands_by row (Emits_more (Tracing ∷ Posting ∷ []) refl k) x past before.resolve h.port.stands.resolve);
-          dates = rw v (DatesStand_by row (Emits_more (Tracing ∷ Posting ∷ []) refl k) x past before.dates h.port.stands.dates);
-          clock = rw f (ClockStands_by row (Emits_more (Tracing ∷ Posting ∷ []) refl k) x past before.clock h.port.stands.clock);
-        };
-        trace = s.trace;
+Performs_turned_by {row = row} {x = x} {before = before} l m u v f k d = Performs_part d (λ past h. record { station = h.port.stands.station; trace = h.trace })
+    (λ past h s. record {
+      port = record {
+        station = s.station;
+        last = rw l (Remembers_by row (Emits_more (Tracing ∷ Posting ∷ []) refl k) x past before.last h.port.stands.last);
+        master = rw m (Keeps_by quiet_sorts MasterStands row MasterStands_quiet
+            (Emits_more (Tracing ∷ Posting ∷ []) refl k) x past before.master h.port.stands.master);
+        resolve = rw u (ResolveStands_by row (Emits_more (Tracing ∷ Posting ∷ []) refl k) x past before.resolve h.port.stands.resolve);
+        dates = rw v (DatesStand_by row (Emits_more (Tracing ∷ Posting ∷ []) refl k) x past before.dates h.port.stands.dates);
+        clock = rw f (ClockStands_by row (Emits_more (Tracing ∷ Posting ∷ []) refl k) x past before.clock h.port.stands.clock);
       };
-}
+      trace = s.trace;
+    })
 
 -- a call of a station in a step that has acted, and what it makes of the master and the rivals
 pub Performs_acting_by : {r : Received} {row : Row} {x : ℕ} {port : Port} {before after : PortValue} {old new : List Placed} → after.last ≡ before.last → after.clock ≡ before.clock → after.dates ≡ before.dates → Emits beside_sorts row → Keeps DatesStand row →
     ((past : Past) → PortStands past before → StationStands (grown x past (row x past)) after.station → MasterStands (grown x past (row x past)) after.master) →
     ((past : Past) → PortStands past before → StationStands (grown x past (row x past)) after.station → ResolveStands (grown x past (row x past)) after.resolve) →
     Performs StandsActing StandsActing row x port before.station after.station old new → Performs (PortTook r) PortStands row x port before after old new
-Performs_acting_by {r = r} {row = row} {x = x} {before = before} e f g k was master resolve d = record {
-  acts = λ past h. d.acts past (record { stands = h.stands.station; acted = taken-acts past.seen r h.took });
-  stands = λ past h.
-      let s = (d.stands past (record { stands = h.stands.station; acted = taken-acts past.seen r h.took })).stands in
-      record {
-        station = s;
-        last = rw e (Remembers_by row k x past before.last h.stands.last);
-        master = master past h.stands s;
-        resolve = resolve past h.stands s;
-        dates = rw g (was x past before.dates h.stands.dates);
-        clock = rw f (ClockStands_by row k x past before.clock h.stands.clock);
-      };
-}
+Performs_acting_by {r = r} {row = row} {x = x} {before = before} e f g k was master resolve d = Performs_part d
+    (λ past h. record { stands = h.stands.station; acted = taken-acts past.seen r h.took }) (λ past h t. let s = t.stands in record {
+      station = s;
+      last = rw e (Remembers_by row k x past before.last h.stands.last);
+      master = master past h.stands s;
+      resolve = resolve past h.stands s;
+      dates = rw g (was x past before.dates h.stands.dates);
+      clock = rw f (ClockStands_by row k x past before.clock h.stands.clock);
+    })
 
 -- a date is set, passed on or answered
 pub Performs_dated : {r : Received} {row : Row} {x : ℕ} {port : Port} {before after : PortValue} {old new : List Placed} (corrected : Bool) → after.last ≡ moved_where corrected x before.last → after.resolve ≡ before.resolve → Emits date_sorts row →
@@ -310,21 +272,16 @@ pub Performs_dated : {r : Received} {row : Row} {x : ℕ} {port : Port} {before 
     (record { dates = before.dates; master = before.master; station = before.station; last = before.last; clock = before.clock; took = took })
     (record { dates = after.dates; master = after.master; station = after.station; last = moved_where corrected x before.last; clock = after.clock; took = took }) old new) →
     Performs (PortTook r) PortStands row x port before after old new
-Performs_dated {r = r} {row = row} {x = x} {before = before} corrected e f k d = record {
-  acts = λ past h. (d (Some r) refl).acts past (dated past h);
-  stands = λ past h.
-      let s = (d (Some r) refl).stands past (dated past h) in
-      record {
-        station = s.station;
-        last = rw e s.last;
-        master = s.master;
-        resolve = rw f (ResolveStands_by row (Emits_more date_sorts refl k) x past before.resolve h.stands.resolve);
-        dates = s.dates;
-        clock = s.clock;
-      };
-} where
-  dated : (past : Past) → PortTook r past before → DateStands past (record { dates = before.dates; master = before.master; station = before.station; last = before.last; clock = before.clock; took = Some r })
-  dated past h = record { dates = h.stands.dates; master = h.stands.master; station = h.stands.station; last = h.stands.last; clock = h.stands.clock; took = h.took }
+Performs_dated {r = r} {row = row} {x = x} {before = before} corrected e f k d = Performs_part (d (Some r) refl)
+    (λ past h. let s = h.stands in record { dates = s.dates; master = s.master; station = s.station; last = s.last; clock = s.clock; took = h.took })
+    (λ past h s. record {
+      station = s.station;
+      last = rw e s.last;
+      master = s.master;
+      resolve = rw f (ResolveStands_by row (Emits_more date_sorts refl k) x past before.resolve h.stands.resolve);
+      dates = s.dates;
+      clock = s.clock;
+    })
 
 -- a call on a port that leaves the trace alone
 pub Performs_traced : {fits then_fits : Past → PortValue → Type 0} {row : Row} {x : ℕ} {port : Port} {before after : PortValue} {old new : List Placed} (flag : Bool) → Keeps TraceStands row → Performs fits then_fits row x port before after old new →

@@ -1,8 +1,7 @@
 -- When a port needs its next step, and what a master notes of its due sends.
 use Rattle.std.specs.Prelude.{◌≡◌, ℕ, false, List, [], ◌∷◌, Option}
-use Rattle.tsp_rules.specs.Values.{Post, Placed, Message, Peer, Port}
+use Rattle.tsp_rules.specs.{Values.Post, Values.Placed, Values.Message, Values.Peer, Values.Port, SendRows.leaves_after}
 use Rattle.tsp_base.specs.Words.{Past, Performs, acting, grown, earlier, least_deadline}
-use Rattle.tsp_rules.specs.SendRows.{leaves_after}
 use Rattle.tsp_sends.specs.{Repeating.IsEarliest, Slots.sending_to, declared.due.Due.Due}
 use Rattle.tsp_sends.specs.declared.due.Due.TheVariants.{Again, Gave}
 use Rattle.tsp_master.specs.{MasterStands.MasterStands, declared.master.Master.Master}

@@ -1,11 +1,10 @@
 -- A datagram that is taken reaches the node that the run says.
 use Rattle.std.proofs.Common.{refl, sym, ap, ◌∙◌, subst, ◌≡◌, ℕ, ◌<◌, true, List, ◌∷◌, length, Option, None, Some, slice_get, vec_len}
 use Rattle.std.{proofs.lemmas.Option.slice_get_within, specs.Option.option_map}
-use Rattle.tsp_rules.specs.Values.{Taken, Good, Event, Take, Peer}
+use Rattle.tsp_rules.specs.{Values.Taken, Values.Good, Values.Event, Values.Take, Values.Peer, GateRows.GotOn, GateRows.answers_all}
 use Rattle.tsp_base.specs.Words.{HeaderValue, Came}
 use Rattle.tsp_gateway.specs.declared.gateway.Gateway.{Gateway}
 use Rattle.tsp_networks.specs.{Posts.way_of, declared.way.Way.Way}
-use Rattle.tsp_rules.specs.GateRows.{GotOn, answers_all}
 use Rattle.tsp_run.specs.{Networks.networks, declared.address.Address.Address, declared.arrival.Arrival.Arrival}
 use Rattle.tsp_run.specs.Refusals.{Allowed, down, node_in, refusal, scene}
 use Rattle.tsp_run.specs.Run.{arrives, arrives_at, goes_to, reaches, run, posts, steps}

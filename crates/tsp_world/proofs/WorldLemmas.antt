@@ -5,17 +5,15 @@ use Rattle.std.proofs.{Math.ListN.set, lemmas.Bool.ne_eqb, lemmas.Bool.cases_lt,
 use Rattle.tsp_base.specs.Words.{HeaderValue, IsHeader, Step, Line, Turned, of, dids, up, tick_at}
 use Rattle.tsp_rules.specs.{GateRows.NodeTurn, GateRows.answers_all, NodePerforms.PerformsAll, Values.Placed, Values.Event, Values.Turn}
 use Rattle.tsp_rules.specs.NodeRows.{NodePast, NodeRow, in_node_step, spread}
-use Rattle.tsp_gateway.specs.{GatewayStands.GatewayStands, declared.gateway.Gateway.Gateway}
+use Rattle.tsp_gateway.proofs.{StepLemmas.GatewayStands_step, StepLemmas.GatewayBegun_in_step, LiftLemmas.set_cases, LiftLemmas.set_same}
+use Rattle.tsp_gateway.{specs.declared.gateway.Gateway.Gateway, specs.GatewayStands.GatewayStands, proofs.RestLemmas.turn_rests}
 use Rattle.tsp_world.specs.declared.world.World.{World}
-use Rattle.tsp_run.specs.{Networks.networks, Ranges.Accepted, Ranges.IsInRange, Refusals.scene, Refusals.refusal}
-use Rattle.tsp_run.specs.Run.{run, joins, happening, steps, step_tick, event_at}
-use Rattle.tsp_run.specs.Setup.{node_line, past_of, rests}
+use Rattle.tsp_run.proofs.RunLemmas.{stepped_own, stepped_other, posts_stepped, up_joined}
+use Rattle.tsp_run.specs.{Run.run, Run.joins, Run.happening, Run.steps, Run.step_tick, Run.event_at, Ranges.Accepted, Ranges.IsInRange}
+use Rattle.tsp_run.proofs.{RefusalLemmas.Alike, RefusalLemmas.refusal-none, RefusalLemmas.up-down, NetworkLemmas.some_same}
+use Rattle.tsp_run.specs.{Setup.node_line, Setup.past_of, Setup.rests, Refusals.scene, Refusals.refusal, Networks.networks}
 use Rattle.tsp_networks.specs.Posts.{PostsValue}
 use Rattle.tsp_world.specs.WorldStands.{WorldStands, PlaceStands, UpBegun, UpStands, HappensInWorld, Idles, Notes, Passes, up_at, is_node, scene_of}
-use Rattle.tsp_gateway.proofs.StepLemmas.{GatewayStands_step, GatewayBegun_in_step}
-use Rattle.tsp_run.proofs.{NetworkLemmas.some_same, RefusalLemmas.Alike, RefusalLemmas.refusal-none, RefusalLemmas.up-down}
-use Rattle.tsp_run.proofs.RunLemmas.{stepped_own, stepped_other, posts_stepped, up_joined}
-use Rattle.tsp_gateway.proofs.{LiftLemmas.set_cases, LiftLemmas.set_same, RestLemmas.turn_rests}
 
 -- what the place of a node stands for after a step by this row
 pub PlaceStands-acted : (header : HeaderValue) (history : List Line) (row : NodeRow) (step : Step) (node : Gateway) →

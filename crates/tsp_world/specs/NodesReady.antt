@@ -4,8 +4,7 @@ use Rattle.tsp_base.specs.Words.{HeaderValue, IsHeader, is_whole, tick_at}
 use Rattle.tsp_gateway.specs.{Dues.RestsUntil, GateConfigs.GateConfigValue, GateConfigs.peers_of_ports, GatewayStands.clock_at}
 use Rattle.tsp_gateway.specs.{Rooms.ports_in, Rooms.room_of_ports, declared.gateway.Gateway.Gateway}
 use Rattle.tsp_rules.specs.{NodeRows.PortSetup, Values.Port}
-use Rattle.tsp_run.specs.Networks.{networks, numbers_below, ports_on, room}
-use Rattle.tsp_run.specs.Setup.{node_line}
+use Rattle.tsp_run.specs.{Networks.networks, Networks.numbers_below, Networks.ports_on, Networks.room, Setup.node_line}
 use Rattle.tsp_world.specs.Configs.{configs_below}
 
 -- a node has these ports, and its clock was last corrected at this tick or before

@@ -2,9 +2,8 @@
 use Rattle.std.proofs.Common.{◌∙◌, sym, ◌≡◌, ℕ, ◌&&◌, true, List, refl}
 use Rattle.std.proofs.lemmas.Bool.{and_parts}
 use Rattle.tsp_slave.specs.SlaveAlarms.{slave_rings, is_to_be_candidate}
-use Rattle.tsp_rules.specs.Values.{Ring, Late, Placed, Elect, Port}
-use Rattle.tsp_rules.specs.SlaveRows.{loosens, elect_rings}
 use Rattle.tsp_rules.specs.{CommonRows.arms_elect, CommonRows.searches, CommonRows.candidature_row, Guards.is_in_time, Guards.may_stand_at}
+use Rattle.tsp_rules.specs.{Values.Ring, Values.Late, Values.Placed, Values.Elect, Values.Port, SlaveRows.loosens, SlaveRows.elect_rings}
 use Rattle.tsp_base.specs.Words.{Past, Performs, puts, ◌followed_by◌}
 use Rattle.tsp_base.proofs.PerformsLemmas.{Performs_then, Performs_then_part, Performs_from, Performs_to}
 use Rattle.tsp_acks.specs.{Stands.StationStands, Stands.StandsActing, declared.station.Station.Station}

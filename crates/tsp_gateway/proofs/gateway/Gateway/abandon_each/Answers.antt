@@ -1,7 +1,7 @@
 -- One port after the other.
 use Rattle.std.proofs.Common.{◌≡◌, ◌<◌, ◌∙◌, arith, length, refl, rules, subst, sym, vec_len}
 use Rattle.tsp_rules.specs.NodeRows.{abandons_on}
-use Rattle.tsp_gateway.proofs.{LiftLemmas.ports_many, LoopLemmas.last_port, LoopLemmas.next_port, LoopLemmas.no_port, LoopLemmas.upset_all}
+use Rattle.tsp_gateway.proofs.{AnyLemmas.places, LoopLemmas.last_port, LoopLemmas.next_port, LoopLemmas.no_port, LoopLemmas.upset_all}
 use Rattle.tsp_gateway.proofs.gateway.Gateway.abandon_each.Goals.{then-is_upset, else-is_upset}
 use Rattle.tsp_gateway.proofs.gateway.Gateway.abandon_each.Goals as goal
 
@@ -42,19 +42,17 @@ returns-clause-row g c x =
 pub abandon-requires : goal.abandon-requires
 abandon-requires g c =
     let old = c.args.self.now in
-    let len : vec_len old.ports ≡ length old.ports.items = search rules in
-    let many = ports_many old in
+    let len = places old in
     let end = c.len-r-end.ensures in
     record {
-      port = subst (λ ps. c.loop-r.r < length ps) (sym c.loop-r.invariant.ports) (omega (arith, len, many, end, c.loop-r-test.true));
-      room = omega (arith, len, many, end, c.loop-r-test.true, c.loop-r.invariant.room.spare, c.requires.room);
+      port = subst (λ ps. c.loop-r.r < length ps) (sym c.loop-r.invariant.ports) (omega (arith, len, end, c.loop-r-test.true));
+      room = omega (arith, len, end, c.loop-r-test.true, c.loop-r.invariant.room.spare, c.requires.room);
     }
 
 pub returns-clause-room : goal.returns-clause-room
 returns-clause-room g c =
     let old = c.args.self.now in
-    let len : vec_len old.ports ≡ length old.ports.items = search rules in
-    let many = ports_many old in
+    let len = places old in
     let end = c.len-r-end.ensures in
     let auto = c.loop-r.auto in
-    record { spare = omega (arith, len, many, end, auto, c.loop-r.invariant.room.spare); few = omega (arith, len, many, end, auto, c.loop-r.invariant.room.few) }
+    record { spare = omega (arith, len, end, auto, c.loop-r.invariant.room.spare); few = omega (arith, len, end, auto, c.loop-r.invariant.room.few) }

@@ -1,7 +1,7 @@
 -- One port after the other.
 use Rattle.std.proofs.Common.{◌≡◌, ◌<◌, ◌∙◌, arith, length, refl, rules, subst, sym, true, vec_len}
 use Rattle.tsp_rules.specs.{GateRows.all_ports, GateRows.boots_on, NodeRows.for_ports, NodeRows.reading_all}
-use Rattle.tsp_gateway.proofs.{LiftLemmas.All_same, LiftLemmas.ports_many, LoopLemmas.last_port, LoopLemmas.next_port, LoopLemmas.upset_all}
+use Rattle.tsp_gateway.proofs.{AnyLemmas.places, LiftLemmas.All_same, LoopLemmas.last_port, LoopLemmas.next_port, LoopLemmas.upset_all}
 use Rattle.tsp_gateway.proofs.gateway.Gateway.begin_all.Goals as goal
 
 pub loop-q-init : goal.loop-q-init
@@ -10,13 +10,12 @@ loop-q-init g c = record { row = λ last new d. d; ports = refl; clock = refl; r
 pub begin-requires : goal.begin-requires
 begin-requires g c =
     let old = c.args.self.now in
-    let len : vec_len old.ports ≡ length old.ports.items = search rules in
-    let many = ports_many old in
+    let len = places old in
     let end = c.len-q-end.ensures in
     record {
-      port = subst (λ ps. c.loop-q.q < length ps) (sym c.loop-q.invariant.ports) (omega (arith, len, many, end, c.loop-q-test.true));
+      port = subst (λ ps. c.loop-q.q < length ps) (sym c.loop-q.invariant.ports) (omega (arith, len, end, c.loop-q-test.true));
       tick = c.requires.tick;
-      room = omega (arith, len, many, end, c.loop-q-test.true, c.loop-q.invariant.room.spare, c.requires.room);
+      room = omega (arith, len, end, c.loop-q-test.true, c.loop-q.invariant.room.spare, c.requires.room);
     }
 
 pub loop-q-preserved : goal.loop-q-preserved
@@ -48,8 +47,7 @@ returns-clause-row g c =
 pub returns-clause-room : goal.returns-clause-room
 returns-clause-room g c =
     let old = c.args.self.now in
-    let len : vec_len old.ports ≡ length old.ports.items = search rules in
-    let many = ports_many old in
+    let len = places old in
     let end = c.len-q-end.ensures in
     let auto = c.loop-q.auto in
-    record { spare = omega (arith, len, many, end, auto, c.loop-q.invariant.room.spare); few = omega (arith, len, many, end, auto, c.loop-q.invariant.room.few) }
+    record { spare = omega (arith, len, end, auto, c.loop-q.invariant.room.spare); few = omega (arith, len, end, auto, c.loop-q.invariant.room.few) }

@@ -2,7 +2,7 @@
 use Rattle.std.proofs.Common.{◌≡◌, ◌<◌, arith, false, length, refl, rules, vec_len, eq-eqb}
 use Rattle.std.proofs.lemmas.Bool.{ne_eqb}
 use Rattle.tsp_rules.specs.{GateRows.forwards, GateRows.reposts_on, NodeRows.reading_all}
-use Rattle.tsp_gateway.{proofs.LiftLemmas.All_same, proofs.LiftLemmas.ports_many, specs.GatewayStands.port_at, specs.Rooms.ports_in}
+use Rattle.tsp_gateway.{proofs.AnyLemmas.places, proofs.LiftLemmas.All_same, proofs.LiftLemmas.ports_many, specs.GatewayStands.port_at, specs.Rooms.ports_in}
 use Rattle.tsp_gateway.proofs.LoopLemmas.{last_port, next_port, no_port, upset_all}
 use Rattle.tsp_gateway.proofs.RoomLemmas.{no_peers, peers_few, peers_more, peers_next}
 use Rattle.tsp_gateway.proofs.gateway.Gateway.forward.Goals as goal
@@ -14,10 +14,9 @@ loop-r-init g c = let none = no_peers (ports_in c.args.self.now) in record { row
 pub forward_on-requires : goal.forward_on-requires
 forward_on-requires g c =
     let ps = ports_in c.args.self.now in
-    let len : vec_len c.args.self.now.ports ≡ length c.args.self.now.ports.items = search rules in
-    let many = ports_many c.args.self.now in
+    let len = places c.args.self.now in
     let end = c.len-r-end.ensures in
-    let inside : c.loop-r.r < length ps = omega (arith, len, many, end, c.loop-r-test.true) in
+    let inside : c.loop-r.r < length ps = omega (arith, len, end, c.loop-r-test.true) in
     let next = peers_next c.loop-r.r ps inside in
     record { kind = c.requires.kind; port = inside; room = omega (arith, next, c.loop-r.invariant.room.spare, c.requires.room) }
 

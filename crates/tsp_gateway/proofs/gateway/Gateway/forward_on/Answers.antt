@@ -3,7 +3,7 @@ use Rattle.std.proofs.Common.{◌≡◌, ◌∙◌, ap, arith, false, refl, sym,
 use Rattle.tsp_rules.{specs.GateRows.is_awake_on, specs.GateRows.reposts, specs.GateRows.reposts_on, proofs.BuiltGate.built_reposts}
 use Rattle.tsp_rules.{specs.Guards.is_starting_role, specs.Values.Role, proofs.EmitsBuilt.emits_built}
 use Rattle.tsp_gateway.{specs.GatewayStands.port_at, proofs.PostLemmas.All_posted}
-use Rattle.tsp_gateway.proofs.AnyLemmas.{station_there, places, ports_few, station_peers}
+use Rattle.tsp_gateway.proofs.AnyLemmas.{station_there, station_peers}
 use Rattle.tsp_gateway.proofs.LiftLemmas.{All_nothing, All_same, part_there}
 use Rattle.tsp_gateway.proofs.gateway.Gateway.forward_on.Goals as goal
 
@@ -40,9 +40,3 @@ returns-then-is_awake-clause-room g c =
     let many = station_peers c.args.self.now c.args.r c.index.result.now c.station-station.result.now c.requires.port c.index.ensures c.station-station.ensures in
     let room = c.repost.ensures.room in
     record { spare = omega (arith, many, room.spare); few = omega (arith, many, room.few) }
-
-pub index-requires : goal.index-requires
-index-requires g c = let len = places c.args.self.now in omega (arith, len, c.requires.port)
-
-pub port_at-requires : goal.port_at-requires
-port_at-requires g c = let few = ports_few c.args.self.now in omega (arith, few, c.requires.port)

@@ -1,7 +1,6 @@
 -- What the port does is what the node does.
-use Rattle.std.proofs.Common.{refl, arith}
-use Rattle.tsp_gateway.proofs.LiftLemmas.{All_here, part_there}
-use Rattle.tsp_gateway.proofs.AnyLemmas.{places, ports_few, ports_set}
+use Rattle.std.proofs.Common.{refl}
+use Rattle.tsp_gateway.proofs.{AnyLemmas.ports_set, LiftLemmas.All_here, LiftLemmas.part_there}
 use Rattle.tsp_gateway.proofs.gateway.Gateway.give_up.Goals as goal
 use Rattle.tsp_rules.proofs.{BuiltGate.built_loosens_master, EmitsBuilt.emits_built}
 
@@ -13,11 +12,5 @@ returns-clause-row g c =
 pub returns-clause-ports : goal.returns-clause-ports
 returns-clause-ports g c = ports_set c.args.self.now.ports.items c.args.q c.index_mut.result.now c.loosen.new.self (part_there c.args.self.now c.args.q c.index_mut.result.now c.requires.port c.index_mut.ensures.value) c.loosen.ensures.peers
 
-pub index_mut-requires : goal.index_mut-requires
-index_mut-requires g c = let len = places c.args.self.now in omega (arith, len, c.requires.port)
-
 pub invariant_of-self : goal.invariant_of-self
 invariant_of-self g c = record { some = c.args.self.now.some; few = c.args.self.now.few; memory = c.args.self.now.memory }
-
-pub port_at-requires : goal.port_at-requires
-port_at-requires g c = let few = ports_few c.args.self.now in omega (arith, few, c.requires.port)

@@ -1,12 +1,8 @@
 -- The station says whether it heeds a peer, and whose its number is.
-use Rattle.std.proofs.Common.{◌≡◌, ◌∙◌, arith, false, refl, sym, true}
+use Rattle.std.proofs.Common.{◌≡◌, ◌∙◌, false, refl, sym, true}
 use Rattle.tsp_rules.specs.{Guards.is_heard, NodeRows.on_port}
-use Rattle.tsp_gateway.proofs.AnyLemmas.{station_there, places}
+use Rattle.tsp_gateway.{proofs.AnyLemmas.station_there, specs.GatewayStands.port_at}
 use Rattle.tsp_gateway.proofs.gateway.Gateway.hears.Goals as goal
-use Rattle.tsp_gateway.specs.GatewayStands.{port_at}
-
-pub index-requires : goal.index-requires
-index-requires c = let len = places c.args.self.now in omega (arith, len, c.requires)
 
 pub returns-then-hears : goal.returns-then-hears
 returns-then-hears c x past h =

@@ -1,11 +1,12 @@
 -- What is made of the LOOP.
-use Rattle.std.proofs.Common.{◌∙◌, arith, length, sym, ap, ◌≡◌, ℕ, ◌&&◌, nat_le, nat_lt, Bool, true, false, if◌then◌else◌, List, refl}
+use Rattle.std.proofs.Common.{◌∙◌, arith, get_or, length, sym, ap, ◌≡◌, ◌<◌, ℕ, ◌&&◌, nat_le, nat_lt, Bool, true, false, if◌then◌else◌, List, refl}
 use Rattle.tsp_rules.specs.GateRows.{Forward, GiveUp, PassOver, takes_loop_step, LoopStep, hops_in, judge, judges, one_hop_less, same_name}
-use Rattle.tsp_rules.specs.{NodeRows.nothing_at_all, NodeRows.NodePast, NodePerforms.PerformsAll, Values.Placed, Values.Port, Values.HOPS}
-use Rattle.tsp_gateway.proofs.AnyLemmas.{station_there, places, ports_few}
+use Rattle.tsp_rules.specs.{NodeRows.nothing_at_all, NodePerforms.PerformsAll, Values.Placed, Values.Port, Values.HOPS}
+use Rattle.tsp_gateway.proofs.{AnyLemmas.station_there, LiftLemmas.All_nothing, LiftLemmas.All_same}
+use Rattle.tsp_acks.specs.declared.station.Station.{Station}
+use Rattle.tsp_node.specs.declared.part.Part.{Part}
+use Rattle.tsp_gateway.specs.{GatewayStands.port_at, GatewayStands.GatewayStands, Rooms.ports_in, declared.gateway.Gateway.Gateway}
 use Rattle.tsp_gateway.proofs.gateway.Gateway.judge_loop.Goals as goal
-use Rattle.tsp_gateway.proofs.LiftLemmas.{All_nothing, All_same}
-use Rattle.tsp_gateway.specs.{declared.gateway.Gateway.Gateway, GatewayStands.port_at, GatewayStands.GatewayStands}
 use Rattle.tsp_base.specs.Words.{MessageValue}
 
 -- what a node makes of a LOOP
@@ -24,11 +25,19 @@ forward_kind own many p m next is = by_case (nat_le 2 many) (same_name m.name ow
   by_case true false c false e = let bad : ⊥ = cc in absurd bad
   by_case false b c d e = let bad : ⊥ = cc in absurd bad
 
--- a LOOP is judged
-All_judged : {x : ℕ} {g h : Gateway} {old new : List Placed} (q : ℕ) (m : MessageValue) (step : LoopStep) → ((past : NodePast) → GatewayStands past g → judge past.name (length past.ports) (port_at q) m ≡ step) →
-    PerformsAll GatewayStands GatewayStands (takes_loop_step (port_at q) step) x g h old new → PerformsAll GatewayStands GatewayStands (judges (port_at q) m) x g h old new
+-- a LOOP is judged by what the port's station and the node know
+All_judged : {x many q : ℕ} {g h : Gateway} {old new : List Placed} {part : Part} {station : Station} {p : Port} (m : MessageValue) (step : LoopStep) →
+    q < length (ports_in g) → part ≡ get_or g.ports.items q part → station ≡ part.station → many ≡ length g.ports.items → p ≡ port_at q →
+    step ≡ judge station.me.name many p m → PerformsAll GatewayStands GatewayStands (takes_loop_step (port_at q) step) x g h old new →
+    PerformsAll GatewayStands GatewayStands (judges (port_at q) m) x g h old new
 unfolding judges
-All_judged {x} q m step is d = All_same (judges (port_at q) m) (λ past h. rw (is past h) refl) d
+All_judged {many = many} {q = q} {g = g} {part = part} {station = station} {p = p} m step lt is same count e judged d =
+    All_same (judges (port_at q) m)
+    (λ past h.
+    let s = station_there past g q part station lt is same h in
+    let now = judge_same station.me.name past.name many (length past.ports) p (port_at q) m step s.name (count ∙ h.many) e judged in
+    rw now refl)
+    d
 
 pub forward-requires : goal.forward-requires
 forward-requires g c = record {
@@ -39,41 +48,18 @@ forward-requires g c = record {
 pub returns-in-PassOver-clause-row : goal.returns-in-PassOver-clause-row
 unfolding takes_loop_step nothing_at_all
 returns-in-PassOver-clause-row g c =
-    let q = c.args.q in
-    let self = c.args.self.now in
-    All_judged q c.args.m.now PassOver
-    (λ past h.
-    let s = station_there past self q c.index.result.now c.station.result.now c.requires.port c.index.ensures c.station.ensures h in
-    judge_same c.station.result.now.me.name past.name c.many.result (length past.ports) c.port_at.result (port_at q) c.args.m.now PassOver s.name (c.many.ensures ∙ h.many) c.port_at.ensures (c.in-PassOver.ensures))
-    All_nothing
+    All_judged c.args.m.now PassOver c.requires.port c.index.ensures c.station.ensures c.many.ensures c.port_at.ensures c.in-PassOver.ensures All_nothing
 
 pub returns-in-GiveUp-clause-row : goal.returns-in-GiveUp-clause-row
 unfolding takes_loop_step
 returns-in-GiveUp-clause-row g c =
-    let q = c.args.q in
-    let self = c.args.self.now in
-    All_judged q c.args.m.now GiveUp
-    (λ past h.
-    let s = station_there past self q c.index.result.now c.station.result.now c.requires.port c.index.ensures c.station.ensures h in
-    judge_same c.station.result.now.me.name past.name c.many.result (length past.ports) c.port_at.result (port_at q) c.args.m.now GiveUp s.name (c.many.ensures ∙ h.many) c.port_at.ensures (c.in-GiveUp.ensures))
-    c.give_up.ensures.row
+    All_judged c.args.m.now GiveUp c.requires.port c.index.ensures c.station.ensures c.many.ensures c.port_at.ensures c.in-GiveUp.ensures c.give_up.ensures.row
 
 pub returns-in-Forward-clause-row : goal.returns-in-Forward-clause-row
 unfolding takes_loop_step
 returns-in-Forward-clause-row g c =
-    let q = c.args.q in
-    let self = c.args.self.now in
-    All_judged q c.args.m.now (Forward c.in-Forward.next)
-    (λ past h.
-    let s = station_there past self q c.index.result.now c.station.result.now c.requires.port c.index.ensures c.station.ensures h in
-    judge_same c.station.result.now.me.name past.name c.many.result (length past.ports) c.port_at.result (port_at q) c.args.m.now (Forward c.in-Forward.next) s.name (c.many.ensures ∙ h.many) c.port_at.ensures (c.in-Forward.ensures))
+    All_judged c.args.m.now (Forward c.in-Forward.next) c.requires.port c.index.ensures c.station.ensures c.many.ensures c.port_at.ensures c.in-Forward.ensures
     (c.forward.ensures.row c.args.tick)
-
-pub index-requires : goal.index-requires
-index-requires g c = let len = places c.args.self.now in omega (arith, len, c.requires.port)
-
-pub port_at-requires : goal.port_at-requires
-port_at-requires g c = let few = ports_few c.args.self.now in omega (arith, few, c.requires.port)
 
 pub judge-requires : goal.judge-requires
 judge-requires g c = c.requires.kind

@@ -5,7 +5,7 @@ use Rattle.tsp_base.specs.Words.{puts}
 use Rattle.tsp_rules.{proofs.Emits.Emits_puts, specs.Values.Took}
 use Rattle.tsp_node.specs.NodeStands.{TakeStands, port_with}
 use Rattle.tsp_node.proofs.NodeLemmas.{PortTook_took, Performs_put}
-use Rattle.tsp_gateway.proofs.{LiftLemmas.All_idle, AnyLemmas.ports_few}
+use Rattle.tsp_gateway.proofs.LiftLemmas.{All_idle}
 use Rattle.tsp_gateway.proofs.gateway.Gateway.note.Goals as goal
 
 pub returns-clause-row : goal.returns-clause-row
@@ -24,6 +24,3 @@ pub returns-clause-room : goal.returns-clause-room
 returns-clause-room g c =
     let one = ap length c.put.ensures.acts ∙ length-append (g.D.Desk.acts c.args.desk.now) _ in
     record { spare = omega (arith, c.put.ensures.spare); few = omega (arith, one) }
-
-pub port_at-requires : goal.port_at-requires
-port_at-requires g c = let few = ports_few c.args.self.now in omega (arith, few, c.requires.port)

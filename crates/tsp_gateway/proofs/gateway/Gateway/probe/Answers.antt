@@ -2,11 +2,10 @@
 use Rattle.std.proofs.Common.{◌+◌, ◌∙◌, arith, false, refl, sym, true, ap}
 use Rattle.tsp_rules.specs.{Answers.rings, GateRows.alarm_on, Values.Probe}
 use Rattle.tsp_rules.{specs.NodeRows.on, specs.NodeRows.spread, proofs.BuiltGate.built_sends_loops, proofs.EmitsBuilt.emits_built}
-use Rattle.tsp_gateway.specs.GatewayStands.{GatewayStands, port_at}
-use Rattle.tsp_gateway.proofs.gateway.Gateway.probe.Goals as goal
-use Rattle.tsp_gateway.{specs.Rooms.peers_at, proofs.LiftLemmas.All_from}
-use Rattle.tsp_gateway.proofs.TurnLemmas.{All_turning, All_looped, All_loopless, no_loops, not_last}
 use Rattle.tsp_gateway.proofs.gateway.Gateway.probe.Goals.{else-rung-via-then-rung+else-ends_probes, else-rung-via-else-rung}
+use Rattle.tsp_gateway.proofs.TurnLemmas.{All_turning, All_looped, All_loopless, no_loops, not_last}
+use Rattle.tsp_gateway.{specs.GatewayStands.GatewayStands, specs.GatewayStands.port_at, proofs.LiftLemmas.All_from, specs.Rooms.peers_at}
+use Rattle.tsp_gateway.proofs.gateway.Gateway.probe.Goals as goal
 
 pub returns-then-ends_probes-clause-row : goal.returns-then-ends_probes-clause-row
 unfolding alarm_on

@@ -5,62 +5,37 @@ use Rattle.tsp_gateway.specs.{GatewayStands.port_at, Rooms.peers_at, Rooms.ports
 use Rattle.tsp_gateway.proofs.{AlarmsLemmas.little_room, LiftLemmas.All_reading, TurnLemmas.alarm_alone}
 use Rattle.tsp_gateway.proofs.gateway.Gateway.ring_alarm.Goals as goal
 
-pub probe-requires-clause-port : goal.probe-requires-clause-port
-probe-requires-clause-port g c = c.requires.port
+pub probe-requires : goal.probe-requires
+probe-requires g c =
+    let room = rw c.in-Probe.is at c.requires.room in
+    record { port = c.requires.port; room = omega (arith, room); tick = c.requires.tick; later = c.requires.later }
 
-pub probe-requires-clause-room : goal.probe-requires-clause-room
-probe-requires-clause-room g c = let room = rw c.in-Probe.is at c.requires.room in omega (arith, room)
+pub close-requires : goal.close-requires
+close-requires g c =
+    let room = rw c.in-Close.is at c.requires.room in
+    record { port = c.requires.port; room = omega (arith, room); tick = c.requires.tick; later = c.requires.later; order = c.requires.order c.in-Close.is }
 
-pub probe-requires-clause-tick : goal.probe-requires-clause-tick
-probe-requires-clause-tick g c = c.requires.tick
+pub returns-in-Probe : goal.returns-in-Probe
+returns-in-Probe g c =
+    let room = c.probe.ensures.room in
+    record {
+      row = rw c.in-Probe.is c.probe.ensures.row;
+      over = λ e. c.probe.ensures.over;
+      ports = c.probe.ensures.ports;
+      clock = c.probe.ensures.clock;
+      room = rw c.in-Probe.is (record { spare = omega (arith, room.spare); few = omega (arith, room.few) });
+    }
 
-pub probe-requires-clause-later : goal.probe-requires-clause-later
-probe-requires-clause-later g c = c.requires.later
-
-pub close-requires-clause-port : goal.close-requires-clause-port
-close-requires-clause-port g c = c.requires.port
-
-pub close-requires-clause-room : goal.close-requires-clause-room
-close-requires-clause-room g c = let room = rw c.in-Close.is at c.requires.room in omega (arith, room)
-
-pub close-requires-clause-tick : goal.close-requires-clause-tick
-close-requires-clause-tick g c = c.requires.tick
-
-pub close-requires-clause-later : goal.close-requires-clause-later
-close-requires-clause-later g c = c.requires.later
-
-pub close-requires-clause-order : goal.close-requires-clause-order
-close-requires-clause-order g c = c.requires.order c.in-Close.is
-
-pub returns-in-Probe-clause-row : goal.returns-in-Probe-clause-row
-returns-in-Probe-clause-row g c = rw c.in-Probe.is c.probe.ensures.row
-
-pub returns-in-Probe-clause-over : goal.returns-in-Probe-clause-over
-returns-in-Probe-clause-over g c = λ e. c.probe.ensures.over
-
-pub returns-in-Probe-clause-ports : goal.returns-in-Probe-clause-ports
-returns-in-Probe-clause-ports g c = c.probe.ensures.ports
-
-pub returns-in-Probe-clause-clock : goal.returns-in-Probe-clause-clock
-returns-in-Probe-clause-clock g c = c.probe.ensures.clock
-
-pub returns-in-Probe-clause-room : goal.returns-in-Probe-clause-room
-returns-in-Probe-clause-room g c = let room = c.probe.ensures.room in rw c.in-Probe.is (record { spare = omega (arith, room.spare); few = omega (arith, room.few) })
-
-pub returns-in-Close-clause-row : goal.returns-in-Close-clause-row
-returns-in-Close-clause-row g c = rw c.in-Close.is c.close.ensures.row
-
-pub returns-in-Close-clause-over : goal.returns-in-Close-clause-over
-returns-in-Close-clause-over g c = λ e. let same : CloseAlarm ≡ Probe = sym c.in-Close.is ∙ e in let bad : ⊥ = cc in absurd bad
-
-pub returns-in-Close-clause-ports : goal.returns-in-Close-clause-ports
-returns-in-Close-clause-ports g c = c.close.ensures.ports
-
-pub returns-in-Close-clause-clock : goal.returns-in-Close-clause-clock
-returns-in-Close-clause-clock g c = c.close.ensures.clock
-
-pub returns-in-Close-clause-room : goal.returns-in-Close-clause-room
-returns-in-Close-clause-room g c = let room = c.close.ensures.room in rw c.in-Close.is (record { spare = omega (arith, room.spare); few = omega (arith, room.few) })
+pub returns-in-Close : goal.returns-in-Close
+returns-in-Close g c =
+    let room = c.close.ensures.room in
+    record {
+      row = rw c.in-Close.is c.close.ensures.row;
+      over = λ e. let same : CloseAlarm ≡ Probe = sym c.in-Close.is ∙ e in let bad : ⊥ = cc in absurd bad;
+      ports = c.close.ensures.ports;
+      clock = c.close.ensures.clock;
+      room = rw c.in-Close.is (record { spare = omega (arith, room.spare); few = omega (arith, room.few) });
+    }
 
 pub any_other-wait-requires : goal.any_other-wait-requires
 any_other-wait-requires g c = c.requires.port

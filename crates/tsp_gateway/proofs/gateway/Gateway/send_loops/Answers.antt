@@ -2,10 +2,9 @@
 use Rattle.std.proofs.Common.{◌≡◌, ◌∙◌, ap, arith, refl}
 use Rattle.tsp_base.specs.Words.{carries_hops, carries_time, MessageValue, body_fits, others}
 use Rattle.tsp_acks.specs.declared.station.Station.{Station}
-use Rattle.tsp_gateway.proofs.{LiftLemmas.part_there, PostLemmas.All_posted, PostLemmas.loops_are}
-use Rattle.tsp_gateway.proofs.AnyLemmas.{places, ports_few, station_peers}
+use Rattle.tsp_gateway.proofs.{AnyLemmas.ports_few, AnyLemmas.station_peers, PostLemmas.All_posted, PostLemmas.loops_are}
+use Rattle.tsp_gateway.{proofs.LiftLemmas.part_there, specs.GatewayStands.port_at}
 use Rattle.tsp_gateway.proofs.gateway.Gateway.send_loops.Goals as goal
-use Rattle.tsp_gateway.specs.GatewayStands.{port_at}
 use Rattle.tsp_rules.{proofs.BuiltGate.built_sends_loops, proofs.EmitsBuilt.emits_built, specs.GateRows.sends_loops, specs.Values.LoopKind}
 
 pub new-message-requires : goal.new-message-requires
@@ -33,12 +32,6 @@ returns-clause-room g c =
     let many = station_peers c.args.self.now c.args.q c.index.result.now c.station-station.result.now c.requires.port c.index.ensures c.station-station.ensures in
     let room = c.repost.ensures.room in
     record { spare = omega (arith, many, room.spare); few = omega (arith, many, room.few) }
-
-pub index-requires : goal.index-requires
-index-requires g c = let len = places c.args.self.now in omega (arith, len, c.requires.port)
-
-pub port_at-requires : goal.port_at-requires
-port_at-requires g c = let few = ports_few c.args.self.now in omega (arith, few, c.requires.port)
 
 pub overflow_cast-q : goal.overflow_cast-q
 overflow_cast-q g c = let few = ports_few c.args.self.now in omega (arith, few, c.requires.port)

@@ -8,16 +8,6 @@ use Rattle.tsp_gateway.proofs.LiftLemmas.{All_nothing, All_reading, All_row}
 use Rattle.tsp_gateway.proofs.TakeLemmas.{loop_on, message_on, message_taken_on, other_on}
 use Rattle.tsp_gateway.proofs.gateway.Gateway.take_in.Goals as goal
 
-pub returns-then-hears-clause-row : goal.returns-then-hears-clause-row
-unfolding takes_loop heeds_loop
-returns-then-hears-clause-row g c =
-    let q = port_at c.args.q in
-    let m = c.in-Good-Message.m in
-    let is : c.args.taken.now ≡ Good (Message m) = search rules in
-    let kind : m.kind ≡ LoopKind = sym c.kind.ensures ∙ c.in-Loop.is in
-    All_row (loop_on q c.args.from m ∙ ap (takes_kind q c.args.from m) (sym kind) ∙ message_taken_on q c.args.from m ∙ ap (takes_on q c.args.from) (sym is))
-    (All_then (rw is at c.note.ensures.row) (All_reading (hears_on c.args.from q) (heeds_loop q m) true (λ past h. sym (c.hears.ensures c.args.tick past h) ∙ c.if-hears.true) c.judge_loop.ensures.row))
-
 pub returns-else-hears-clause-row : goal.returns-else-hears-clause-row
 unfolding takes_loop heeds_loop nothing_at_all
 returns-else-hears-clause-row g c =
@@ -47,18 +37,25 @@ judge_loop-requires-clause-port g c = rw c.note.ensures.ports c.requires.port
 pub judge_loop-requires-clause-room : goal.judge_loop-requires-clause-room
 judge_loop-requires-clause-room g c = omega (arith, ap peers_sum c.note.ensures.ports, c.note.ensures.room.spare, c.requires.room)
 
-pub returns-then-hears-clause-ports : goal.returns-then-hears-clause-ports
-returns-then-hears-clause-ports g c = c.judge_loop.ensures.ports ∙ c.note.ensures.ports
-
-pub returns-then-hears-clause-clock : goal.returns-then-hears-clause-clock
-returns-then-hears-clause-clock g c = rw (c.judge_loop.ensures.clock, c.note.ensures.clock) c.requires.tick.1
-
-pub returns-then-hears-clause-room : goal.returns-then-hears-clause-room
-returns-then-hears-clause-room g c =
+pub returns-then-hears : goal.returns-then-hears
+unfolding takes_loop heeds_loop
+returns-then-hears g c =
+    let q = port_at c.args.q in
+    let m = c.in-Good-Message.m in
+    let is : c.args.taken.now ≡ Good (Message m) = search rules in
+    let kind : m.kind ≡ LoopKind = sym c.kind.ensures ∙ c.in-Loop.is in
     let same = ap peers_sum c.note.ensures.ports in
     let note = c.note.ensures.room in
     let judge = c.judge_loop.ensures.room in
-    record { spare = omega (arith, same, note.spare, judge.spare); few = omega (arith, same, note.few, judge.few) }
+    record {
+      row = All_row (loop_on q c.args.from m ∙ ap (takes_kind q c.args.from m) (sym kind) ∙ message_taken_on q c.args.from m ∙ ap (takes_on q c.args.from)
+          (sym is))
+          (All_then (rw is at c.note.ensures.row) (All_reading (hears_on c.args.from q) (heeds_loop q m) true
+          (λ past h. sym (c.hears.ensures c.args.tick past h) ∙ c.if-hears.true) c.judge_loop.ensures.row));
+      ports = c.judge_loop.ensures.ports ∙ c.note.ensures.ports;
+      clock = rw (c.judge_loop.ensures.clock, c.note.ensures.clock) c.requires.tick.1;
+      room = record { spare = omega (arith, same, note.spare, judge.spare); few = omega (arith, same, note.few, judge.few) };
+    }
 
 pub returns-else-hears-clause-room : goal.returns-else-hears-clause-room
 returns-else-hears-clause-room g c = let note = c.note.ensures.room in record { spare = omega (arith, note.spare); few = omega (arith, note.few) }

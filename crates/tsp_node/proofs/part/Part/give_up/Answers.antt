@@ -2,8 +2,7 @@
 use Rattle.std.proofs.Common.{sym, ◌∙◌, ap, arith, length, refl, ◌≡◌, ℕ, true, false, List, [], ◌∷◌, ◌++◌}
 use Rattle.std.proofs.lemmas.List.{length-append}
 use Rattle.tsp_node.proofs.PartLemmas.{still_alike}
-use Rattle.tsp_rules.specs.Values.{Leave, Placed, Kind, PeerId, Port}
-use Rattle.tsp_rules.specs.{Guards.is_slave_at, SendRows.leaves_after}
+use Rattle.tsp_rules.specs.{Values.Leave, Values.Placed, Values.Kind, Values.PeerId, Values.Port, SendRows.leaves_after, Guards.is_slave_at}
 use Rattle.tsp_base.specs.Words.{Past, Performs, in_table, grown, nothing, puts, is_correction}
 use Rattle.tsp_base.proofs.PerformsLemmas.{Performs_else_part, Performs_nothing, Performs_then_part}
 use Rattle.tsp_master.specs.{MasterStands.MasterStands, declared.master.Master.Master}

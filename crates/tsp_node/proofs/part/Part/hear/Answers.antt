@@ -4,12 +4,11 @@ use Rattle.tsp_base.specs.Words.{nothing}
 use Rattle.tsp_rules.proofs.{Emits.Acking, Emits.Emits_either, Emits.Emits_more, Emits.Emits_nothing, BuiltShared.client_sorts}
 use Rattle.tsp_rules.{proofs.BuiltAnswers.date_sorts, specs.Answers.is_left}
 use Rattle.tsp_slave.proofs.TellLemmas.{tells_nothing, tells_still}
-use Rattle.tsp_node.specs.declared.audience.Audience.TheVariants.{OfClients, OfDates, OfNode, OfRoles, OfSends}
-use Rattle.tsp_node.{specs.Audiences.audience_of, specs.NodeStands.traced_with, proofs.NodeLemmas.took_beside, proofs.NodeLemmas.took_pass}
-use Rattle.tsp_node.proofs.TakeEmits.{emits_clients, emits_dates, emits_says}
-use Rattle.tsp_node.proofs.part.Part.hear.Goals as goal
-use Rattle.tsp_node.proofs.StillTakes.{emits_ack}
 use Rattle.tsp_node.proofs.HearLemmas.{audience_node, audience_roles, audience_sends, handles_ack, kept_unless, Performs_never_left}
+use Rattle.tsp_node.specs.declared.audience.Audience.TheVariants.{OfClients, OfDates, OfNode, OfRoles, OfSends}
+use Rattle.tsp_node.{proofs.TakeEmits.emits_clients, proofs.TakeEmits.emits_dates, proofs.TakeEmits.emits_says, specs.Audiences.audience_of}
+use Rattle.tsp_node.{proofs.NodeLemmas.took_beside, proofs.NodeLemmas.took_pass, specs.NodeStands.traced_with, proofs.StillTakes.emits_ack}
+use Rattle.tsp_node.proofs.part.Part.hear.Goals as goal
 
 pub returns-in-OfClients-clause-row : goal.returns-in-OfClients-clause-row
 returns-in-OfClients-clause-row g c =

@@ -10,8 +10,7 @@ use Rattle.tsp_master.specs.MasterTakes.{master_takes_here}
 use Rattle.tsp_resolve.proofs.ResolveLemmas.{Performs_resolving}
 use Rattle.tsp_node.proofs.HearLemmas.{master_conflict, master_masterack, master_masterup, master_quit, master_takes-other, roles_other}
 use Rattle.tsp_node.proofs.NodeLemmas.{Performs_led, Performs_resolved, Performs_took}
-use Rattle.tsp_node.proofs.PartLemmas.{as_many, still_alike}
-use Rattle.tsp_node.proofs.TakeEmits.{built_master_takes_here}
+use Rattle.tsp_node.proofs.{TakeEmits.built_master_takes_here, PartLemmas.as_many, PartLemmas.still_alike}
 use Rattle.tsp_node.proofs.part.Part.hear_as_master.Goals as goal
 
 pub returns-in-Quit-clause-row : goal.returns-in-Quit-clause-row

@@ -21,15 +21,6 @@ returns-in_default-clause-row g c =
     let m = c.args.m.now in
     Performs_either_way (is_left c.args.terms.steer m.kind) nothing (from_peer from (peer_says m)) Performs_pass (Performs_unheard from (peer_says m) (sym c.in_default.ensures))
 
-pub candidate_take-requires-clause-peer : goal.candidate_take-requires-clause-peer
-candidate_take-requires-clause-peer g c = heard_peer c.args.self.now.station c.args.from c.in-Some.p (sym c.in-Some.ensures)
-
-pub hear_as_master-requires-clause-peer : goal.hear_as_master-requires-clause-peer
-hear_as_master-requires-clause-peer g c = heard_peer c.args.self.now.station c.args.from c.in-Some.p (sym c.in-Some.ensures)
-
-pub slave_hear-requires-clause-peer : goal.slave_hear-requires-clause-peer
-slave_hear-requires-clause-peer g c = heard_peer c.args.self.now.station c.args.from c.in-Some.p (sym c.in-Some.ensures)
-
 pub returns-in-Candidate-clause-row : goal.returns-in-Candidate-clause-row
 unfolding peer_says says_in
 returns-in-Candidate-clause-row g c =
@@ -112,35 +103,30 @@ returns-else-leaves-clause-corrects g c past h =
     let from = is_from c.args.self.now.station c.args.from p (sym c.in-Some.ensures) in
     c.slave_hear.ensures.corrects past (taken past.seen) (took_of c.args.from p m past _ from h) (took_slave _ past _ h)
 
-pub candidate_take-requires-clause-room : goal.candidate_take-requires-clause-room
-candidate_take-requires-clause-room g c = omega (arith, c.requires.room)
+pub candidate_take-requires : goal.candidate_take-requires
+candidate_take-requires g c = record {
+  tick = c.requires.tick;
+  room = omega (arith, c.requires.room);
+  peer = heard_peer c.args.self.now.station c.args.from c.in-Some.p (sym c.in-Some.ensures);
+}
 
-pub candidate_take-requires-clause-tick : goal.candidate_take-requires-clause-tick
-candidate_take-requires-clause-tick g c = c.requires.tick
+pub slave_hear-requires : goal.slave_hear-requires
+slave_hear-requires g c = record {
+  tick = c.requires.tick;
+  later = c.requires.later;
+  room = omega (arith, c.requires.room);
+  peer = heard_peer c.args.self.now.station c.args.from c.in-Some.p (sym c.in-Some.ensures);
+}
 
-pub slave_hear-requires-clause-room : goal.slave_hear-requires-clause-room
-slave_hear-requires-clause-room g c = omega (arith, c.requires.room)
-
-pub slave_hear-requires-clause-tick : goal.slave_hear-requires-clause-tick
-slave_hear-requires-clause-tick g c = c.requires.tick
-
-pub hear_as_master-requires-clause-room : goal.hear_as_master-requires-clause-room
-hear_as_master-requires-clause-room g c = c.requires.room
-
-pub hear_as_master-requires-clause-tick : goal.hear_as_master-requires-clause-tick
-hear_as_master-requires-clause-tick g c = c.requires.tick
-
-pub slave_hear-requires-clause-later : goal.slave_hear-requires-clause-later
-slave_hear-requires-clause-later g c = c.requires.later
-
-pub hear_as_master-requires-clause-later : goal.hear_as_master-requires-clause-later
-hear_as_master-requires-clause-later g c = c.requires.later
-
-pub hear_as_master-requires-clause-audience : goal.hear_as_master-requires-clause-audience
-hear_as_master-requires-clause-audience g c = c.requires.audience
-
-pub hear_as_master-requires-clause-role : goal.hear_as_master-requires-clause-role
-hear_as_master-requires-clause-role g c = c.in-Master.is
+pub hear_as_master-requires : goal.hear_as_master-requires
+hear_as_master-requires g c = record {
+  room = c.requires.room;
+  tick = c.requires.tick;
+  later = c.requires.later;
+  peer = heard_peer c.args.self.now.station c.args.from c.in-Some.p (sym c.in-Some.ensures);
+  role = c.in-Master.is;
+  audience = c.requires.audience;
+}
 
 pub returns-in_default-clause-room : goal.returns-in_default-clause-room
 returns-in_default-clause-room g c = record { spare = omega arith; few = omega arith }

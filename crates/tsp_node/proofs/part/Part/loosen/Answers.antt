@@ -8,9 +8,8 @@ use Rattle.tsp_date.proofs.KeepLemmas.{DatesStand_by}
 use Rattle.tsp_master.specs.Clearing.{Clears}
 use Rattle.tsp_acks.specs.declared.station.Station.{Station}
 use Rattle.tsp_node.proofs.NodeLemmas.{Performs_station, rivals_part, same_part, slaves_part}
-use Rattle.tsp_node.{proofs.PartLemmas.still_alike, specs.NodeStands.port_with}
+use Rattle.tsp_node.{proofs.PartLemmas.still_alike, specs.NodeStands.port_with, specs.Unmarking.Unmarks}
 use Rattle.tsp_node.proofs.part.Part.loosen.Goals as goal
-use Rattle.tsp_node.specs.Unmarking.{Unmarks}
 
 pub returns-then-leads-clause-row : goal.returns-then-leads-clause-row
 unfolding loosens_master yields

@@ -1,6 +1,6 @@
 -- What nothing refuses keeps the promises.
 use Rattle.std.specs.Prelude.{◌∷◌}
-use Rattle.tsp_run.proofs.{RunPremises.runs-keep-premises, RunPromises.runs-keep-promises}
+use Rattle.tsp_run.proofs.{RunPremises.runs_keep_premises, RunPromises.runs-keep-promises}
 use Rattle.tsp_world.proofs.{Occurrences.comes-so, WorldLemmas.accepted}
 use Rattle.tsp_world.proofs.world.World.event.Goals as goal
 
@@ -12,4 +12,4 @@ returns-clause-promises c = λ header events setting w set.
 pub returns-clause-premises : goal.returns-clause-premises
 returns-clause-premises c = λ header events w.
     comes-so c.args.e.now c.args.self.now c.occur.new.self c.occur.result _ c.occur.ensures header events w
-    (λ now. runs-keep-premises header (c.args.e.now ∷ events) (accepted header (c.args.e.now ∷ events) c.occur.new.self now))
+    (λ now. runs_keep_premises header (c.args.e.now ∷ events) (accepted header (c.args.e.now ∷ events) c.occur.new.self now))

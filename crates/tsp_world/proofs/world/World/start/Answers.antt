@@ -4,10 +4,9 @@ use Rattle.std.proofs.Math.ListN.{set}
 use Rattle.tsp_base.specs.Words.{tick_at}
 use Rattle.tsp_gateway.specs.GateConfigs.{AreGatePorts, GateBootsNot, GateConfigValue, UnbootedNode, peers_of_ports}
 use Rattle.tsp_rules.specs.{GateRows.boots_all, NodePerforms.PerformsAll, NodeRows.NodePast, NodeRows.in_node_step, Values.BootAt}
-use Rattle.tsp_run.specs.{Networks.networks, Networks.ports_on, Setup.node_line, Setup.past_of}
-use Rattle.tsp_run.specs.Run.{boot_step, run, joins, steps, step_tick}
+use Rattle.tsp_run.specs.{Run.boot_step, Run.run, Run.joins, Run.steps, Run.step_tick, Networks.networks, Networks.ports_on}
+use Rattle.tsp_run.{specs.Setup.node_line, specs.Setup.past_of, proofs.NetworkLemmas.some_same, proofs.BootLemmas.boots-up}
 use Rattle.tsp_world.specs.{Configs.config_of, NodesReady.NodeReady, WorldStands.Notes, WorldStands.PlaceStands}
-use Rattle.tsp_run.proofs.{BootLemmas.boots-up, NetworkLemmas.some_same}
 use Rattle.tsp_world.proofs.ReadyLemmas.{AreDues-acted, NodesReady-later, NodesReady-set}
 use Rattle.tsp_gateway.{proofs.LiftLemmas.set_cases, specs.GatewayStands.GatewayStands}
 use Rattle.tsp_networks.{proofs.MemberLemmas.room-many, proofs.MemberLemmas.some_port, specs.Sheets.acts_on}
