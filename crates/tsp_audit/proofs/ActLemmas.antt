@@ -1,17 +1,17 @@
 -- Sends that are taken, and sends that are acknowledged, by the list of those of which Corrects have taken posts.
-use Rattle.std.proofs.Common.{sym, ap, subst, subst₂, ◌∙◌, inl, inr, true≢false, eqb-true, eq-eqb, ◌≡◌, ℕ, Bool, true, false, not, List, [], ◌∷◌, ◌++◌, ◌||◌, ◌==◌, refl, MatchBool, MatchOption, Option, None, Some}
+use Rattle.std.proofs.Common.{sym, ap, subst, ◌∙◌, inl, inr, true≢false, eqb-true, eq-eqb, ◌≡◌, ℕ, Bool, true, false, not, List, [], ◌∷◌, ◌++◌, ◌||◌, ◌==◌}
+use Rattle.std.proofs.Common.{refl, MatchBool, MatchOption, Option, None, Some}
 use Rattle.std.proofs.lemmas.{Bool.or_left, List.Folds.list_any-append}
 use Rattle.tsp_rules.specs.Values.{Post, Acked, Message, PeerId, Peer}
 use Rattle.tsp_base.specs.Words.{Acts, Did, Here, Line, Seen, of, view, MessageValue, Within, is_correction, is_numbered, open_to, peer_of}
-use Rattle.tsp_promises.specs.{Everywhere.Everywhere, Fits.node_of, Setting.Setting}
-use Rattle.tsp_promises.specs.Once.{ConfirmedAt, ObeysAt, OfSend, OnceAt, SpacedAt}
+use Rattle.tsp_promises.specs.{Everywhere.Everywhere, Fits.node_of, Setting.Setting, Once.ConfirmedAt, Once.ObeysAt, Once.OfSend, Once.OnceAt, Once.SpacedAt}
 use Rattle.tsp_promises.proofs.{EverywhereLemmas.Everywhere-at, EverywhereLemmas.Everywhere-from, SendProof.opened}
 use Rattle.tsp_base.proofs.PlaceLemmas.{Within-all, Within-tail, Within-through}
 use Rattle.tsp_audit.proofs.SendPlaces.{one-number, one-place, send-number, takes-one}
 use Rattle.tsp_audit.specs.Acting.{ActedIs, ActsAt, Corrects, TakenIn, TakesAs, TakesSend, TakesWell, is_in, is_unknown, with_send}
 use Rattle.tsp_audit.specs.{Parts.ActsOnce, Parts.AllKept, declared.premises.Premises.Premises}
 use Rattle.tsp_history.specs.PostedPlaces.{PostedAt}
-use Rattle.tsp_audit.proofs.Alike.{acked-same, first-same, here-same, message-same, none-first, peer-same, rest-same}
+use Rattle.tsp_audit.proofs.Alike.{acked-same, carry, here-same, message-same, none-first, peer-same}
 
 -- what is among some numbers isn't one that isn't
 parted : (k s : ℕ) (acted : List ℕ) → k ≡ s → is_in k acted ≡ true → is_in s acted ≡ false → ⊥
@@ -65,10 +65,7 @@ taken-more l h s x = record { correct = x.correct; past = x.past; place = inr x.
 pub acted-same : (l : Line) (h : List Line) (acted : List ℕ) → ActedIs h acted → ((s : ℕ) → TakesSend l h s → ⊥) → ActedIs (l ∷ h) acted
 acted-same l h acted a bad = record { sound = λ s i. taken-more l h s (a.sound s i); complete = all } where
   all : (c : Line) (past : List Line) (s : ℕ) → Within (c ∷ past) (l ∷ h) → TakesSend c past s → is_in s acted ≡ true
-  all c past s (inl e) t =
-      let line : c ≡ l = first-same e in
-      let rest : past ≡ h = rest-same e in
-      absurd (bad s (subst₂ (λ (k : Line) (p : List Line). TakesSend k p s) line rest t))
+  all c past s (inl e) t = absurd (bad s (carry (λ (k : Line) (p : List Line). TakesSend k p s) e t))
   all c past s (inr w) t = a.complete c past s w t
 
 in-more : (t s : ℕ) (acted : List ℕ) → is_in t (acted ++ s ∷ []) ≡ (is_in t acted || ((s == t) || false))
@@ -94,9 +91,7 @@ acted-more l h acted s a t = record { sound = λ k i. known k (is_in k acted) re
 
   all : (c : Line) (past : List Line) (k : ℕ) → Within (c ∷ past) (l ∷ h) → TakesSend c past k → is_in k (acted ++ s ∷ []) ≡ true
   all c past k (inl e) u =
-      let line : c ≡ l = first-same e in
-      let rest : past ≡ h = rest-same e in
-      let same : s ≡ k = takes-one l h s k t (subst₂ (λ (i : Line) (p : List Line). TakesSend i p k) line rest u) in
+      let same : s ≡ k = takes-one l h s k t (carry (λ (i : Line) (p : List Line). TakesSend i p k) e u) in
       in-more k s acted ∙ right (is_in k acted) (s == k) (eq-eqb s k same)
   all c past k (inr w) u = in-more k s acted ∙ or_left (is_in k acted) ((s == k) || false) (a.complete c past k w u)
 

@@ -9,7 +9,7 @@ use Rattle.tsp_audit.specs.Agreeing.{AgreementIs, AfterAs, AfterIs, AllAgree, Bo
 use Rattle.tsp_audit.specs.{Settings.HasClocks, declared.agreement_tracker.AgreementTracker.AgreementTracker}
 use Rattle.tsp_audit.specs.declared.round_correction.{NodeState.NodeState, RoundCorrection.RoundCorrection}
 use Rattle.tsp_audit.proofs.{FromRoundLemmas.from_round-one, StateLemmas.last-one}
-use Rattle.tsp_audit.proofs.Alike.{first-same, rest-same}
+use Rattle.tsp_audit.proofs.Alike.{carry, first-same, rest-same}
 
 -- places with as many entries before them are one
 pub place-one : (a b : Line) (s t h : List Line) → Within (a ∷ s) h → Within (b ∷ t) h → length s ≡ length t → a ∷ s ≡ b ∷ t
@@ -47,10 +47,7 @@ found n h (Some k) a m close cpast c past r older e from_round node u =
     let same : a.correct ∷ a.past ≡ c ∷ past =
     last-one n a.correct c a.past past h a.is.from_round.acts.amount from_round.acts.amount a.is.from_round.acts.stepped from_round.acts.stepped a.is.from_round.acts.shown from_round.acts.shown a.node node a.is.from_round.acts.correct from_round.acts.correct a.unchanged.within u.within
     a.unchanged.since.corrects u.since.corrects in
-    let line : a.correct ≡ c = first-same same in
-    let rest : a.past ≡ past = rest-same same in
-    let mine : FromRound k.master a.is.close a.is.cpast c past a.is.reading a.is.older k.err =
-    subst₂ (λ (i : Line) (p : List Line). FromRound k.master a.is.close a.is.cpast i p a.is.reading a.is.older k.err) line rest a.is.from_round in
+    let mine = carry (λ (i : Line) (p : List Line). FromRound k.master a.is.close a.is.cpast i p a.is.reading a.is.older k.err) same a.is.from_round in
     let one = from_round-one c past k.master m a.is.close close a.is.cpast cpast a.is.reading r a.is.older older k.err e mine from_round in
     let past_is : a.is.cpast ≡ cpast = rest-same one.rounds.closes in
     let reading : a.is.reading ≡ r = first-same one.rounds.reading in
@@ -71,6 +68,17 @@ clock-kept header setting n h s t has is =
     let own : shown_by header n s.moved t ≡ shown_by header n (moved (dids (of n h))) t = ap (λ (z : ℤ). shown_by header n z t) is.moved_is in
     own ∙ subst₂ (λ (w r : ℤ). shown_by header n (moved (dids (of n h))) t ≡ (w +ℤ moved (dids (of n h))) +ℤ pos (tick_at r t)) (sym (has.wall_is n)) (sym (has.rate_is n)) refl
 
+-- the state that is read where none stands
+abbrev pub no_state : NodeState
+no_state = record { moved = pos 0; lives = 0; corrects = 0; after = None; from_round = None }
+
+-- what stands at an index is what stands there
+pub here-at : (states : List NodeState) (i : ℕ) → i < length states → IsAtPlace states i (get_or states i no_state)
+here-at states i lt = record { below = lt; is = get_or_default states i (get_or states i no_state) no_state lt }
+
+pub state-at : (states : List NodeState) (i k : ℕ) (b : NodeState) → IsAtPlace states k b → i ≡ k → get_or states i no_state ≡ b
+state-at states i k b at e = get_or_default states i no_state b (omega (arith, e, at.below)) ∙ (ap (λ (j : ℕ). get_or states j b) e ∙ at.is)
+
 -- a node of a history has a state
 pub record Kept (states : List NodeState) (n : ℕ) (h : List Line) : Type 0 where
   pub state : NodeState
@@ -79,11 +87,8 @@ pub record Kept (states : List NodeState) (n : ℕ) (h : List Line) : Type 0 whe
 
 kept : (count : ℕ) (h : List Line) (a : AgreementTracker) (n : ℕ) → AgreementIs count h a → n < count → Kept a.nodes.items n h
 kept count h a n is lt =
-    let below : n < length a.nodes.items = omega (arith, lt, is.many) in
-    let none : NodeState = record { moved = pos 0; lives = 0; corrects = 0; after = None; from_round = None } in
-    let state : NodeState = get_or a.nodes.items n none in
-    let at : IsAtPlace a.nodes.items n state = record { below = below; is = get_or_default a.nodes.items n state none below } in
-    record { state = state; at = at; is = is.nodes_are n state at }
+    let at = here-at a.nodes.items n (omega (arith, lt, is.many)) in
+    record { state = get_or a.nodes.items n no_state; at = at; is = is.nodes_are n _ at }
 
 node-below : (count : ℕ) (l : Line) (s h : List Line) → Numbered count h → Within (l ∷ s) h → node_of l < count
 node-below count l s h numbered w = Everywhere-at (λ k before. node_of k < count) l s h numbered w
@@ -150,9 +155,7 @@ stands-but m close cpast h c b w close_is lives_is corrects_is is stands = recor
         let act : Within (y.act ∷ y.apast) y.after.before = subst (λ (k : List Line). Within k y.after.before) y.after.is (act-within y.after.before) in
         let there : Within (y.act ∷ y.apast) h = Within-through (y.act ∷ y.apast) y.after.before h act (Within-tail y.after.next y.after.before h y.after.place) in
         let same : y.act ∷ y.apast ≡ close ∷ cpast = place-one y.act close y.apast cpast h there w (sym y.index_is ∙ close_is) in
-        let line : y.act ≡ close = first-same same in
-        let past : y.apast ≡ cpast = rest-same same in
-        inr (subst₂ (λ (i : Line) (p : List Line). RightAfter m i p h) line past y.after)
+        inr (carry (λ (i : Line) (p : List Line). RightAfter m i p h) same y.after)
   ];
 }
 
@@ -182,9 +185,7 @@ pair-back header setting h t n k a b has ai bi peers = λ c d ac bd masters clos
     let xw : Within (x.is.close ∷ x.is.cpast) h = Within-through (x.is.close ∷ x.is.cpast) x.past h x.is.from_round.closes (Within-tail x.correct x.past h x.unchanged.within) in
     let yw : Within (y.is.close ∷ y.is.cpast) h = Within-through (y.is.close ∷ y.is.cpast) y.past h y.is.from_round.closes (Within-tail y.correct y.past h y.unchanged.within) in
     let same : y.is.close ∷ y.is.cpast ≡ x.is.close ∷ x.is.cpast = place-one y.is.close x.is.close y.is.cpast x.is.cpast h yw xw (sym y.is.close_is ∙ (sym closes ∙ x.is.close_is)) in
-    let line : y.is.close ≡ x.is.close = first-same same in
-    let past : y.is.cpast ≡ x.is.cpast = rest-same same in
-    let there : FromRound d.master x.is.close x.is.cpast y.correct y.past y.is.reading y.is.older d.err = subst₂ (λ (i : Line) (p : List Line). FromRound d.master i p y.correct y.past y.is.reading y.is.older d.err) line past y.is.from_round in
+    let there = carry (λ (i : Line) (p : List Line). FromRound d.master i p y.correct y.past y.is.reading y.is.older d.err) same y.is.from_round in
     let other : FromRound c.master x.is.close x.is.cpast y.correct y.past y.is.reading y.is.older d.err = subst (λ (i : ℕ). FromRound i x.is.close x.is.cpast y.correct y.past y.is.reading y.is.older d.err) (sym masters) there in
     let near : Near (clock_at setting (node_of x.correct) h t) (clock_at setting (node_of y.correct) h t) c.err d.err setting.drift t x.is.reading.did.step.at y.is.reading.did.step.at =
     peers c.master x.is.close x.is.cpast x.correct y.correct x.past y.past x.is.reading y.is.reading x.is.older y.is.older c.err d.err x.is.from_round other

@@ -1,7 +1,7 @@
 -- How an agreement grows by a line.
 use Rattle.std.proofs.Common.{sym, ap, subst, subst₂, ◌∙◌, arith, inl, inr, get_or, take, eqb-true, true≢false, ◌≡◌, ◌==◌, ◌<◌, ◌≤◌, ◌+◌, ℕ, ℤ, pos, Bool, true, false, MatchBool, is_some, is_none, Option, None, Some, List, [], ◌∷◌, ◌++◌, length, refl, set}
 use Rattle.std.proofs.{Math.ListN.get_or-append, Math.Seq.get_or-append_seam, lemmas.Bool.cases_lt}
-use Rattle.std.proofs.lemmas.List.{get_or_default, get_or-set_other, get_or-set_same, length-append, length-set}
+use Rattle.std.proofs.lemmas.List.{get_or-set_other, get_or-set_same, length-append, length-set}
 use Rattle.tsp_rules.specs.Values.{Act, Post, Message, AdjTime, PeerId, Peer, Port}
 use Rattle.tsp_base.specs.Words.{HeaderValue, Acts, Here, Line, Seen, from_act, of, view, MessageValue, Within, acting, best}
 use Rattle.tsp_promises.specs.{Agreed.AgreedAt, Agreed.RestsOnSample, Fits.node_of, Setting.Setting, StepFacts.closed}
@@ -10,8 +10,7 @@ use Rattle.tsp_audit.specs.Agreeing.{AgreementIs, AllAgree, AllAre, AllBounded, 
 use Rattle.tsp_audit.specs.{Resting.RestsOn, Settings.HasClocks, declared.agreement_tracker.AgreementTracker.AgreementTracker}
 use Rattle.tsp_audit.specs.declared.round_correction.NodeState.{NodeState}
 use Rattle.tsp_audit.proofs.{AgreementLemmas.clocks-agree, AgreementLemmas.clocks-back, StateLemmas.node-still, StateLemmas.still-other}
-use Rattle.tsp_history.specs.declared.rounds.Best.{Best}
-use Rattle.tsp_history.specs.{Histories.deed_of, Histories.history_of, Histories.line_of, declared.line.HistoryLine.HistoryLine}
+use Rattle.tsp_history.specs.{declared.rounds.Best.Best, Histories.deed_of, Histories.history_of, Histories.line_of, declared.line.HistoryLine.HistoryLine}
 use Rattle.tsp_history.specs.Rounds.{Bests, SeenAt, TripsTell, trip_at}
 use Rattle.tsp_audit.proofs.Alike.{first-same, none-first, peer-same, rest-same}
 
@@ -115,14 +114,7 @@ agrees-told header setting count l h a act false has numbered is rests deed bad 
 pub all-bounded : (h : List Line) (states : List NodeState) → AllAre h states → AllBounded states
 all-bounded h states a = λ n s at. (a n s at).bounded
 
--- the state at an index, read by whatever default
--- what stands at an index is what stands there
-pub here-at : (states : List NodeState) (i : ℕ) (d : NodeState) → i < length states → IsAtPlace states i (get_or states i d)
-here-at states i d lt = record { below = lt; is = get_or_default states i (get_or states i d) d lt }
-
-pub state-at : (states : List NodeState) (i k : ℕ) (d b : NodeState) → IsAtPlace states k b → i ≡ k → get_or states i d ≡ b
-state-at states i k d b at e = get_or_default states i d b (omega (arith, e, at.below)) ∙ (ap (λ (j : ℕ). get_or states j b) e ∙ at.is)
-
+-- what stands at an index is what is kept of that node
 pub kept-at : (h : List Line) (states : List NodeState) (i : ℕ) (s : NodeState) → AllAre h states → i < length states → get_or states i s ≡ s → NodeIs i h s
 kept-at h states i s a lt is = a i s (record { below = lt; is = is })
 

@@ -1,5 +1,5 @@
 -- What is the same of two values that are built alike and are the same.
-use Rattle.std.proofs.Common.{◌≡◌, ℕ, ℤ, Bool, List, [], ◌∷◌, None, Some}
+use Rattle.std.proofs.Common.{subst₂, ◌≡◌, ℕ, ℤ, Bool, List, [], ◌∷◌, None, Some}
 use Rattle.tsp_rules.specs.Values.{Acked, Back, Correct, Message, PeerId, Place, Peer, Post, Follow, Sample}
 use Rattle.tsp_base.specs.Words.{Acts, Did, Here, MessageValue, Seen}
 
@@ -8,6 +8,10 @@ first-same e = cc
 
 pub rest-same : {A : Type 0} {a b : A} {s t : List A} → a ∷ s ≡ b ∷ t → s ≡ t
 rest-same e = cc
+
+-- what holds of a place holds of the same one
+pub carry : {A : Type 0} {a b : A} {s t : List A} (P : A → List A → Type 0) → a ∷ s ≡ b ∷ t → P a s → P b t
+carry P e p = subst₂ P (first-same e) (rest-same e) p
 
 pub some-same : {A : Type 0} {a b : A} → Some a ≡ Some b → a ≡ b
 some-same e = cc

@@ -1,5 +1,6 @@
 -- Backing, line by line.
-use Rattle.std.proofs.Common.{sym, ap, subst, inl, inr, ◌⊎◌, ◌∙◌, eq-eqb, eqb-true, true≢false, ◌≡◌, ◌==◌, ◌||◌, ◌&&◌, ◌≤◌, ◌+◌, ℕ, Bool, true, false, if◌then◌else◌, List, [], ◌∷◌, Option, refl, MatchBool, None, Some}
+use Rattle.std.proofs.Common.{sym, ap, subst, inl, inr, ◌⊎◌, ◌∙◌, eq-eqb, eqb-true, true≢false, ◌≡◌, ◌==◌, ◌||◌, ◌&&◌, ◌≤◌, ◌+◌, ℕ, Bool, true, false}
+use Rattle.std.proofs.Common.{if◌then◌else◌, List, ◌∷◌, Option, refl, MatchBool, None, Some}
 use Rattle.tsp_rules.specs.Values.{Act, Post, Become, Back, Message, Kind, Accept, Election, PeerId, Place, Peer, Stranger, Port, Candidate, HOLD}
 use Rattle.tsp_base.specs.Words.{Acts, Begins, Deed, Line, is_shared, of, seen_as, view, MessageValue}
 use Rattle.tsp_promises.specs.{Everywhere.Everywhere, Fits.node_of, StepFacts.backed, StepFacts.is_unbacked, StepFacts.is_unbacked_after}
@@ -63,23 +64,18 @@ held-decides true l world p deed all = λ c q other older d w n t o.
 held-decides false l world p deed bad = λ f. bad (Everywhere-from (λ other older. HoldsApart (node_of l) l.port l.did.tick p other) world (λ other older w c n t o. f p c other older deed w n t o))
 
 pub backs-all : (h : List Line) → Everywhere HoldsAt h → Everywhere BacksAt h → Everywhere Backs h
-backs-all [] p q = tt
-backs-all (l ∷ t) p q = (record { holds = p.0; backs = q.0 }, backs-all t p.1 q.1)
-
-pub holds-part : (h : List Line) → Everywhere Backs h → Everywhere HoldsAt h
-holds-part [] e = tt
-holds-part (l ∷ t) e = (e.0.holds, holds-part t e.1)
-
-pub backs-part : (h : List Line) → Everywhere Backs h → Everywhere BacksAt h
-backs-part [] e = tt
-backs-part (l ∷ t) e = (e.0.backs, backs-part t e.1)
+backs-all h p q = Everywhere-from Backs h (λ l s w. record { holds = Everywhere-at HoldsAt l s h p w; backs = Everywhere-at BacksAt l s h q w })
 
 -- nobody was unbacked
 pub settled : (h : List Line) → OneBack h → Settled None h
 settled h old = λ n q meant. old.ends n q
 
 pub ends-decide : (b : Bool) (h : List Line) → Everywhere Backs h → MatchBool b (Settled None h) (Settled None h → ⊥) → MatchBool b (OneBack h) (OneBack h → ⊥)
-ends-decide true h e s = record { holds = holds-part h e; backs = backs-part h e; ends = λ n q. s n q refl }
+ends-decide true h e s = record {
+  holds = Everywhere-from HoldsAt h (λ l s w. (Everywhere-at Backs l s h e w).holds);
+  backs = Everywhere-from BacksAt h (λ l s w. (Everywhere-at Backs l s h e w).backs);
+  ends = λ n q. s n q refl;
+}
 ends-decide false h e bad = λ all. bad (settled h all)
 
 abbrev begins : Deed → Bool

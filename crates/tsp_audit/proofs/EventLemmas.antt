@@ -7,7 +7,7 @@ use Rattle.tsp_audit.proofs.NumberedLemmas.{OfStep, grown-all, made, AllName, nu
 use Rattle.tsp_audit.specs.{Remembered.HasLineRoom, Remembered.RememberedStands, declared.remembered.Remembered.Remembered}
 use Rattle.tsp_audit.specs.{declared.verdict.Failure.Failure, Agreeing.Numbered, Looking.Finds, Looking.Grown, Named.named}
 use Rattle.tsp_audit.specs.{Settings.HasClocks, Settings.Timely, declared.audit.Audit.Audit, declared.premises.Premises.Premises}
-use Rattle.tsp_rules.specs.Values.{Placed, Event, BootAt, Turn, Take, Bytes, Line2}
+use Rattle.tsp_rules.specs.Values.{Placed, Event, Take, Line2}
 use Rattle.tsp_base.specs.Words.{HeaderValue, Acts, Begins, Line, Step, first_port, joined, line_of, Within}
 use Rattle.tsp_base.proofs.PlaceLemmas.{Within-all, Within-tail}
 use Rattle.tsp_promises.specs.Setting.{Setting}
@@ -38,10 +38,8 @@ taken-time at k None soon = tt
 taken-time at k (Some a) soon = soon
 
 step-time : (header : HeaderValue) (posts : List Claimed) (up : ℕ → Bool) (e : Event) → event_at e ≤ 1000000000000000 → InTime (step_at header posts up e)
-step-time header posts up (BootAt at node word) soon = soon
-step-time header posts up (Turn at node) soon = soon
 step-time header posts up (Take at k) soon = taken-time at k (taker header posts up k) soon
-step-time header posts up (Bytes at node port from octets) soon = soon
+step-time header posts up _ soon = soon
 
 -- a history is a place of what it grows to by a step
 pub joins-within : (header : HeaderValue) (o : Option Step) (acts : List Placed) (h : List Line) → Within h (joins_acts header o acts h)

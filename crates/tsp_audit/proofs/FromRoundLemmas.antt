@@ -12,7 +12,7 @@ use Rattle.tsp_audit.specs.FromRounds.{BegunAt, HasNoRound, IsAdjusting, RoundAs
 use Rattle.tsp_audit.specs.declared.round_correction.RoundCorrection.{RoundCorrection}
 use Rattle.tsp_history.specs.declared.line.HistoryLine.{HistoryLine}
 use Rattle.tsp_history.specs.{Histories.deed_of, Histories.history_of, Histories.line_of, Posts.PostsAt}
-use Rattle.tsp_audit.proofs.Alike.{message-same, rest-same, some-same}
+use Rattle.tsp_audit.proofs.Alike.{carry, message-same, rest-same, some-same}
 
 -- what a port sees as its own at one place is one line
 pub lines-one : (m : ℕ) (q : Port) (world : List Line) (a b : Line) (s t : List Line) → node_of a ≡ m → node_of b ≡ m → a.port ≡ q → b.port ≡ q → Within (a ∷ s) world → Within (b ∷ t) world →
@@ -187,11 +187,9 @@ first-there ns l s i noted t p is =
 first-seen : (ns : List HistoryLine) (l : Line) (s i : ℕ) (noted : HistoryLine) → (t : TakesSend l (history_of ns) s) → PostsAt ns s i → get_or ns i noted ≡ noted → Here t.first ∷ t.begun ≡ Here (line_of noted).did ∷ view noted.port (of noted.node (history_of (take i ns)))
 first-seen ns l s i noted t p is =
     let there : t.at.line ∷ t.at.before ≡ line_of noted ∷ history_of (take i ns) = first-there ns l s i noted t p is in
-    let line : t.at.line ≡ line_of noted = first-same there in
-    let rest : t.at.before ≡ history_of (take i ns) = rest-same there in
     let own : Here t.first ∷ t.begun ≡ Here t.at.line.did ∷ view t.at.line.port (of (node_of t.at.line) t.at.before) =
     subst₂ (λ (n : ℕ) (q : Port). Here t.first ∷ t.begun ≡ Here t.at.line.did ∷ view q (of n t.at.before)) (sym t.at.node) (sym t.at.port) t.at.is in
-    subst₂ (λ (j : Line) (b : List Line). Here t.first ∷ t.begun ≡ Here j.did ∷ view j.port (of (node_of j) b)) line rest own
+    carry (λ (j : Line) (b : List Line). Here t.first ∷ t.begun ≡ Here j.did ∷ view j.port (of (node_of j) b)) there own
 
 pub begun-other : (ns : List HistoryLine) (l : Line) (s i : ℕ) (noted : HistoryLine) → TakesSend l (history_of ns) s → PostsAt ns s i → get_or ns i noted ≡ noted → (IsAdjusting (deed_of noted.act) → ⊥) → IsFromNoRound l (history_of ns)
 begun-other ns l s i noted t p is bad = λ m close cpast r older e c.

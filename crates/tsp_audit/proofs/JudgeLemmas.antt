@@ -1,5 +1,5 @@
 -- Which part fails, and what the newest event changes.
-use Rattle.std.proofs.Common.{sym, ap, subst, ◌∙◌, arith, inl, inr, take, ◌≡◌, ◌<◌, ◌≤◌, ℕ, Bool, true, false, List, [], ◌∷◌, length, refl, MatchBool, Option}
+use Rattle.std.proofs.Common.{◌-◌, sym, ap, ◌∙◌, arith, inl, inr, take, ◌≡◌, ◌<◌, ◌≤◌, ℕ, Bool, true, false, List, [], ◌∷◌, length, refl, MatchBool, Option}
 use Rattle.std.proofs.lemmas.List.{length-take}
 use Rattle.tsp_audit.specs.{Agreeing.Numbered, Judged.FailsNow, Judged.JudgesParts, Looking.Grown, Settings.HasClocks, Settings.Timely}
 use Rattle.tsp_audit.specs.Parts.{Acting, ActsOnce, Agreeing, AllKeep, Backing, PartHolds, Leading, Measuring, Part, part_number}
@@ -8,63 +8,19 @@ use Rattle.tsp_audit.{proofs.Prefixes.history-within, specs.declared.premises.Pr
 use Rattle.tsp_base.specs.Words.{HeaderValue, Line, Within}
 use Rattle.tsp_promises.specs.{OneBack.OneBack, OnlyMaster.OnlyMaster, Setting.Setting}
 use Rattle.tsp_base.proofs.PlaceLemmas.{Within-comparable, Within-length}
+use Rattle.tsp_audit.specs.{Remembered.HasLineRoom, Remembered.RememberedStands, declared.remembered.Remembered.Remembered}
 
-pub decided : (b : Bool) (P : Type 0) → b ≡ true → MatchBool b P (P → ⊥) → P
-decided true P e m = m
-decided false P e m = let bad : ⊥ = cc in absurd bad
-
-pub refuted : (b : Bool) (P : Type 0) → b ≡ false → MatchBool b P (P → ⊥) → P → ⊥
-refuted true P e m = let bad : ⊥ = cc in absurd bad
-refuted false P e m = m
-
--- the parts below a number hold where each of them does
-below : (premises : Premises) (setting : Setting) (h : List Line) (number : ℕ) → (12 < number → OneBack h) → (13 < number → OnlyMaster h) → (14 < number → ActsOnce premises setting h) → (15 < number → PartHolds premises setting Measuring h) →
-    (16 < number → PartHolds premises setting Agreeing h) → (q : Part) → part_number q < number → PartHolds premises setting q h
-below premises setting h number back lead act measure agree Backing lt = back lt
-below premises setting h number back lead act measure agree Leading lt = lead lt
-below premises setting h number back lead act measure agree Acting lt = act lt
-below premises setting h number back lead act measure agree Measuring lt = measure lt
-below premises setting h number back lead act measure agree Agreeing lt = agree lt
-
-pub fails-backing : (premises : Premises) (setting : Setting) (h : List Line) → (OneBack h → ⊥) → FailsNow premises setting h 12
-fails-backing premises setting h bad = record {
-  part = Backing;
-  number_is = refl;
-  fails = bad;
-  lesser = below premises setting h 12 (λ lt. absurd (omega (arith, lt))) (λ lt. absurd (omega (arith, lt))) (λ lt. absurd (omega (arith, lt))) (λ lt. absurd (omega (arith, lt))) (λ lt. absurd (omega (arith, lt)));
-}
-
-pub fails-leading : (premises : Premises) (setting : Setting) (h : List Line) → OneBack h → (OnlyMaster h → ⊥) → FailsNow premises setting h 13
-fails-leading premises setting h back bad = record {
-  part = Leading;
-  number_is = refl;
-  fails = bad;
-  lesser = below premises setting h 13 (λ lt. back) (λ lt. absurd (omega (arith, lt))) (λ lt. absurd (omega (arith, lt))) (λ lt. absurd (omega (arith, lt))) (λ lt. absurd (omega (arith, lt)));
-}
-
-pub fails-acting : (premises : Premises) (setting : Setting) (h : List Line) → OneBack h → OnlyMaster h → (ActsOnce premises setting h → ⊥) → FailsNow premises setting h 14
-fails-acting premises setting h back lead bad = record {
-  part = Acting;
-  number_is = refl;
-  fails = bad;
-  lesser = below premises setting h 14 (λ lt. back) (λ lt. lead) (λ lt. absurd (omega (arith, lt))) (λ lt. absurd (omega (arith, lt))) (λ lt. absurd (omega (arith, lt)));
-}
-
-pub fails-measuring : (premises : Premises) (setting : Setting) (h : List Line) → OneBack h → OnlyMaster h → ActsOnce premises setting h → (PartHolds premises setting Measuring h → ⊥) → FailsNow premises setting h 15
-fails-measuring premises setting h back lead act bad = record {
-  part = Measuring;
-  number_is = refl;
-  fails = bad;
-  lesser = below premises setting h 15 (λ lt. back) (λ lt. lead) (λ lt. act) (λ lt. absurd (omega (arith, lt))) (λ lt. absurd (omega (arith, lt)));
-}
-
-pub fails-agreeing : (premises : Premises) (setting : Setting) (h : List Line) → OneBack h → OnlyMaster h → ActsOnce premises setting h → PartHolds premises setting Measuring h → (PartHolds premises setting Agreeing h → ⊥) → FailsNow premises setting h 16
-fails-agreeing premises setting h back lead act measure bad = record {
-  part = Agreeing;
-  number_is = refl;
-  fails = bad;
-  lesser = below premises setting h 16 (λ lt. back) (λ lt. lead) (λ lt. act) (λ lt. measure) (λ lt. absurd (omega (arith, lt)));
-}
+-- a part fails, and those before it hold
+pub fails : (premises : Premises) (setting : Setting) (h : List Line) (p : Part) → (12 < part_number p → OneBack h) → (13 < part_number p → OnlyMaster h) →
+    (14 < part_number p → ActsOnce premises setting h) → (15 < part_number p → PartHolds premises setting Measuring h) → (16 < part_number p → ⊥) →
+    (PartHolds premises setting p h → ⊥) → FailsNow premises setting h (part_number p)
+fails premises setting h p back lead act measure none bad = record { part = p; number_is = refl; fails = bad; lesser = lesser } where
+  lesser : (q : Part) → part_number q < part_number p → PartHolds premises setting q h
+  lesser Backing lt = back lt
+  lesser Leading lt = lead lt
+  lesser Acting lt = act lt
+  lesser Measuring lt = measure lt
+  lesser Agreeing lt = absurd (none lt)
 
 pub all-keep : (premises : Premises) (setting : Setting) (h : List Line) → OneBack h → OnlyMaster h → ActsOnce premises setting h → PartHolds premises setting Measuring h → PartHolds premises setting Agreeing h → AllKeep premises setting h
 all-keep premises setting h back lead act measure agree Backing = back
@@ -94,19 +50,24 @@ prefix-is ns h from w long =
     ]
 
 -- what is judged of noted lines is judged of the history that they are
-pub looked : (premises : Premises) (header told : HeaderValue) (ns : List HistoryLine) (count : ℕ) (w h : List Line) (from : ℕ) (N : List Line → Type 0) (R : Type 0) (r : Option ℕ) → told ≡ header → history_of ns ≡ w → Grown count h w from → R →
-    ((setting : Setting) → HasClocks told setting → Timely (history_of ns) → Numbered count (history_of ns) → R → N (history_of (take from ns)) → AllKeep premises setting (history_of (take from ns)) → JudgesParts premises setting (history_of ns) r) →
-    N h → (setting : Setting) → HasClocks header setting → AllKeep premises setting h → JudgesParts premises setting w r
-looked premises header told ns count w h from N R r same is grown room f a setting has keeps =
-    let first : history_of (take from ns) ≡ h = prefix-is ns h from (subst (λ (x : List Line). Within h x) (sym is) grown.within) grown.long in
-    subst (λ (x : List Line). JudgesParts premises setting x r) is
-    (f setting (subst (λ (x : HeaderValue). HasClocks x setting) (sym same) has) (subst (λ (x : List Line). Timely x) (sym is) grown.timely) (subst (λ (x : List Line). Numbered count x) (sym is) grown.numbered) room
-    (subst N (sym first) a) (subst (λ (x : List Line). AllKeep premises setting x) (sym first) keeps))
+pub looked : (premises : Premises) (header : HeaderValue) (ns : List HistoryLine) (w h : List Line) (from : ℕ) (notes : Remembered) (r : Option ℕ) →
+    history_of ns ≡ w → Grown (length header.nodes) h w from → HasLineRoom (length w - from) notes → RememberedStands premises header h notes →
+    ((setting : Setting) → HasClocks header setting → Timely (history_of ns) → Numbered (length header.nodes) (history_of ns) →
+    HasLineRoom (length ns - from) notes → RememberedStands premises header (history_of (take from ns)) notes →
+    AllKeep premises setting (history_of (take from ns)) → JudgesParts premises setting (history_of ns) r) →
+    (setting : Setting) → HasClocks header setting → AllKeep premises setting h → JudgesParts premises setting w r
+looked premises header ns w h from notes r is grown room stand f setting has keeps =
+    let first = prefix-is ns h from (rw (← is) at grown.within) grown.long in
+    rw (← is) (f setting has (rw (← is) at grown.timely) (rw (← is) at grown.numbered) (rw (← is, length-history ns) at room) (rw (← first) at stand)
+    (rw (← first) at keeps))
 
-pub looked-notes : (ns : List HistoryLine) (count : ℕ) (w h : List Line) (from : ℕ) (N M : List Line → Type 0) → history_of ns ≡ w → Grown count h w from → (N (history_of (take from ns)) → M (history_of ns)) → N h → M w
-looked-notes ns count w h from N M is grown f a =
-    let first : history_of (take from ns) ≡ h = prefix-is ns h from (subst (λ (x : List Line). Within h x) (sym is) grown.within) grown.long in
-    subst M is (f (subst N (sym first) a))
+pub looked-notes : (premises : Premises) (header : HeaderValue) (ns : List HistoryLine) (w h : List Line) (from : ℕ) (notes new : Remembered) →
+    history_of ns ≡ w → Grown (length header.nodes) h w from → HasLineRoom (length w - from) notes → RememberedStands premises header h notes →
+    (HasLineRoom (length ns - from) notes → RememberedStands premises header (history_of (take from ns)) notes →
+    RememberedStands premises header (history_of ns) new) → RememberedStands premises header w new
+looked-notes premises header ns w h from notes new is grown room stand f =
+    let first = prefix-is ns h from (rw (← is) at grown.within) grown.long in
+    rw (← is) (f (rw (← is, length-history ns) at room) (rw (← first) at stand))
 
 -- the newest event begins no later than the history ends
 pub begins-within : (ns : List HistoryLine) (count : ℕ) (w h : List Line) (from : ℕ) → history_of ns ≡ w → Grown count h w from → from ≤ length ns

@@ -1,7 +1,7 @@
 -- Whether clocks are near each other, as it is computed.
 use Rattle.std.proofs.Common.{ap, refl, ◌∙◌, arith, rules, subst, subst₂, sym, ◌⊎◌, inl, inr, ◌≡◌, ◌+◌, ◌*◌, ◌≤ℤ◌, ◌<◌, ◌≤◌, ℕ, ℤ, pos, ◌+ℤ◌, ◌-ℤ◌, nat_abs, Bool, true, false, Option, Some, List, length, MatchBool}
 use Rattle.std.proofs.lemmas.{Bool.cases_lt, Int.ints}
-use Rattle.tsp_audit.proofs.AgreementSteps.{state-at}
+use Rattle.tsp_audit.proofs.AgreementLemmas.{state-at}
 use Rattle.tsp_base.specs.Words.{HeaderValue}
 use Rattle.tsp_audit.specs.Agreeing.{AgreesBack, AllAgree, BossAgrees, IsAtPlace, MasterNearWithSpare, NodeAgrees, PairAgrees, PairNear, FromRoundStands, shown_by}
 use Rattle.tsp_audit.specs.declared.round_correction.{NodeState.NodeState, RoundCorrection.RoundCorrection}
@@ -31,7 +31,7 @@ pair-told header t spare n k a b c d true ac bd masters closes near = λ e f ae 
 pair-told header t spare n k a b c d false ac bd masters closes far = λ agrees. far (agrees c d ac bd masters closes)
 
 same-state : (states : List NodeState) (k : ℕ) (b f : NodeState) → IsAtPlace states k b → IsAtPlace states k f → b ≡ f
-same-state states k b f bat fat = sym bat.is ∙ state-at states k k b f fat refl
+same-state states k b f bat fat = sym (state-at states k k b bat refl) ∙ state-at states k k f fat refl
 
 -- a node agrees with its master exactly where they are near, if that was left alone
 pub boss-told : (header : HeaderValue) (t spare n : ℕ) (a : NodeState) (states : List NodeState) (c : RoundCorrection) (b : NodeState) (r : Bool) → a.from_round ≡ Some c → IsAtPlace states c.master b → FromRoundStands c b →

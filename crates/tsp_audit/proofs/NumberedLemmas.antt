@@ -1,6 +1,6 @@
 -- The nodes of claimed lines are nodes of the header.
 use Rattle.std.proofs.Common.{subst, eqb-true, ◌≡◌, ◌||◌, ◌<◌, ℕ, Bool, true, false, if◌then◌else◌, Option, None, Some, List, [], ◌∷◌, refl, slice_get}
-use Rattle.tsp_rules.specs.Values.{Placed, Port, Event, BootAt, Turn, Take, Bytes}
+use Rattle.tsp_rules.specs.Values.{Placed, Port, Event, BootAt, Take}
 use Rattle.tsp_base.specs.Words.{HeaderValue, Acts, Begins, Deed, Line, Step, first_port, joined, line_of}
 use Rattle.tsp_promises.specs.{Everywhere.Everywhere, Fits.node_of}
 use Rattle.tsp_claims.specs.ClaimedHistory.{joins_acts, Claim, awake, claimed, events_of, makes_step, posts_of, post_goes, step_at, step_of, takes_step}
@@ -39,9 +39,7 @@ either false c e f = e
 
 boots-below : (count : ℕ) (e : Event) (n : ℕ) → NamesNode count e → is_boot_of e n ≡ true → n < count
 boots-below count (BootAt at node word) n named e = subst (λ (k : ℕ). k < count) (eqb-true node n e) named
-boots-below count (Turn at node) n named e = let bad : ⊥ = cc in absurd bad
-boots-below count (Take at k) n named e = let bad : ⊥ = cc in absurd bad
-boots-below count (Bytes at node port from octets) n named e = let bad : ⊥ = cc in absurd bad
+boots-below count _ n named e = let bad : ⊥ = cc in absurd bad
 
 booted-more : (count : ℕ) (e : Event) (n : ℕ) (was b : Bool) → NamesNode count e → (was ≡ true → n < count) → is_boot_of e n ≡ b → (is_boot_of e n || was) ≡ true → n < count
 booted-more count e n was true named rest f or = boots-below count e n named f
@@ -63,10 +61,8 @@ taken-below count at k up below (Some a) = by_up (up a.node) refl where
   by_up false e = tt
 
 step-below : (count : ℕ) (header : HeaderValue) (posts : List Claimed) (up : ℕ → Bool) (e : Event) → ((n : ℕ) → up n ≡ true → n < count) → NamesNode count e → Below count (step_at header posts up e)
-step-below count header posts up (BootAt at node word) below named = named
-step-below count header posts up (Turn at node) below named = named
 step-below count header posts up (Take at k) below named = taken-below count at k up below (post_goes (networks header) (slice_get posts k))
-step-below count header posts up (Bytes at node port from octets) below named = named
+step-below count header posts up _ below named = named
 
 -- where each event names a node of so many, each claimed line's is one
 pub numbered-claims : (count : ℕ) (header : HeaderValue) (claims : List Claim) → AllName count claims → Numbered count (claimed header claims)

@@ -29,16 +29,14 @@ ArePosts _ _ = ⊥
 
 pub ArePosts-append : (cs ds : List Claimed) (ps qs : List Posted) → ArePosts cs ps → ArePosts ds qs → ArePosts (cs ++ ds) (ps ++ qs)
 ArePosts-append [] ds [] qs a b = b
-ArePosts-append [] ds (p ∷ ps) qs a b = absurd a
-ArePosts-append (c ∷ cs) ds [] qs a b = absurd a
 ArePosts-append (c ∷ cs) ds (p ∷ ps) qs a b = (a.0, ArePosts-append cs ds ps qs a.1 b)
+ArePosts-append _ ds _ qs a b = absurd a
 
 -- as many
 pub length-ArePosts : (cs : List Claimed) (ps : List Posted) → ArePosts cs ps → length cs ≡ length ps
 length-ArePosts [] [] a = refl
-length-ArePosts [] (p ∷ ps) a = absurd a
-length-ArePosts (c ∷ cs) [] a = absurd a
 length-ArePosts (c ∷ cs) (p ∷ ps) a = ap (λ n. suc n) (length-ArePosts cs ps a.1)
+length-ArePosts _ _ a = absurd a
 
 one-post : (event : ℕ) (step : Step) (p : Placed) (a : Act) → p.act ≡ a → ArePosts (claims_post event step p a) (posted_by step.at step.node p.port a)
 one-post event step p (Post to datagram) e = (record { at = refl; node = refl; port = refl; act = e }, tt)
@@ -57,20 +55,18 @@ SamePost _ _ = ⊥
 
 pub get-ArePosts : (cs : List Claimed) (ps : List Posted) (k : ℕ) → ArePosts cs ps → SamePost (slice_get cs k) (slice_get ps k)
 get-ArePosts [] [] k a = tt
-get-ArePosts [] (p ∷ ps) k a = absurd a
-get-ArePosts (c ∷ cs) [] k a = absurd a
 get-ArePosts (c ∷ cs) (p ∷ ps) zero a = a.0
 get-ArePosts (c ∷ cs) (p ∷ ps) (suc k) a = get-ArePosts cs ps k a.1
+get-ArePosts _ _ k a = absurd a
 
 -- they go to one address
 pub goes-same : (nets : List (List ℕ)) (o : Option Claimed) (q : Option Posted) → SamePost o q → post_goes nets o ≡ goes_to nets q
 goes-same nets None None s = refl
-goes-same nets None (Some p) s = absurd s
-goes-same nets (Some c) None s = absurd s
 goes-same nets (Some c) (Some p) s =
     ap (λ a. claimed_address nets c.node c.placed.port a) s.act
     ∙ ap (λ n. address_of nets n c.placed.port p.to) s.node
     ∙ ap (λ q. address_of nets p.from q p.to) s.port
+goes-same nets _ _ s = absurd s
 
 -- the acts that happen, if any do
 abbrev pub happened : Option Happening → List Placed
@@ -109,20 +105,18 @@ pub record AreOf (header : HeaderValue) (claims : List Claim) (history : List Li
 -- the history grows alike
 joins-alike : (header : HeaderValue) (o : Option Happening) (s : Option Step) (before history : List Line) → IsStep header o s → before ≡ history → joins_acts header s (happened o) before ≡ joins o history
 joins-alike header None None before history is e = e
-joins-alike header None (Some s) before history is e = absurd is
-joins-alike header (Some h) None before history is e = absurd is
 joins-alike header (Some h) (Some s) before history is e =
     ap (λ x. stepped s x h.acts before) (sym is.1) ∙ ap (λ t. stepped t h.tick h.acts before) (sym is.0) ∙ ap (λ l. stepped h.step h.tick h.acts l) e
+joins-alike header _ _ before history is e = absurd is
 
 -- and so do the posts
 posts-alike : (header : HeaderValue) (event : ℕ) (o : Option Happening) (s : Option Step) (cs : List Claimed) (history : List Line) → IsStep header o s → ArePosts cs (posts history) → ArePosts (cs ++ claims_of_step event s (happened o)) (posts (joins o history))
 posts-alike header event None None cs history is a = subst (λ ps. ArePosts (cs ++ []) ps) (append-nil (posts history)) (ArePosts-append cs [] (posts history) [] a tt)
-posts-alike header event None (Some s) cs history is a = absurd is
-posts-alike header event (Some h) None cs history is a = absurd is
 posts-alike header event (Some h) (Some s) cs history is a =
     subst (λ ps. ArePosts (cs ++ claims_of_step event (Some s) h.acts) ps) (sym (posts_stepped h.step h.tick h.acts history))
     (subst (λ t. ArePosts (cs ++ claims_of_step event (Some s) h.acts) (posts history ++ posts_from t.at t.node h.acts)) (sym is.0)
     (ArePosts-append cs (claims_of_step event (Some s) h.acts) (posts history) (posts_from s.at s.node h.acts) a (posts_of_acts event s h.acts)))
+posts-alike header event _ _ cs history is a = absurd is
 
 -- a step of a node that is up leaves each node as it is
 up-stays : (step : Step) (x : ℕ) (acts : List Placed) (h : List Line) (n : ℕ) → up (dids (of step.node h)) ≡ true → up (dids (of n (stepped step x acts h))) ≡ up (dids (of n h))

@@ -5,14 +5,13 @@ use Rattle.tsp_rules.specs.Values.{Port}
 use Rattle.tsp_base.specs.Words.{Came, Line, dids, of, view, all_corrects, lives, Within, Sampled, best, peer_of, posted}
 use Rattle.tsp_base.proofs.PlaceLemmas.{Within-through}
 use Rattle.tsp_promises.{proofs.SendPlaces.posted-mono, proofs.SendPlaces.posted-post, specs.Fits.node_of, specs.StepFacts.closed}
-use Rattle.tsp_audit.proofs.{FromRoundLemmas.begun-from_round, FromRoundLemmas.begun-none, FromRoundLemmas.lines-one, TakeLemmas.same-noted}
-use Rattle.tsp_audit.proofs.Prefixes.{history-within}
-use Rattle.tsp_history.proofs.{HistoryLemmas.history-more, NoteLemmas.length-noted}
-use Rattle.tsp_audit.specs.{Agreeing.FromRoundAs, Agreeing.IsFromNoRound, declared.round_correction.RoundCorrection.RoundCorrection}
 use Rattle.tsp_audit.specs.FromRounds.{BegunAt, HasNoRound, RoundAs, Rounds, TakesNone, TakesThen}
+use Rattle.tsp_audit.specs.{declared.round_correction.RoundCorrection.RoundCorrection, Agreeing.FromRoundAs, Agreeing.IsFromNoRound}
+use Rattle.tsp_audit.proofs.{FromRoundLemmas.begun-from_round, FromRoundLemmas.begun-none, FromRoundLemmas.lines-one, TakeLemmas.same-noted}
+use Rattle.tsp_audit.proofs.{Alike.first-same, Alike.rest-same, Alike.some-same, Prefixes.history-within}
+use Rattle.tsp_history.proofs.{HistoryLemmas.history-more, NoteLemmas.length-noted}
 use Rattle.tsp_history.specs.{Histories.deed_of, Histories.history_of, Histories.line_of, Posts.PostsAt, declared.rounds.Best.Best}
 use Rattle.tsp_history.specs.{Rounds.BestAt, Rounds.SeenAt, Rounds.TripsTell, declared.line.HistoryLine.HistoryLine}
-use Rattle.tsp_audit.proofs.Alike.{first-same, rest-same, some-same}
 
 -- the index of a line is how many stand before it
 pub history-length : (ns : List HistoryLine) (i : ℕ) → i ≤ length ns → length (history_of (take i ns)) ≡ i

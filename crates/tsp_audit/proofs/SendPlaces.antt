@@ -2,14 +2,12 @@
 use Rattle.std.proofs.Common.{sym, ap, subst, subst₂, ◌∙◌, ◌≡◌, ℕ, List, ◌∷◌, refl}
 use Rattle.tsp_rules.specs.Values.{Post, Message, PeerId, Peer, Port}
 use Rattle.tsp_base.specs.Words.{Acts, Did, Here, Line, Seen, dids, of, view, MessageValue, Within, begun_to, peer_of, posted}
-use Rattle.tsp_promises.specs.{Fits.node_of, Once.Brings, Once.OfSend}
+use Rattle.tsp_promises.proofs.{SendPlaces.post_unique, SendPlaces.same-number, SendPlaces.not-shared, HistoryPlaces.line_on}
+use Rattle.tsp_promises.proofs.{OwnFitsProof.locate, OwnFitsProof.view-line, OwnFitsProof.seen_same, SendProof.begun_at}
+use Rattle.tsp_promises.specs.{Once.Brings, Once.OfSend, Fits.node_of}
 use Rattle.tsp_base.proofs.PlaceLemmas.{Within-through}
-use Rattle.tsp_promises.proofs.{HistoryPlaces.line_on, SendProof.begun_at}
-use Rattle.tsp_promises.proofs.OwnFitsProof.{locate, view-line, seen_same}
-use Rattle.tsp_promises.proofs.SendPlaces.{post_unique, same-number, not-shared}
-use Rattle.tsp_audit.specs.Acting.{TakesSend}
+use Rattle.tsp_audit.{proofs.Alike.carry, proofs.Alike.first-same, proofs.Alike.here-same, proofs.Alike.rest-same, specs.Acting.TakesSend}
 use Rattle.tsp_history.specs.PostedPlaces.{PostedAt}
-use Rattle.tsp_audit.proofs.Alike.{first-same, here-same, rest-same}
 
 -- the place where the last send to p began, and the message that begins it
 pub record Begun (n : ℕ) (q : Port) (p : PeerId) (h : List Line) (first : Did) (older : List Seen) : Type 0 where
@@ -83,8 +81,6 @@ brings-one l h post other older rest a b =
 pub takes-one : (l : Line) (h : List Line) (s t : ℕ) → TakesSend l h s → TakesSend l h t → s ≡ t
 takes-one l h s t a b =
     let e : a.post ∷ a.older ≡ b.post ∷ b.older = brings-one l h a.post b.post a.older b.older a.acts.brings b.acts.brings in
-    let post : a.post ≡ b.post = first-same e in
-    let rest : a.older ≡ b.older = rest-same e in
-    let seen : begun_to (peer_of (node_of l)) (Here a.post.did ∷ view a.post.port (of (node_of a.post) a.older)) ≡ begun_to (peer_of (node_of l)) (Here b.post.did ∷ view b.post.port (of (node_of b.post) b.older)) =
-    subst₂ (λ (p : Line) (o : List Line). begun_to (peer_of (node_of l)) (Here a.post.did ∷ view a.post.port (of (node_of a.post) a.older)) ≡ begun_to (peer_of (node_of l)) (Here p.did ∷ view p.port (of (node_of p) o))) post rest refl in
+    let seen = carry (λ (p : Line) (o : List Line). begun_to (peer_of (node_of l)) (Here a.post.did ∷ view a.post.port (of (node_of a.post) a.older)) ≡
+    begun_to (peer_of (node_of l)) (Here p.did ∷ view p.port (of (node_of p) o))) e refl in
     one-number h (node_of a.post) (node_of b.post) a.post.port b.post.port (a.post ∷ a.older) (b.post ∷ b.older) (Here a.first ∷ a.begun) (Here b.first ∷ b.begun) s t a.acts.brings.place b.acts.brings.place a.at b.at (sym a.of_send.is ∙ (seen ∙ b.of_send.is))

@@ -10,7 +10,7 @@ use Rattle.tsp_audit.specs.Agreeing.{AfterIs, FromRoundAs, FirstIs, IsFromNoRoun
 use Rattle.tsp_audit.specs.{Changes.IsCorrect, Changes.LeavesState, declared.round_correction.NodeState.NodeState}
 use Rattle.tsp_audit.specs.declared.round_correction.RoundCorrection.{RoundCorrection}
 use Rattle.tsp_history.{proofs.SpacingLemmas.lives-mono, specs.Clocks.IsSumOf}
-use Rattle.tsp_audit.proofs.Alike.{first-same, rest-same}
+use Rattle.tsp_audit.proofs.Alike.{carry, first-same, rest-same}
 
 -- a node's Corrects and Boots grow in number
 corrects-deed : (deed : Deed) (n : ℕ) → n ≤ all_corrects_after deed n
@@ -126,9 +126,7 @@ node-boot n l h s t node deed a moved_is lives_is corrects_is after_is correctio
 live-correct : (n : ℕ) (l : Line) (h : List Line) (o : Option RoundCorrection) (a : ℤ) (s : Bool) (y : ℤ) → node_of l ≡ n → l.did.deed ≡ Acts (Correct a s y) → MatchOption o (IsFromNoRound l h) (λ c. FromRoundAs l h c) → LiveIs n (l ∷ h) o
 live-correct n l h None a s y node deed none = λ c past same u m close cpast r older e from_round. elim u.within [
   | inl now ↦
-      let line : c ≡ l = first-same now in
-      let rest : past ≡ h = rest-same now in
-      none m close cpast r older e (subst (λ (p : List Line). FromRound m close cpast l p r older e) rest (subst (λ (k : Line). FromRound m close cpast k past r older e) line from_round))
+      none m close cpast r older e (carry (λ (k : Line) (p : List Line). FromRound m close cpast k p r older e) now from_round)
   | inr w ↦ omega (arith, corrects-mono n (c ∷ past) h w, correct-counts n l h a s y node deed, u.since.corrects)
 ]
 live-correct n l h (Some k) a s y node deed is = record { correct = l; past = h; is = is; node = node; unchanged = record { within = Within-all (l ∷ h); since = record { corrects = refl; lives = refl } } }

@@ -3,16 +3,14 @@ use Rattle.std.proofs.Common.{sym, ap, subst, subst₂, ◌∙◌, arith, get_or
 use Rattle.std.proofs.lemmas.List.{get_or_default}
 use Rattle.tsp_rules.specs.Values.{Post, Correct, Datagram, Message, PeerId, Place, Peer, Follow}
 use Rattle.tsp_base.specs.Words.{Acts, Came, Here, Line, Seen, dids, of, view, MessageValue, HeaderValue, moved, role, tick_at, Within, begun_to, is_correction, is_numbered, heard, peer_of, posted, time_in}
-use Rattle.tsp_promises.specs.Once.{Brings, Obeys, ObeysAt, SpacedAt}
-use Rattle.tsp_promises.specs.{ClockAt.clock_at, CorrectFits.amount_of, Fits.node_of, Setting.Setting}
-use Rattle.tsp_promises.proofs.OwnFitsProof.{view-line}
-use Rattle.tsp_promises.proofs.SendPlaces.{post_unique, posted-mono, posted-post, same-number}
+use Rattle.tsp_promises.specs.{Once.Brings, Once.Obeys, Once.ObeysAt, Once.SpacedAt, ClockAt.clock_at, CorrectFits.amount_of, Fits.node_of, Setting.Setting}
+use Rattle.tsp_promises.proofs.{OwnFitsProof.view-line, SendPlaces.post_unique, SendPlaces.posted-mono, SendPlaces.posted-post, SendPlaces.same-number}
 use Rattle.tsp_history.proofs.HistoryLemmas.{history-more}
 use Rattle.tsp_audit.{proofs.SendPlaces.brings-one, specs.Settings.HasClocks, specs.Settings.clock_in, proofs.Alike.correct-same}
 use Rattle.tsp_audit.specs.Acting.{ActsNow, BringsAt, CameAt, Corrects, IsNumbered, IsUnposted, PostsMove, PostsTo, TakesSend, deed_corrects}
 use Rattle.tsp_history.specs.{Histories.deed_of, Histories.history_of, Histories.line_of, PostedPlaces.PostedAt, PostedPlaces.IsPostAt}
 use Rattle.tsp_history.specs.{Posts.PostsAt, Spacing.Spaced, declared.line.HistoryLine.HistoryLine}
-use Rattle.tsp_audit.proofs.Alike.{first-same, follow-same, message-same, rest-same}
+use Rattle.tsp_audit.proofs.Alike.{carry, first-same, follow-same, message-same}
 
 -- one line stands at an index
 pub same-noted : (ns : List HistoryLine) (i : ℕ) (a b : HistoryLine) → i < length ns → get_or ns i a ≡ a → get_or ns i b ≡ b → a ≡ b
@@ -111,11 +109,9 @@ pub takes-unbegun : (ns : List HistoryLine) (l : Line) (i : ℕ) (noted : Histor
     begun_to (peer_of (node_of l)) (view noted.port (of noted.node (history_of (take (i + 1) ns)))) ≡ [] → TakesSend l (history_of ns) k → ⊥
 takes-unbegun ns l i noted k b is none t =
     let place : t.post ∷ t.older ≡ line_of noted ∷ history_of (take i ns) = takes-there ns l i noted k b is t in
-    let line : t.post ≡ line_of noted = first-same place in
-    let rest : t.older ≡ history_of (take i ns) = rest-same place in
     let more : history_of (take (i + 1) ns) ≡ line_of noted ∷ history_of (take i ns) = history-more ns i noted b.below is in
-    let begun : begun_to (peer_of (node_of l)) (Here (line_of noted).did ∷ view noted.port (of noted.node (history_of (take i ns)))) ≡ Here t.first ∷ t.begun =
-    subst₂ (λ (p : Line) (o : List Line). begun_to (peer_of (node_of l)) (Here p.did ∷ view p.port (of (node_of p) o)) ≡ Here t.first ∷ t.begun) line rest t.of_send.is in
+    let begun = carry (λ (p : Line) (o : List Line). begun_to (peer_of (node_of l)) (Here p.did ∷ view p.port (of (node_of p) o)) ≡ Here t.first ∷ t.begun)
+    place t.of_send.is in
     let empty : begun_to (peer_of (node_of l)) (view noted.port (of noted.node (line_of noted ∷ history_of (take i ns)))) ≡ [] = subst (λ (h : List Line). begun_to (peer_of (node_of l)) (view noted.port (of noted.node h)) ≡ []) more none in
     let both : [] ≡ Here t.first ∷ t.begun = sym empty ∙ (ap (λ (seen : List Seen). begun_to (peer_of (node_of l)) seen) (view-line noted.node (line_of noted) (history_of (take i ns)) refl) ∙ begun) in
     let bad : ⊥ = cc in

@@ -1,7 +1,6 @@
 -- What fails of a history.
 use Rattle.std.specs.Prelude.{◌≡◌, ◌<◌, ℕ, List, Option, None, Some}
-use Rattle.tsp_audit.specs.declared.premises.Premises.{Premises}
-use Rattle.tsp_audit.specs.Parts.{Part, part_number, PartHolds, AllKeep}
+use Rattle.tsp_audit.specs.{Parts.Part, Parts.part_number, Parts.PartHolds, Parts.AllKeep, declared.premises.Premises.Premises}
 use Rattle.tsp_base.specs.Words.{Line}
 use Rattle.tsp_promises.specs.Setting.{Setting}
 

@@ -1,8 +1,7 @@
 -- What the clocks of some nodes show at one time, once their corrections are slewed.
 use Rattle.std.specs.Prelude.{◌≡◌, ◌<◌, ℕ, ◌-◌, ◌*◌, ℤ, pos, ◌+ℤ◌, ◌-ℤ◌, Bool, List, length, get_or, MatchBool, Some}
-use Rattle.tsp_audit.specs.Agreeing.{AllBounded, IsAtPlace, err_less, shown_by}
-use Rattle.tsp_audit.specs.declared.round_correction.{NodeState.NodeState, RoundCorrection.RoundCorrection}
-use Rattle.tsp_audit.specs.declared.shown.Standing.{Standing}
+use Rattle.tsp_audit.specs.{declared.round_correction.RoundCorrection.RoundCorrection, declared.round_correction.NodeState.NodeState}
+use Rattle.tsp_audit.specs.{Agreeing.AllBounded, Agreeing.IsAtPlace, Agreeing.err_less, Agreeing.shown_by, declared.shown.Standing.Standing}
 use Rattle.tsp_base.specs.Words.{HeaderValue, width}
 use Rattle.tsp_history.specs.Clocks.{IsSumOf}
 

@@ -39,6 +39,7 @@ pub(crate) fn tick_of(rate: i32, at: u64) -> u64
 }
 
 /// A clock's wall at tick 0, the amounts of its corrections, and its tick, in microseconds.
+#[tactic(auto, using(std::proofs::lemmas::Int::ints))]
 pub(crate) fn add(wall: i64, moved: i128, tick: u64) -> i128
     requires { IsSumOf 4294967295 moved }
     ensures sum { result ≡ (wall +ℤ moved) +ℤ pos tick }

@@ -56,6 +56,7 @@ fn reply_at(lines: &[HistoryLine], line: &HistoryLine, peer: PeerId) -> Option<u
 }
 
 /// How far one clock, or one time, lies ahead of another, in microseconds.
+#[tactic(auto, using(std::proofs::lemmas::Int::ints))]
 fn gap(ahead: i128, own: i128) -> i128
     requires ahead { IsSmall ahead }
     requires own { IsSmall own }
@@ -126,6 +127,7 @@ fn half_down(time: i128) -> i128
 }
 
 /// Half of a time, rounded up.
+#[tactic(auto, using(std::proofs::lemmas::Int::ints))]
 fn half_up(time: i128) -> i128
     requires { IsTrip time }
     ensures { result ≡ half_up time }

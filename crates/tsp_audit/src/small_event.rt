@@ -1,21 +1,33 @@
 //! Events that are held, each in little room.
 ghost use Rattle.std.specs.Prelude.{◌≡◌, IfOk};
 ghost use Rattle.tsp_audit.specs.Premised.{boots_with};
+ghost use Rattle.tsp_audit.specs.SmallEvents.{outside_event};
 ghost use Rattle.tsp_base.specs.Plains.{event_in};
 
 use std::alloc::{AllocError, Global};
 use std::marker::Model;
 use tsp_base::event::Event;
 use tsp_base::octets::Octets;
+use tsp_base::place::{Place, Port};
 use tsp_base::plain::Plain;
+
+/// Octets that no node posted reach a node: an event that takes much room.
+#[derive(Drop)]
+pub(crate) struct Outside {
+    at: u64,
+    node: u32,
+    port: Port,
+    from: Place,
+    octets: Octets,
+}
 
 /// How an event is held.
 #[derive(Drop)]
 pub(crate) enum Held {
     /// It has no octets.
     Plain(Plain),
-    /// It may have octets, and has room of its own.
-    Boxed(Box<Event>),
+    /// It has octets, and room of its own.
+    Boxed(Box<Outside>),
 }
 
 /// An event, which takes little room unless it has octets.
@@ -43,37 +55,16 @@ fn copy_octets(octets: &Octets) -> Octets
     }
 }
 
-/// A copy of an event. Takes no memory.
-fn copy(e: &Event) -> Event
-    ensures { result ≡ e.now }
+/// The event of octets that no node posted. Takes no memory.
+fn event_from(e: &Outside) -> Event
+    ensures { result ≡ outside_event e.now }
 {
-    match e {
-        Event::Boot { at, node, word } => Event::Boot {
-            at: *at,
-            node: *node,
-            word: *word,
-        },
-        Event::Turn { at, node } => Event::Turn {
-            at: *at,
-            node: *node,
-        },
-        Event::Take { at, datagram } => Event::Take {
-            at: *at,
-            datagram: *datagram,
-        },
-        Event::Bytes {
-            at,
-            node,
-            port,
-            from,
-            octets,
-        } => Event::Bytes {
-            at: *at,
-            node: *node,
-            port: *port,
-            from: *from,
-            octets: copy_octets(octets),
-        },
+    Event::Bytes {
+        at: e.at,
+        node: e.node,
+        port: e.port,
+        from: e.from,
+        octets: copy_octets(&e.octets),
     }
 }
 
@@ -87,24 +78,14 @@ fn plain(e: Plain) -> SmallEvent
 }
 
 /// An event in room of its own. Fails only if out of memory.
-fn boxed(alloc: Global, e: Event) -> Result<SmallEvent, AllocError>
-    ensures { IfOk result (λ s. s ≡ e) }
+fn boxed(alloc: Global, e: Outside) -> Result<SmallEvent, AllocError>
+    ensures { IfOk result (λ s. s ≡ outside_event e) }
 {
     match Box::new(alloc, e) {
         Ok(held) => Ok(SmallEvent {
             held: Held::Boxed(held),
         }),
         Err(refused) => Err(AllocError::from(refused)),
-    }
-}
-
-/// Whether an event is a boot with this word.
-fn is_boot_with(e: &Event, word: u64) -> bool
-    ensures { result ≡ boots_with word e.now }
-{
-    match e {
-        Event::Boot { word: other, .. } => *other == word,
-        _ => false,
     }
 }
 
@@ -127,7 +108,22 @@ impl SmallEvent {
                 at: *at,
                 datagram: *datagram,
             })),
-            Event::Bytes { .. } => boxed(alloc, copy(e)),
+            Event::Bytes {
+                at,
+                node,
+                port,
+                from,
+                octets,
+            } => boxed(
+                alloc,
+                Outside {
+                    at: *at,
+                    node: *node,
+                    port: *port,
+                    from: *from,
+                    octets: copy_octets(octets),
+                },
+            ),
         }
     }
 
@@ -137,7 +133,7 @@ impl SmallEvent {
     {
         match &self.held {
             Held::Plain(e) => e.event(),
-            Held::Boxed(e) => copy(e),
+            Held::Boxed(e) => event_from(e),
         }
     }
 
@@ -147,8 +143,7 @@ impl SmallEvent {
     {
         match &self.held {
             Held::Plain(Plain::Boot { word: other, .. }) => *other == word,
-            Held::Plain(_) => false,
-            Held::Boxed(e) => is_boot_with(e, word),
+            Held::Plain(_) | Held::Boxed(_) => false,
         }
     }
 }

@@ -28,6 +28,7 @@ fn drifted(drift: u32, at: u64, reading: u64) -> u64
 }
 
 /// An error, less what is to spare, and twice a drift, in microseconds.
+#[tactic(auto, using(std::proofs::lemmas::Int::ints))]
 fn reach(err: i64, spare: u32, drift: u64) -> i128
     ensures reach { result ≡ (err -ℤ pos spare) +ℤ pos (2 * drift) }
     ensures low { neg_ℤ (pos (2 ^ 70)) ≤ℤ result }

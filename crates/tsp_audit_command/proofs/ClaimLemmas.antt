@@ -5,14 +5,13 @@ use Rattle.std.proofs.lemmas.Option.{get_or_from_slice_get, slice_get_within}
 use Rattle.std.proofs.Math.Seq.{drop-append_seam, get_or-append_seam, take-append_seam}
 use Rattle.tsp_audit.specs.Ends.{EndsAt}
 use Rattle.tsp_base.specs.declared.{act.Placed.Placed, event.Event.Event, trace.Line2.Line2}
-use Rattle.tsp_base.specs.declared.event.Event.TheVariants.{Boot as BootAt, Turn, Take, Bytes}
+use Rattle.tsp_base.specs.declared.event.Event.TheVariants.{Take}
 use Rattle.tsp_base.specs.Words.{HeaderValue, Acts, Begins, Line, Step, first_port, joined, line_of, Within}
 use Rattle.tsp_base.proofs.PlaceLemmas.{Within-length}
 use Rattle.tsp_audit_command.specs.Sound.{acts_in, claims_by, claims_on, first_end, placed_by}
-use Rattle.tsp_claims.specs.declared.{claims.Claims.Claims, tally.Tally.Tally}
 use Rattle.tsp_claims.specs.ClaimedHistory.{Claim, claimed, events_of, joins_acts, posts_of, step_at, step_of}
-use Rattle.tsp_claims.specs.Fitting.{Fit, LineFitsIn, acts_of, untold}
-use Rattle.tsp_claims.specs.{Listed.booted, Stands.ClaimsStand, Stands.claim_of, declared.claimed.Claimed.Claimed}
+use Rattle.tsp_claims.specs.{Fitting.Fit, Fitting.LineFitsIn, Fitting.acts_of, Fitting.untold, declared.claimed.Claimed.Claimed}
+use Rattle.tsp_claims.specs.{declared.claims.Claims.Claims, Stands.ClaimsStand, Stands.claim_of, declared.tally.Tally.Tally, Listed.booted}
 use Rattle.tsp_history.specs.Histories.{history_of}
 use Rattle.tsp_run.specs.Run.{step_tick}
 
@@ -58,11 +57,9 @@ unfit-none header posts up number e t (Some step) l is f = let bad : ⊥ = cc in
 -- an event of which lines fit makes a step, unless there are none
 no-step : (header : HeaderValue) (before : List Claim) (e : Event) (lines : List Line2) → Fit header before e lines → step_of header (posts_of header before) (booted (events_of before)) e (acts_of lines) ≡ None → acts_of lines ≡ []
 no-step header before e [] fit none = refl
-no-step header before (BootAt at node word) (l ∷ rest) fit none = let bad : ⊥ = cc in absurd bad
-no-step header before (Turn at node) (l ∷ rest) fit none = let bad : ⊥ = cc in absurd bad
 no-step header before (Take at k) (l ∷ rest) fit none =
     absurd (unfit-none header (posts_of header before) (booted (events_of before)) (length before + 1) (Take at k) untold (step_at header (posts_of header before) (booted (events_of before)) (Take at k)) l none fit.0)
-no-step header before (Bytes at node port from octets) (l ∷ rest) fit none = let bad : ⊥ = cc in absurd bad
+no-step header before _ _ fit none = let bad : ⊥ = cc in absurd bad
 
 -- what is claimed of one event more
 pub claims_by-more : (header : HeaderValue) (passed : List Claim) (e : Event) (lines : List Line2) (events : List Event) (ends : List ℕ) (n : ℕ) → claims_by events ends (claimed header passed) ≡ passed →

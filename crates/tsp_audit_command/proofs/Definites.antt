@@ -11,7 +11,7 @@ use Rattle.tsp_audit_command.specs.{Listings.most_nodes, Listings.refused_next, 
 use Rattle.tsp_audit_command.specs.Readings.{Claimed, MayEnd, ReadsOn, GivesVerdict, IsWanting, PassesLimit, ReachesReading, Reading, RefusesLine, Scheduling, nodes_at, reading_of}
 use Rattle.tsp_audit_command.proofs.{PassLemmas.none-some, PassLemmas.some-one, Reverses.reverse-more}
 use Rattle.tsp_claims.specs.{ClaimedHistory.Claim, ClaimedHistory.claimed, Fitting.lacks, Fitting.untold, Stands.claim_of}
-use Rattle.tsp_schedule.specs.Schedules.{Progress, Untitled, Titled, Drifted, Heading, Running, Ended, GoesOn as GoesOnBy, Reaches as ReachesBy}
+use Rattle.tsp_schedule.specs.Schedules.{Progress, Ended, GoesOn as GoesOnBy, Reaches as ReachesBy}
 use Rattle.tsp_schedule.proofs.Definites.{Lacks-one, Refuses-one, Refuses-within}
 use Rattle.tsp_schedule.proofs.OneReading.{GoesOn-not_limited, GoesOn-not_refused, Reaches-one as ReachesBy-one}
 use Rattle.tsp_schedule.proofs.ReadHeaders.{KeepsHeader, Reaches-header}
@@ -19,12 +19,8 @@ use Rattle.tsp_lines.specs.Definite.{IsDefinite}
 use Rattle.tsp_run.proofs.SettingLemmas.{each-is-set}
 
 reading-unended : (q p : Progress) → reading_of q ≡ Scheduling p → q ≡ p
-reading-unended Untitled p is = cc
-reading-unended (Titled version) p is = cc
-reading-unended (Drifted drift) p is = cc
-reading-unended (Heading header) p is = cc
-reading-unended (Running header events) p is = cc
 reading-unended (Ended header events) p is = let bad : ⊥ = cc in absurd bad
+reading-unended _ p is = cc
 
 -- lines that bring the reading somewhere in the schedule bring the schedule there
 scheduled : (lines : List (List ℕ)) (p : Progress) → ReachesReading lines (Scheduling p) → ReachesBy refused_next lines p
@@ -96,12 +92,8 @@ ended_whole (Scheduling p) more cause e f = e
 ended_whole (Claimed c) more cause e f = none-some (passes_all c) e.0 f.0 e.2
 
 reading-claimed : (q : Progress) (c : ClaimReaderValue) → reading_of q ≡ Claimed c → KeepsHeader q → IsHeader c.header
-reading-claimed Untitled c is h = let bad : ⊥ = cc in absurd bad
-reading-claimed (Titled version) c is h = let bad : ⊥ = cc in absurd bad
-reading-claimed (Drifted drift) c is h = let bad : ⊥ = cc in absurd bad
-reading-claimed (Heading header) c is h = let bad : ⊥ = cc in absurd bad
-reading-claimed (Running header events) c is h = let bad : ⊥ = cc in absurd bad
 reading-claimed (Ended header events) c is h = let same : unclaimed header events ≡ c = cc in subst (λ (v : ClaimReaderValue). IsHeader v.header) same h
+reading-claimed _ c is h = let bad : ⊥ = cc in absurd bad
 
 passed-header : (b : Bool) (v d : ClaimReaderValue) → (if b then None else Some v) ≡ Some d → d.header ≡ v.header
 passed-header true v d is = let bad : ⊥ = cc in absurd bad
@@ -183,8 +175,8 @@ one_end lines (Claimed c) more other reaches (all, found, passes_e, judges, is) 
 last-line : (lines : List (List ℕ)) (line : List ℕ) (r : Reading) → ReachesReading (reverse (lines ++ line ∷ [])) r → (q : Reading) × ReachesReading (reverse lines) q × ReadsOn q line r
 last-line lines line r reaches = subst (λ ls. ReachesReading ls r) (reverse-more lines line) reaches
 
-pub IsDefinite-auditing : IsDefinite auditing
-IsDefinite-auditing = record {
+pub definite_auditing : IsDefinite auditing
+definite_auditing = record {
   one_output = λ lines text other a b. a.2 ∙ sym b.2;
   before = λ lines line text a. let l = last-line lines line a.0 a.1 in ((λ full. full), ([], [], (l.0, l.1, refl), a.2));
   not_refused = λ lines line text cause a (q, s, f).

@@ -5,7 +5,7 @@ use Rattle.tsp_audit_command.specs.ClaimReaders.{ClaimReaderValue, and_then, pas
 use Rattle.tsp_audit_command.specs.Stands.{Unpassed}
 use Rattle.tsp_claims.specs.{ClaimedHistory.Claim, Fitting.lacks, Fitting.untold, Stands.claim_of}
 use Rattle.tsp_lines.specs.declared.treatment.Stop.{Stop}
-use Rattle.tsp_lines.specs.declared.treatment.Stop.TheVariants.{Bad, Limit, WriteFault, OutOfMemory}
+use Rattle.tsp_lines.specs.declared.treatment.Stop.TheVariants.{Bad}
 
 pub some-one : (a b : ClaimReaderValue) → Some a ≡ Some b → a ≡ b
 some-one a b p = cc
@@ -28,6 +28,4 @@ pass-whole header passed told e rest h = rw h refl
 -- where one event can't be passed, more can't
 pub Unpassed-more : (n : ℕ) (c : ClaimReaderValue) (all : Option ClaimReaderValue) (stop : Stop) → passes (suc n) c ≡ all → Unpassed (pass_one c) stop → Unpassed all stop
 Unpassed-more n c all (Bad cause) is u = (sym is ∙ passes-none n c u.0, u.1)
-Unpassed-more n c all Limit is u = u
-Unpassed-more n c all WriteFault is u = u
-Unpassed-more n c all OutOfMemory is u = u
+Unpassed-more n c all _ is u = u

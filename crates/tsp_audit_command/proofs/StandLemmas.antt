@@ -12,7 +12,7 @@ use Rattle.tsp_audit_command.specs.Readings.{Claimed, GivesVerdict, IsWanting, M
 use Rattle.tsp_audit_command.specs.Stands.{AdvancesReading, ClaimAdvances, Concludes, HaltsReading, HaltsConcluding, HasNodes, EventStands, IsLast, ListingStands, ReadingStands, ReadsSchedule, Unpassed, is_over}
 use Rattle.tsp_audit_command.proofs.{PassLemmas.some-one, Reverses.reverse-more, TraceLengths.SpellsTrace-long}
 use Rattle.tsp_schedule.specs.Schedules.{Progress, Untitled, Titled, Drifted, Heading, Running, Ended, IsEnded}
-use Rattle.tsp_schedule.specs.declared.stage.Stage.TheVariants.{Untitled as AtUntitled, Titled as AtTitled, Drifted as AtDrifted, Heading as AtHeading, Running as AtRunning}
+use Rattle.tsp_schedule.specs.declared.stage.Stage.TheVariants.{Running as AtRunning}
 use Rattle.tsp_schedule.specs.{Stages.StageStands, Stages.Advances as AdvancesBy, Stages.AdvancesByEvent, declared.stage.Stage.Stage}
 use Rattle.tsp_schedule.proofs.StageLemmas.{MatchOption-map, MatchResult-map}
 use Rattle.tsp_lines.specs.declared.treatment.Stop.TheVariants.{Bad, Limit, WriteFault, OutOfMemory}
@@ -60,16 +60,9 @@ pub Advances-open : (p : Progress) (line : List ℕ) (stage : Stage Listing) →
 Advances-open p line stage (a, few, more) = Advances-scheduled p line stage a (Schedule stage) few (held-open a.to stage a.stands_for more)
   where
     held-open : (q : Progress) (now : Stage Listing) → StageStands ListingStands q now → is_over now ≡ false → EventStands (reading_of q) (Schedule now)
-    held-open Untitled now h o = h
-    held-open (Titled version) now h o = h
-    held-open (Drifted drift) now h o = h
-    held-open (Heading header) now h o = h
-    held-open (Running header events) now h o = h
     held-open (Ended header events) (AtRunning run) h o = absurd (true≢false (sym h.0 ∙ o))
-    held-open (Ended header events) AtUntitled h o = absurd h
-    held-open (Ended header events) (AtTitled version) h o = absurd h
-    held-open (Ended header events) (AtDrifted header') h o = absurd h
-    held-open (Ended header events) (AtHeading header') h o = absurd h
+    held-open (Ended header events) _ h o = absurd h
+    held-open _ now h o = h
 
 -- what begins behind the last line
 Begins-behind : (q : Progress) (stage : Stage Listing) (next : AuditInput) (result : Result (Unit {0}) Stop) → StageStands ListingStands q stage → is_over stage ≡ true →
@@ -77,14 +70,8 @@ Begins-behind : (q : Progress) (stage : Stage Listing) (next : AuditInput) (resu
     MatchResult result (λ _. EventStands (reading_of q) next) (λ stop. stop ≡ OutOfMemory)
 Begins-behind (Ended header events) stage next result h o begins = begins header events h
 Begins-behind (Running header events) (AtRunning run) next result h o begins = absurd (true≢false (sym o ∙ h.0))
-Begins-behind Untitled (AtRunning run) next result h o begins = absurd h
-Begins-behind (Titled version) (AtRunning run) next result h o begins = absurd h
-Begins-behind (Drifted drift) (AtRunning run) next result h o begins = absurd h
-Begins-behind (Heading header) (AtRunning run) next result h o begins = absurd h
-Begins-behind q AtUntitled next result h o begins = absurd (true≢false (sym o))
-Begins-behind q (AtTitled version) next result h o begins = absurd (true≢false (sym o))
-Begins-behind q (AtDrifted header) next result h o begins = absurd (true≢false (sym o))
-Begins-behind q (AtHeading header) next result h o begins = absurd (true≢false (sym o))
+Begins-behind _ (AtRunning run) next result h o begins = absurd h
+Begins-behind _ _ next result h o begins = absurd (true≢false (sym o))
 
 -- it was the last one
 pub Advances-last : (p : Progress) (line : List ℕ) (stage : Stage Listing) (next : AuditInput) (result : Result (Unit {0}) Stop) → ReadsSchedule p line stage true →
@@ -98,11 +85,8 @@ ok-same r p q = cc
 
 -- the last line of a schedule with few nodes
 pub IsLast-by : (stage : Stage Listing) (count : ℕ) → HasNodes stage count → count ≤ most_nodes → is_over stage ≡ true → IsLast stage
-IsLast-by AtUntitled count has few o = absurd (true≢false (sym o))
-IsLast-by (AtTitled version) count has few o = absurd (true≢false (sym o))
-IsLast-by (AtDrifted header) count has few o = absurd (true≢false (sym o))
-IsLast-by (AtHeading header) count has few o = absurd (true≢false (sym o))
 IsLast-by (AtRunning run) count has few o = (o, subst (λ n. n ≤ most_nodes) has few)
+IsLast-by _ count has few o = absurd (true≢false (sym o))
 
 -- one that brings a node too many
 pub Halts-many : (p : Progress) (line : List ℕ) (stage : Stage Listing) (count : ℕ) → AdvancesBy refused_next ListingStands p line stage → ((q : Progress) → StageStands ListingStands q stage → count ≡ nodes_at q) → most_nodes < count → HaltsReading (Scheduling p) line Limit
@@ -169,10 +153,9 @@ Tried-advances lines text octets r next None written held reaches text_is ahead 
 
 -- a line that isn't accepted
 pub StopsAt-halts : (lines : List (List ℕ)) (text line : List ℕ) (r : Reading) (written : Option (List ℕ)) (held : List ℕ) (stop : Stop) → ReachesReading (reverse lines) r → HaltsReading r line stop → StopsAt auditing lines text line written held written held stop
-StopsAt-halts lines text line r written held (Bad cause) reaches h = (Hands-nil written held, (r, reaches, h))
-StopsAt-halts lines text line r written held Limit reaches h = (Hands-nil written held, (r, reaches, h))
 StopsAt-halts lines text line r written held WriteFault reaches h = absurd h
 StopsAt-halts lines text line r written held OutOfMemory reaches h = ([], Hands-nil written held, inl refl)
+StopsAt-halts lines text line r written held _ reaches h = (Hands-nil written held, (r, reaches, h))
 
 reading-open : (q p : Progress) → reading_of q ≡ Scheduling p → IsEnded p → ⊥
 reading-open Untitled p is e = let same : p ≡ Untitled = cc in subst (λ x. IsEnded x) same e
@@ -199,8 +182,7 @@ Stops-claims : (lines : List (List ℕ)) (c v : ClaimReaderValue) (written : Opt
     StopsAtEnd auditing lines written kept now keeps stop
 Stops-claims lines c v written kept now keeps (Bad cause) same reaches h = (h.0, (Claimed v, reaches, subst (λ x. IsWanting (Claimed x) cause) same h.1))
 Stops-claims lines c v written kept now keeps Limit same reaches h = h
-Stops-claims lines c v written kept now keeps WriteFault same reaches h = ([], h, inl refl)
-Stops-claims lines c v written kept now keeps OutOfMemory same reaches h = ([], h, inl refl)
+Stops-claims lines c v written kept now keeps _ same reaches h = ([], h, inl refl)
 
 -- the input ends behind the schedule
 pub Ends-claims : (lines : List (List ℕ)) (r : Reading) (held : AuditInput) (c : ClaimReaderValue) (written : Option (List ℕ)) (kept : List ℕ) (now : Option (List ℕ)) (keeps : List ℕ) (result : Result (Unit {0}) Stop) → held ≡ ClaimsOf c → ReachesReading (reverse lines) r → EventStands r held →

@@ -2,11 +2,11 @@
 use Rattle.std.proofs.Common.{ℕ, ◌^◌, ◌<◌, ◌≤◌, List, ◌++◌, Bool, true, false, length, arith, length-append, subst, suc, sym, ℤ, pos, negsuc, decimal, codes}
 use Rattle.std.specs.{Fmt.signed_decimal, Int.w64, Int.RustNames.FitsSigned}
 use Rattle.tsp_base.specs.{Words.alarm_word, declared.act.Act.Act, declared.alarm.Alarm.Alarm, declared.alarm.Alarm.TheVariants.Quiet}
-use Rattle.tsp_base.specs.declared.act.Act.TheVariants.{Boot, Took, Post, Become, Back, Backer, Quit, Arm, Ring, Late, Join, Leave, Rival, Acked, Gave, Sample, Close, Correct, Abandon, Trace}
+use Rattle.tsp_base.specs.declared.act.Act.TheVariants.{Took, Post, Become, Back, Backer, Quit, Arm, Ring, Late, Join, Leave, Rival, Acked, Gave, Sample, Close, Correct, Trace}
 use Rattle.tsp_base.specs.declared.datagram.{DecodeFault.DecodeFault, Taken.Taken, Taken.TheVariants.Good, Taken.TheVariants.Bad}
-use Rattle.tsp_base.specs.declared.datagram.DecodeFault.TheVariants.{Short, Long, Version, Kind, StampLength, NoEnd, NameTooLong, Reserved, Time}
+use Rattle.tsp_base.specs.declared.datagram.DecodeFault.TheVariants.{Short}
 use Rattle.tsp_base.specs.declared.{place.PeerId.PeerId, role.Role.Role, trace.Line2.Line2}
-use Rattle.tsp_base.specs.declared.role.Role.TheVariants.{Starting, Loose, Follow, Candidate, Master}
+use Rattle.tsp_base.specs.declared.role.Role.TheVariants.{Follow}
 use Rattle.tsp_schedule.proofs.LongLines.{place_length}
 use Rattle.tsp_script.{proofs.Lengths.number_length, proofs.MessageLengths.length-message_text, specs.Texts.space, specs.Texts.message_text}
 use Rattle.tsp_script.specs.ActLines.{IsAct, IsLine2, IsNumberOf, IsRole, IsTaken, SpellsTrace}
@@ -18,14 +18,7 @@ alarm_length _ = omega arith
 
 fault_length : (f : DecodeFault) → length (fault_word f) ≤ 13
 fault_length Short = omega arith
-fault_length Long = omega arith
-fault_length Version = omega arith
-fault_length Kind = omega arith
-fault_length StampLength = omega arith
-fault_length NoEnd = omega arith
-fault_length NameTooLong = omega arith
-fault_length Reserved = omega arith
-fault_length Time = omega arith
+fault_length _ = omega arith
 
 way_length : (stepped : Bool) → length (way_word stepped) ≤ 6
 way_length true = omega arith
@@ -35,11 +28,8 @@ peer_length : (p : PeerId) → p.0 < 2 ^ 32 → length (decimal p.0) ≤ 20
 peer_length p h = number_length p.0 (omega (arith, h))
 
 role_length : (r : Role) → IsRole r → length (role_text r) ≤ 27
-role_length Starting h = omega arith
-role_length Loose h = omega arith
 role_length (Follow p) h = omega (arith, length-append (codes "follow ") (decimal p.0), peer_length p h)
-role_length Candidate h = omega arith
-role_length Master h = omega arith
+role_length _ h = omega arith
 
 taken_length : (t : Taken) → IsTaken t → length (taken_text t) ≤ 818
 taken_length (Good d) h = length-message_text d h
@@ -96,7 +86,6 @@ correct_length amount stepped shown ha hs = omega (
 )
 
 act_length : (number : ℕ) (a : Act) → IsAct a → IsNumberOf a number → length (act_text number a) ≤ 865
-act_length number Boot h n = omega arith
 act_length number (Took from taken) h n = omega (
   arith,
   length-append ((codes "took " ++ place_text from) ++ space) (taken_text taken),
@@ -138,9 +127,9 @@ act_length number (Gave p) h n = omega (arith, length-append (codes "gave ") (de
 act_length number (Sample p counter diff err ticket) h n = sample_length p counter diff err ticket h.0 h.1 h.2 h.3 h.4
 act_length number (Close count lo width mean) h n = close_length count lo width mean h.0 h.1 h.2 h.3
 act_length number (Correct amount stepped shown) h n = correct_length amount stepped shown h.0 h.1
-act_length number Abandon h n = omega arith
 act_length number (Trace true) h n = omega arith
 act_length number (Trace false) h n = omega arith
+act_length number _ h n = omega arith
 
 trace_length : (l : Line2) → IsLine2 l → length (trace_text l.event l.node l.tick l.number l.placed) ≤ 1024
 trace_length l h = omega (

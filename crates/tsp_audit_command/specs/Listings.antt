@@ -6,8 +6,7 @@ use Rattle.tsp_base.specs.declared.event.Event.TheVariants.{Boot as BootAt, Turn
 use Rattle.tsp_base.specs.declared.event.EventFault.TheVariants.{Limit}
 use Rattle.tsp_base.specs.{Words.HeaderValue, Words.is_whole, declared.event.Event.Event, declared.event.EventFault.EventFault}
 use Rattle.tsp_claims.specs.Listed.{NamesNode, booted}
-use Rattle.tsp_run.specs.Refusals.{down, first_of, no_node, scene, time_back}
-use Rattle.tsp_run.specs.Run.{event_at, last_at}
+use Rattle.tsp_run.specs.{Refusals.down, Refusals.first_of, Refusals.no_node, Refusals.scene, Refusals.time_back, Run.event_at, Run.last_at}
 
 -- the most nodes that an audited schedule may have
 abbrev pub most_nodes : ℕ

@@ -4,6 +4,7 @@ ghost use Rattle.tsp_lines.specs.Definite.{IsDefinite};
 
 /// After any lines of an audit, at most one thing can come of the next line (it is accepted, refused for one cause, or
 /// past a limit), and at most one of the end: one verdict, or one cause.
+#[tactic(auto, using(crate::proofs::Definites::definite_auditing))]
 pub fn definite_audit()
     ensures { IsDefinite auditing }
 {}

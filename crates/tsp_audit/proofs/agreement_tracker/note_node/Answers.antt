@@ -1,4 +1,4 @@
-use Rattle.std.proofs.Common.{◌≡◌, ◌<◌, ◌≤◌, ◌∙◌, rules, arith, ap, refl, sym, set, length, get_or}
+use Rattle.std.proofs.Common.{◌≡◌, ◌<◌, ◌∙◌, rules, arith, ap, refl, sym, set, length, get_or}
 use Rattle.std.proofs.lemmas.List.{set-get_or}
 use Rattle.tsp_audit.proofs.AgreementSteps.{all-next, all-other, kept-at}
 use Rattle.tsp_history.specs.Histories.{history_of, line_of}
@@ -14,8 +14,7 @@ returns-then-node-len-clause-nodes c upto tell first all =
 
 pub returns-else-node-len-clause-nodes : goal.returns-else-node-len-clause-nodes
 returns-else-node-len-clause-nodes c upto tell first all =
-    let far : length c.args.nodes.now.items ≤ c.args.line.now.node = search arith in
-    all-other (history_of c.args.before.now) (line_of c.args.line.now) c.args.nodes.now.items all far
+    all-other (history_of c.args.before.now) (line_of c.args.line.now) c.args.nodes.now.items all (search arith)
 
 pub returns-then-node-len-clause-same : goal.returns-then-node-len-clause-same
 returns-then-node-len-clause-same c quiet =

@@ -1,30 +1,25 @@
 use Rattle.std.proofs.Common.{subst, ◌≡◌, ◌≤◌, ℕ, ◌+◌, true, false, not, List, [], ◌∷◌, Option, None, Some, slice_get, sym, inl, inr, refl}
 use Rattle.std.specs.List.{list_any}
 use Rattle.std.proofs.lemmas.Bool.{and_parts, eqb-false, leb-true, not-true, or_parts}
-use Rattle.tsp_audit.specs.Premised.{boots_with, forges, in_life, is_honest, keeps_life, repeats_word, takes_early, words_differ, premises_of}
+use Rattle.tsp_audit.specs.Premised.{boots_with, forges, in_life, is_honest, keeps_life, repeats_word, takes_early, words_differ}
 use Rattle.tsp_audit.specs.Parts.{Acting, Agreeing, AllKeep, Backing, Leading, Measuring}
-use Rattle.tsp_audit.specs.AuditedRuns.{claims_of, RunsHold}
 use Rattle.tsp_audit.proofs.RunClaims.{SamePost, get-ArePosts, told_are, events-claims}
-use Rattle.tsp_audit.specs.declared.{premises.Premises.Premises, verdict.Verdict.Verdict}
-use Rattle.tsp_audit.specs.declared.verdict.Verdict.TheVariants.{Holds, Fails}
-use Rattle.tsp_audit.specs.Verdicts.{AllHold, IsVerdict}
-use Rattle.tsp_rules.specs.Values.{Event, BootAt, Turn, Take, Bytes, Peer, Stranger, LIFE}
+use Rattle.tsp_audit.specs.{declared.verdict.Verdict.TheVariants.Holds, declared.verdict.Verdict.TheVariants.Fails, Premised.premises_of}
+use Rattle.tsp_audit.specs.{declared.premises.Premises.Premises, declared.verdict.Verdict.Verdict, Verdicts.AllHold, Verdicts.IsVerdict}
+use Rattle.tsp_audit.specs.AuditedRuns.{claims_of, RunsHold}
 use Rattle.tsp_base.specs.Words.{HeaderValue, Line}
 use Rattle.tsp_claims.specs.{ClaimedHistory.posts_of, ClaimedHistory.Claim, ClaimedHistory.claimed, declared.claimed.Claimed.Claimed}
 use Rattle.tsp_run.specs.Premised.{AllBootOtherwise, Apart, BootsOtherwise, IsApart, IsPrompt, IsSealed, Prompt, Sealed}
-use Rattle.tsp_run.specs.{Ranges.Accepted, Run.posts, Run.run, declared.posted.Posted.Posted}
-use Rattle.tsp_run.{proofs.SealedRun.accepted_before, specs.Setting.SetBy, proofs.RunPremises.runs-keep-premises}
-use Rattle.tsp_run.proofs.RunPromises.{runs-keep-promises}
+use Rattle.tsp_run.{proofs.RunPremises.runs_keep_premises, proofs.RunPromises.runs-keep-promises, specs.declared.posted.Posted.Posted}
+use Rattle.tsp_run.{proofs.SealedRun.accepted_before, specs.Ranges.Accepted, specs.Run.posts, specs.Run.run, specs.Setting.SetBy}
 use Rattle.tsp_promises.specs.{Premises.Honest, Premises.Life, Premises.Words, Safe.Safe, Setting.Setting}
 use Rattle.tsp_promises.proofs.WordsProof.{own_words}
 use Rattle.tsp_audit.proofs.laws.runs_hold.Goals as goal
+use Rattle.tsp_rules.specs.Values.{Event, BootAt, Take, Bytes, Peer, LIFE}
 
 is-sealed : (e : Event) → forges e ≡ false → IsSealed e
-is-sealed (BootAt at node word) f = tt
-is-sealed (Turn at node) f = tt
-is-sealed (Take at k) f = tt
 is-sealed (Bytes at node port (Peer p) octets) f = let no : ⊥ = cc in no
-is-sealed (Bytes at node port Stranger octets) f = tt
+is-sealed _ f = tt
 
 sealed-text : (events : List Event) → is_honest events ≡ true → Sealed events
 sealed-text [] h = tt
@@ -34,9 +29,7 @@ sealed-text (e ∷ before) h =
 
 boots-otherwise : (w : ℕ) (e : Event) → boots_with w e ≡ false → BootsOtherwise w e
 boots-otherwise w (BootAt at node word) f = λ same. eqb-false word w f same
-boots-otherwise w (Turn at node) f = tt
-boots-otherwise w (Take at k) f = tt
-boots-otherwise w (Bytes at node port from octets) f = tt
+boots-otherwise w _ f = tt
 
 all-otherwise : (w : ℕ) (events : List Event) → list_any (boots_with w) events ≡ false → AllBootOtherwise w events
 all-otherwise w [] f = tt
@@ -46,9 +39,7 @@ all-otherwise w (e ∷ before) f =
 
 is-apart : (e : Event) (before : List Event) → repeats_word e before ≡ false → IsApart e before
 is-apart (BootAt at node word) before f = all-otherwise word before f
-is-apart (Turn at node) before f = tt
-is-apart (Take at k) before f = tt
-is-apart (Bytes at node port from octets) before f = tt
+is-apart _ before f = tt
 
 apart-text : (events : List Event) → words_differ events ≡ true → Apart events
 apart-text [] d = tt
@@ -62,13 +53,11 @@ early-post None q at same e = absurd same
 early-post (Some c) q at same e = subst (λ t. at ≤ t + LIFE) same.at (leb-true at (c.at + LIFE) e)
 
 is-prompt : (header : HeaderValue) (before : List Event) → Accepted header before → (e : Event) → takes_early (posts_of header (claims_of header before)) e ≡ true → IsPrompt header before e
-is-prompt header before a (BootAt at node word) early = tt
-is-prompt header before a (Turn at node) early = tt
-is-prompt header before a (Bytes at node port from octets) early = tt
 is-prompt header before a (Take at k) early = λ q there.
     let claims = posts_of header (claims_of header before) in
     let same = get-ArePosts claims (posts (run header before)) k (told_are header before a).posts_are in
     early-post (slice_get claims k) q at (subst (λ o. SamePost (slice_get claims k) o) there same) early
+is-prompt header before a _ early = tt
 
 prompt-text : (header : HeaderValue) (events : List Event) → Accepted header events → keeps_life header (claims_of header events) ≡ true → Prompt header events
 prompt-text header [] a k = tt
@@ -112,7 +101,7 @@ one-less premises header e before p = record {
 
 granted : (premises : Premises) (header : HeaderValue) (events : List Event) → Accepted header events → Covered premises header events → Granted premises (run header events)
 granted premises header events a p =
-    let kept = runs-keep-premises header events a in
+    let kept = runs_keep_premises header events a in
     record {
       honest = λ h. kept.honest (sealed-text events (p.honest h));
       life = λ h. kept.life (prompt-text header events a (p.life h));

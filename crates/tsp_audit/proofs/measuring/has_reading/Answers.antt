@@ -1,8 +1,7 @@
-use Rattle.std.proofs.Common.{◌≡◌, ◌≤◌, ℤ, rules, get_or, subst₂, to_z, of_z, MatchBool, sym}
+use Rattle.std.proofs.Common.{◌≡◌, ◌≤◌, rules, get_or, to_z, of_z, sym}
 use Rattle.std.specs.Int.{w64, w128}
 use Rattle.tsp_history.specs.{Histories.history_of, Histories.line_of, declared.line.HistoryLine.HistoryLine}
-use Rattle.tsp_audit.specs.Measuring.{IsWithinError, RepliesAt}
-use Rattle.tsp_audit.proofs.{MeasureLemmas.read-decides, MeasureLemmas.read-none, Prefixes.at-line}
+use Rattle.tsp_audit.{proofs.MeasureLemmas.read-decides, proofs.MeasureLemmas.read-none, specs.Measuring.RepliesAt, proofs.Prefixes.at-line}
 use Rattle.tsp_history.proofs.NoteLemmas.{told_take}
 use Rattle.tsp_audit.proofs.measuring.has_reading.Goals as goal
 
@@ -19,13 +18,9 @@ returns-in-Some c setting has timely =
     let err : to_z w64 (of_z w64 c.args.err) ≡ c.args.err = search rules in
     let ahead : to_z w128 (of_z w128 c.clock_at-ahead.result) ≡ c.clock_at-ahead.result = search rules in
     let own : to_z w128 (of_z w128 c.clock_at-own.result) ≡ c.clock_at-own.result = search rules in
-    let clocks : MatchBool c.stands_ahead.result (IsWithinError (to_z w64 (of_z w64 c.args.diff)) (to_z w64 (of_z w64 c.args.err)) c.clock_at-ahead.result c.clock_at-own.result)
-    (IsWithinError (to_z w64 (of_z w64 c.args.diff)) (to_z w64 (of_z w64 c.args.err)) c.clock_at-ahead.result c.clock_at-own.result → ⊥) =
-    subst₂ (λ (a o : ℤ). MatchBool c.stands_ahead.result (IsWithinError (to_z w64 (of_z w64 c.args.diff)) (to_z w64 (of_z w64 c.args.err)) a o) (IsWithinError (to_z w64 (of_z w64 c.args.diff)) (to_z w64 (of_z w64 c.args.err)) a o → ⊥)) ahead own c.stands_ahead.ensures in
-    let near : MatchBool c.stands_ahead.result (IsWithinError c.args.diff c.args.err c.clock_at-ahead.result c.clock_at-own.result) (IsWithinError c.args.diff c.args.err c.clock_at-ahead.result c.clock_at-own.result → ⊥) =
-    subst₂ (λ (d e : ℤ). MatchBool c.stands_ahead.result (IsWithinError d e c.clock_at-ahead.result c.clock_at-own.result) (IsWithinError d e c.clock_at-ahead.result c.clock_at-own.result → ⊥)) diff err clocks in
-    read-decides c.args.header.now setting c.args.lines.now (line_of c.args.line.now) c.args.peer c.in-Some.index noted c.stands_ahead.result c.args.diff c.args.err c.clock_at-ahead.result c.clock_at-own.result has at here
-    (c.clock_at-ahead.ensures.clock soon) (c.clock_at-own.ensures.clock soon) near
+    read-decides c.args.header.now setting c.args.lines.now (line_of c.args.line.now) c.args.peer c.in-Some.index noted c.stands_ahead.result c.args.diff
+    c.args.err c.clock_at-ahead.result c.clock_at-own.result has at here (c.clock_at-ahead.ensures.clock soon) (c.clock_at-own.ensures.clock soon)
+    (rw (ahead, own, diff, err) at c.stands_ahead.ensures)
 
 pub clock_at-ahead-requires-clause-told : goal.clock_at-ahead-requires-clause-told
 clock_at-ahead-requires-clause-told c = told_take c.args.lines.now _ c.requires.told

@@ -1,5 +1,5 @@
-use Rattle.std.proofs.Common.{◌≡◌, Bool, true, rules, subst, MatchBool}
-use Rattle.tsp_promises.specs.Once.{ObeysAt, SpacedAt}
+use Rattle.std.proofs.Common.{true, rules}
+use Rattle.tsp_promises.specs.Once.{SpacedAt}
 use Rattle.tsp_history.specs.Histories.{history_of, line_of}
 use Rattle.tsp_audit.proofs.ActLemmas.{acts-decide}
 use Rattle.tsp_audit.proofs.once.acts_once.Goals as goal
@@ -11,13 +11,10 @@ returns-then-not-spaces c setting has timely a t w =
 
 pub returns-then-not-obeys_if : goal.returns-then-not-obeys_if
 returns-then-not-obeys_if c setting has timely a t w =
-    let bad : (c.args.premises.honest ≡ true → ObeysAt setting (line_of c.args.line.now) (history_of c.args.lines.now)) → ⊥ =
-    subst (λ (b : Bool). MatchBool b (c.args.premises.honest ≡ true → ObeysAt setting (line_of c.args.line.now) (history_of c.args.lines.now)) ((c.args.premises.honest ≡ true → ObeysAt setting (line_of c.args.line.now) (history_of c.args.lines.now)) → ⊥)) c.if-not-obeys_if.true (c.obeys_if.ensures setting has timely) in
+    let bad = rw c.if-not-obeys_if.true at (c.obeys_if.ensures setting has timely) in
     bad w.obeyed
 
 pub returns : goal.returns
 returns c setting has timely a t =
-    let spaced : SpacedAt (line_of c.args.line.now) (history_of c.args.lines.now) = search rules in
-    let obeyed : c.args.premises.honest ≡ true → ObeysAt setting (line_of c.args.line.now) (history_of c.args.lines.now) =
-    subst (λ (b : Bool). MatchBool b (c.args.premises.honest ≡ true → ObeysAt setting (line_of c.args.line.now) (history_of c.args.lines.now)) ((c.args.premises.honest ≡ true → ObeysAt setting (line_of c.args.line.now) (history_of c.args.lines.now)) → ⊥)) c.if-not-obeys_if.false (c.obeys_if.ensures setting has timely) in
-    acts-decide c.args.premises setting (line_of c.args.line.now) (history_of c.args.lines.now) c.takes_well_if.result spaced obeyed (c.takes_well_if.ensures a t)
+    acts-decide c.args.premises setting (line_of c.args.line.now) (history_of c.args.lines.now) c.takes_well_if.result (search rules)
+    (rw c.if-not-obeys_if.false at (c.obeys_if.ensures setting has timely)) (c.takes_well_if.ensures a t)

@@ -1,5 +1,5 @@
-use Rattle.std.proofs.Common.{◌≡◌, rules, get_or}
-use Rattle.tsp_history.specs.{Histories.history_of, Posts.PostsAt, declared.line.HistoryLine.HistoryLine}
+use Rattle.std.proofs.Common.{sym}
+use Rattle.tsp_history.specs.Histories.{history_of}
 use Rattle.tsp_audit.proofs.TakeLemmas.{corrects-at, corrects-none}
 use Rattle.tsp_audit.proofs.once.corrects.Goals as goal
 
@@ -8,7 +8,5 @@ returns-in-None c = corrects-none (history_of c.args.lines.now) c.args.number c.
 
 pub returns-in-Some : goal.returns-in-Some
 returns-in-Some c =
-    let at : PostsAt c.args.lines.now c.args.number c.in-Some.index = search rules in
-    let noted : HistoryLine = c.index-lines-index.result in
-    let here : get_or c.args.lines.now c.in-Some.index noted ≡ noted = search rules in
-    corrects-at c.args.lines.now c.args.number c.in-Some.index noted c.is_correcting.result at here c.is_correcting.ensures
+    corrects-at c.args.lines.now c.args.number c.in-Some.index c.index-lines-index.result c.is_correcting.result c.in-Some.ensures
+    (sym c.index-lines-index.is) c.is_correcting.ensures

@@ -1,7 +1,7 @@
-use Rattle.std.proofs.Common.{◌≡◌, ◌∷◌, ap, subst, sym, ◌∙◌, refl, rules, List, ℕ, to_z, of_z, ℤ}
+use Rattle.std.proofs.Common.{◌≡◌, ◌∷◌, ap, subst, sym, ◌∙◌, refl, rules, List, to_z, of_z, ℤ}
 use Rattle.std.specs.Int.{w128}
 use Rattle.tsp_rules.specs.Values.{Boot}
-use Rattle.tsp_base.specs.Words.{Acts, Line, dids, of, all_corrects, all_corrects_after, lives_after, moved}
+use Rattle.tsp_base.specs.Words.{Acts, Line, dids, of, all_corrects, moved}
 use Rattle.tsp_history.specs.{Clocks.IsSumOf, Histories.deed_of, Histories.history_of, Histories.line_of}
 use Rattle.tsp_audit.specs.Changes.{IsCorrect}
 use Rattle.tsp_audit.proofs.StateLemmas.{boot-loud, correct-loud, node-correct, node-still, still-deed, sum-more}
@@ -9,9 +9,8 @@ use Rattle.tsp_audit.proofs.states.state_after.Goals as goal
 
 pub returns-clause-is : goal.returns-clause-is
 returns-clause-is c upto tell first is =
-    let boots : (k : ℕ) → lives_after (deed_of c.args.line.now.act) k ≡ k = search rules in
-    let corrects : (k : ℕ) → all_corrects_after (deed_of c.args.line.now.act) k ≡ k = search rules in
-    node-still c.args.line.now.node (line_of c.args.line.now) (history_of c.args.before.now) c.args.was (still-deed c.args.line.now.node (line_of c.args.line.now) (history_of c.args.before.now) refl boots corrects) is
+    let still = still-deed c.args.line.now.node (line_of c.args.line.now) (history_of c.args.before.now) refl (search rules) (search rules) in
+    node-still c.args.line.now.node (line_of c.args.line.now) (history_of c.args.before.now) c.args.was still is
 
 pub returns-then-is_boot-clause-same : goal.returns-then-is_boot-clause-same
 returns-then-is_boot-clause-same c quiet = let boots : deed_of c.args.line.now.act ≡ Acts Boot = search rules in absurd (boot-loud (deed_of c.args.line.now.act) boots quiet)

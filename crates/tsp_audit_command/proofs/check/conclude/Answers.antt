@@ -6,19 +6,15 @@ use Rattle.tsp_audit_command.proofs.check.conclude.Goals as goal
 pub returns-in-Err-clause-ends : goal.returns-in-Err-clause-ends
 returns-in-Err-clause-ends g c = Halts-concluding c.args.claiming _ _ c.in-Err.stop c.in-Err.ensures
 
-pub returns-in-Ok-judge-clause-later : goal.returns-in-Ok-judge-clause-later
-returns-in-Ok-judge-clause-later g c = c.tell.ensures.later
-
-pub returns-in-Ok-judge-clause-cause : goal.returns-in-Ok-judge-clause-cause
-returns-in-Ok-judge-clause-cause g c = c.tell.ensures.cause
-
-pub returns-in-Ok-judge-clause-still : goal.returns-in-Ok-judge-clause-still
-returns-in-Ok-judge-clause-still g c = c.tell.ensures.still
-
-pub returns-in-Ok-judge-clause-ends : goal.returns-in-Ok-judge-clause-ends
-returns-in-Ok-judge-clause-ends g c =
-    let told = c.tell.ensures in
-    Concludes-told c.args.claiming c.pass_all.new.self c.in-Ok-judge.found _ _ _ _ c.tell.result c.in-Ok.ensures c.in-Ok-judge.ensures told.ok told.err told.stop
+pub returns-in-Ok-judge : goal.returns-in-Ok-judge
+returns-in-Ok-judge g c = record {
+  later = c.tell.ensures.later;
+  cause = c.tell.ensures.cause;
+  still = c.tell.ensures.still;
+  ends =
+      let told = c.tell.ensures in
+      Concludes-told c.args.claiming c.pass_all.new.self c.in-Ok-judge.found _ _ _ _ c.tell.result c.in-Ok.ensures c.in-Ok-judge.ensures told.ok told.err told.stop;
+}
 
 pub returns-in-Err-judge-clause-ends : goal.returns-in-Err-judge-clause-ends
 returns-in-Err-judge-clause-ends g c = Hands-nil _ _

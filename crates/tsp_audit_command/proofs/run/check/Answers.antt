@@ -1,7 +1,7 @@
 use Rattle.std.proofs.Common.{◌∙◌, subst, inl, inr, sym, refl, ◌≡◌, ◌⊎◌, ℕ, ◌≤◌, List, [], length, reverse, Option, Some}
 use Rattle.tsp_audit_command.specs.Readings.{Claimed, IsWanting, ReachesReading, Reading, Scheduling}
 use Rattle.tsp_audit_command.specs.{ClaimReaders.ClaimReaderValue, ClaimReaders.passes_all, Meaning.IsAuditText, Meaning.auditing}
-use Rattle.tsp_audit_command.proofs.{Definites.IsDefinite-auditing, Definites.Reaches-one, PassLemmas.none-some}
+use Rattle.tsp_audit_command.proofs.{Definites.definite_auditing, Definites.Reaches-one, PassLemmas.none-some}
 use Rattle.tsp_lines.specs.declared.treat.Outcome.TheVariants.{Ok as Done, Bad, ReadFault, WriteFault, Limit, OutOfMemory}
 use Rattle.tsp_lines.specs.{Answers.Agrees, Answers.IsAnswer, Definite.IsDefinite, Gatherings.ComesGathered, Meanings.Meaning}
 use Rattle.tsp_lines.{proofs.OneAnswer.Comes-answers, specs.declared.treat.Outcome.Outcome, specs.declared.limits.TheConstants.MOST_INPUT}
@@ -9,13 +9,8 @@ use Rattle.tsp_audit_command.proofs.run.check.Goals as goal
 
 -- the same lines, where nothing is handed over at their end
 abbrev silently : Meaning
-silently = record {
-  accepts = auditing.accepts;
-  refuses = auditing.refuses;
-  limits = auditing.limits;
-  full = auditing.full;
+silently = record auditing {
   ends = λ lines more. (c : ClaimReaderValue) × (all : ClaimReaderValue) × ReachesReading (reverse lines) (Claimed c) × (passes_all c ≡ Some all) × (more ≡ []);
-  lacks = auditing.lacks;
 }
 
 ended_whole : (at : Reading) (c all : ClaimReaderValue) (cause : List ℕ) → Claimed c ≡ at → passes_all c ≡ Some all → IsWanting at cause → ⊥
@@ -24,14 +19,14 @@ ended_whole (Claimed d) c all cause same passes f = let is : c ≡ d = cc in non
 
 silent : IsDefinite silently
 silent = record {
-  one_output = IsDefinite-auditing.one_output;
-  before = IsDefinite-auditing.before;
-  not_refused = IsDefinite-auditing.not_refused;
-  not_limited = IsDefinite-auditing.not_limited;
-  one_cause = IsDefinite-auditing.one_cause;
-  refused_within = IsDefinite-auditing.refused_within;
+  one_output = definite_auditing.one_output;
+  before = definite_auditing.before;
+  not_refused = definite_auditing.not_refused;
+  not_limited = definite_auditing.not_limited;
+  one_cause = definite_auditing.one_cause;
+  refused_within = definite_auditing.refused_within;
+  one_lack = definite_auditing.one_lack;
   one_end = λ lines more other a b. a.4 ∙ sym b.4;
-  one_lack = IsDefinite-auditing.one_lack;
   ended_whole = λ lines more cause a (r, s, f). ended_whole r a.0 a.1 cause (Reaches-one (reverse lines) (Claimed a.0) r a.2 s) a.3 f;
 }
 
@@ -61,12 +56,10 @@ complete limit input left written now octets Limit told short text comes read wr
     inl (sym agrees.0)
 complete limit input left written now octets OutOfMemory told short text comes read write = inr refl
 
-pub returns-clause-treats : goal.returns-clause-treats
-returns-clause-treats g c = c.treat_gathered.ensures
-
-pub returns-clause-answers : goal.returns-clause-answers
-returns-clause-answers g c = c.treat_gathered.ensures.answers IsDefinite-auditing
-
-pub returns-clause-complete : goal.returns-clause-complete
-returns-clause-complete g c = λ octets told limit text reads writes.
-    complete MOST_INPUT _ _ _ _ octets c.treat_gathered.result told limit text c.treat_gathered.ensures.comes (λ e. reads (c.treat_gathered.ensures.leaves.read e).0) (λ e. writes (c.treat_gathered.ensures.leaves.write e))
+pub returns : goal.returns
+returns g c = record {
+  treats = c.treat_gathered.ensures;
+  answers = c.treat_gathered.ensures.answers definite_auditing;
+  complete = λ octets told limit text reads writes.
+      complete MOST_INPUT _ _ _ _ octets c.treat_gathered.result told limit text c.treat_gathered.ensures.comes (λ e. reads (c.treat_gathered.ensures.leaves.read e).0) (λ e. writes (c.treat_gathered.ensures.leaves.write e));
+}

@@ -1,10 +1,10 @@
-use Rattle.std.proofs.Common.{◌≡◌, ◌+◌, ◌∷◌, ◌++◌, ◌∙◌, [], ℤ, List, rules, arith, sym, ap, subst, get_or, take, to_z, of_z}
+use Rattle.std.proofs.Common.{◌≡◌, ◌+◌, ◌∷◌, ◌++◌, ◌∙◌, [], ℤ, List, rules, arith, sym, ap, subst, take, to_z, of_z}
 use Rattle.tsp_base.specs.Words.{Line}
-use Rattle.tsp_audit.specs.{Agreeing.AgreementIs, Changes.LeavesState, declared.agreement_tracker.AgreementTracker.AgreementTracker}
+use Rattle.tsp_audit.specs.{Agreeing.AgreementIs, declared.agreement_tracker.AgreementTracker.AgreementTracker}
 use Rattle.tsp_audit.proofs.{AgreementSteps.agreement-next, SampleLemmas.history-length}
 use Rattle.tsp_history.{proofs.HistoryLemmas.history-more, proofs.NoteLemmas.told_take, specs.declared.line.HistoryLine.HistoryLine}
 use Rattle.std.{proofs.lemmas.List.get_or_default, specs.Int.w128}
-use Rattle.tsp_history.specs.{Histories.deed_of, Histories.history_of, Histories.line_of, Rounds.TripsTell}
+use Rattle.tsp_history.specs.Histories.{history_of, line_of}
 use Rattle.tsp_audit.proofs.agreement_tracker.AgreementTracker.note.Goals as goal
 
 pub returns-clause-agreement : goal.returns-clause-agreement
@@ -12,11 +12,10 @@ returns-clause-agreement c count spare is =
     let lines = c.args.lines.now in
     let i = c.args.index in
     let noted : HistoryLine = c.index-lines-index.result in
-    let here : get_or lines i noted ≡ noted = search rules in
     let h = history_of (take i lines) in
-    let more : history_of (take (i + 1) lines) ≡ line_of noted ∷ h = history-more lines i noted c.requires.below here in
+    let more : history_of (take (i + 1) lines) ≡ line_of noted ∷ h = history-more lines i noted c.requires.below (sym c.index-lines-index.is) in
     let slice : c.as_slice.result.now ≡ c.args.self.now.trips.items = search rules in
-    let tell : TripsTell h c.as_slice.result.now = subst (λ (t : List ℤ). TripsTell h t) (sym slice) is.trips_tell in
+    let tell = rw (← slice) at is.trips_tell in
     let same : to_z w128 (of_z w128 c.trip_of-trip.result) ≡ c.trip_of-trip.result = search rules in
     let trips = c.note_trip.ensures.items spare ∙ ap (λ (z : ℤ). c.args.self.now.trips.items ++ z ∷ []) (same ∙ c.trip_of-trip.ensures.trip) in
     let last = c.newest-self.ensures h (sym (history-length lines i (omega (arith, c.requires.below)))) is.last_is in
@@ -35,9 +34,5 @@ note_node-requires-clause-past c = told_take c.args.lines.now c.args.index c.req
 
 pub returns-clause-same : goal.returns-clause-same
 returns-clause-same c line at quiet =
-    let lines = c.args.lines.now in
-    let i = c.args.index in
-    let noted : HistoryLine = c.index-lines-index.result in
-    let here : get_or lines i noted ≡ noted = search rules in
-    let one : line ≡ noted = sym at ∙ (get_or_default lines i line noted c.requires.below ∙ here) in
-    c.note_node.ensures.same (subst (λ (l : HistoryLine). LeavesState (deed_of l.act)) one quiet)
+    let one = sym at ∙ (get_or_default c.args.lines.now c.args.index line c.index-lines-index.result c.requires.below ∙ sym c.index-lines-index.is) in
+    c.note_node.ensures.same (rw one at quiet)

@@ -1,5 +1,5 @@
 -- The event is listed, and its node may have woken.
-use Rattle.std.proofs.Common.{◌≡◌, ◌∙◌, ap, inl, inr, refl, rules, sym, ◌∷◌, ◌++◌, [], ◌||◌, None}
+use Rattle.std.proofs.Common.{◌≡◌, ◌∙◌, ap, inl, inr, refl, rules, sym, ◌∷◌, ◌++◌, [], ◌||◌}
 use Rattle.std.proofs.Math.Path.{fun_ext}
 use Rattle.tsp_claims.specs.Listed.{is_boot_of}
 use Rattle.tsp_audit_command.proofs.{Reverses.reversed-more, StandLemmas.refused_next-as}
@@ -27,15 +27,12 @@ returns-in-Some-clause-fault c header events s = inl (sym (refused_next-as heade
 
 pub returns-in_default-of-clause-fault : goal.returns-in_default-of-clause-fault
 returns-in_default-of-clause-fault c header events s =
-    let none : c.refusal.result ≡ None = search rules in
-    inr (sym (refused_next-as header events c.args.self.now c.args.e.now s) ∙ (sym c.refusal.ensures ∙ none), refl)
+    inr (sym (refused_next-as header events c.args.self.now c.args.e.now s) ∙ (sym c.refusal.ensures ∙ search rules), refl)
 
 pub returns-then-is_err-clause-fault : goal.returns-then-is_err-clause-fault
 returns-then-is_err-clause-fault c header events s =
-    let none : c.refusal.result ≡ None = search rules in
-    inr (sym (refused_next-as header events c.args.self.now c.args.e.now s) ∙ (sym c.refusal.ensures ∙ none), refl)
+    inr (sym (refused_next-as header events c.args.self.now c.args.e.now s) ∙ (sym c.refusal.ensures ∙ search rules), refl)
 
 pub returns-clause-fault : goal.returns-clause-fault
 returns-clause-fault c header events s =
-    let none : c.refusal.result ≡ None = search rules in
-    sym (refused_next-as header events c.args.self.now c.args.e.now s) ∙ (sym c.refusal.ensures ∙ none)
+    sym (refused_next-as header events c.args.self.now c.args.e.now s) ∙ (sym c.refusal.ensures ∙ search rules)
