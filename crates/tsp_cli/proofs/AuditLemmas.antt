@@ -6,7 +6,7 @@ use Rattle.tsp_lines.specs.declared.treat.Outcome.TheVariants.{Ok as Done, ReadF
 use Rattle.tsp_lines.specs.{Answers.Answers, Gatherings.ComesGathered, Gatherings.IsGathered, declared.limits.TheConstants.MOST_INPUT}
 use Rattle.tsp_lines.{proofs.OneAnswer.Agrees-outcome, specs.declared.treat.Outcome.Outcome}
 use Rattle.tsp_cli.specs.{Commands.RunsAudit, Statuses.status_of, declared.status.Status.Status}
-use Rattle.tsp_cli.{proofs.RunLemmas.status_ok, proofs.RunLemmas.status_same, specs.declared.status.Status.TheVariants.OutOfMemory}
+use Rattle.tsp_cli.{proofs.RunLemmas.status_by, proofs.RunLemmas.status_same, specs.declared.status.Status.TheVariants.OutOfMemory}
 
 -- the treatment of a claimed history is the run of an audit
 pub RunsAudit-treated : (input left written now : Option (List ℕ)) (ended : Bool) (reads reads_now writes writes_now : ℕ) (o : Outcome) (status : Status) → status ≡ status_of o
@@ -22,5 +22,5 @@ RunsAudit-treated input left written now ended reads reads_now writes writes_now
   decided = λ octets answer output told a r w. subst (λ (s : Status). (s ≡ status_of answer) ⊎ (s ≡ OutOfMemory)) (sym is) (status_same o answer (Agrees-outcome answer o output written now (answers octets answer output told a) (λ e. r (read e)) (λ e. w (write e))));
   complete = λ octets told l text r w. subst (λ (s : Status). (s ≡ status_of Done) ⊎ (s ≡ OutOfMemory)) (sym is) (status_same o Done (complete octets told l text r w));
   gathered = λ not_read not_held. gathered (λ e. not_read (is ∙ ap status_of e)) (λ e. not_held (is ∙ ap status_of e));
-  whole = λ e. whole (status_ok o (sym is ∙ e));
+  whole = λ e. whole ((status_by o).0 (sym is ∙ e));
 }

@@ -7,12 +7,12 @@ use Rattle.tsp_lines.proofs.Outputs.{Grows-nil}
 use Rattle.tsp_query.proofs.AskLemmas.{of_some}
 use Rattle.tsp_rules.specs.Guards.{is_clock_value}
 use Rattle.tsp_storm.specs.declared.run.StormEnd.{StormEnd}
-use Rattle.tsp_storm.specs.declared.run.StormEnd.TheVariants.{Done as Summed, Limit as Full, WriteFault as Unsaid, OutOfMemory as Unmade}
+use Rattle.tsp_storm.specs.declared.run.StormEnd.TheVariants.{Done as Summed, WriteFault as Unsaid, OutOfMemory as Unmade}
 use Rattle.tsp_storm.specs.Answers.{IsStormAnswer, AgreesWithAnswer, HasEventRoom, StormsAs}
 use Rattle.tsp_daemon.specs.declared.exit.DaemonExit.TheVariants.{Done as AllTurns, BadWall, LinkFault as NotHeard, WriteFault as NotShown, OutOfMemory as Unserved}
 use Rattle.tsp_daemon.specs.{Serving.ServesAs, declared.exit.DaemonExit.DaemonExit}
 use Rattle.tsp_args.specs.{Commands.words_of, Commands.IsCommand, Commands.IsNoCommand, declared.command.Command.Command}
-use Rattle.tsp_args.specs.declared.command.Command.TheVariants.{Replay, Show, Pack, Serve, Ask, Storm, Icmp, Audit}
+use Rattle.tsp_args.specs.declared.command.Command.TheVariants.{Replay, Serve, Ask, Storm}
 use Rattle.tsp_args.specs.declared.{query.Query.Query, serve.ServeWords.ServeWords, storm.StormWords.StormWords}
 use Rattle.tsp_cli.specs.declared.status.Status.TheVariants.{Ok, Usage, ReadFault, WriteFault, LinkFault, NoAnswer, OutOfMemory}
 use Rattle.tsp_cli.specs.Commands.{Now, Does, IsAsk, IsQuestion, LinkFaults, Untouched, RunsDaemon, RunsQuery, RunsStorm}
@@ -22,50 +22,21 @@ use Rattle.tsp_cli.proofs.{HeadlineLemmas.EndsAs-prints, SoFarLemmas.EndsAs-so-f
 
 -- a command that is left as it is leaves all objects
 pub Untouched-same : {S L T : Type 0} (c : Command) (source : S) (link : L) (ticker : T) → Untouched c source source link link ticker ticker
-Untouched-same Replay source link ticker = (refl, refl)
-Untouched-same Show source link ticker = (refl, refl)
-Untouched-same Pack source link ticker = (refl, refl)
 Untouched-same (Serve s) source link ticker = refl
 Untouched-same (Ask a q) source link ticker = refl
 Untouched-same (Storm s) source link ticker = (refl, refl, refl)
-Untouched-same Icmp source link ticker = (refl, refl)
-Untouched-same Audit source link ticker = (refl, refl)
+Untouched-same _ source link ticker = (refl, refl)
 
 -- nothing was written of the words of a wrong use, for lack of memory
 pub Says-nothing : (written : Option (List ℕ)) → Says usage_line Usage written written OutOfMemory
 Says-nothing written = inr (inr refl, ([], usage_line, omega arith, refl, Grows-nil written))
 
--- a daemon's status is never a failed read's
-pub served_unread : (s : DaemonExit) → status_of_served s ≡ ReadFault → ⊥
-served_unread AllTurns e = cc
-served_unread BadWall e = cc
-served_unread NotHeard e = cc
-served_unread NotShown e = cc
-served_unread Unserved e = cc
-
--- nor a wrong use's
-pub served_used : (s : DaemonExit) → status_of_served s ≡ Usage → ⊥
-served_used AllTurns e = cc
-served_used BadWall e = cc
-served_used NotHeard e = cc
-served_used NotShown e = cc
-served_used Unserved e = cc
-
--- a daemon ends by its link only where its session did
-pub served_linked : (s : DaemonExit) → status_of_served s ≡ LinkFault → s ≡ NotHeard
-served_linked AllTurns e = cc
-served_linked BadWall e = cc
-served_linked NotHeard e = refl
-served_linked NotShown e = cc
-served_linked Unserved e = cc
-
--- a daemon ends by a write only where its session did
-pub served_written : (s : DaemonExit) → status_of_served s ≡ WriteFault → s ≡ NotShown
-served_written AllTurns e = cc
-served_written BadWall e = cc
-served_written NotHeard e = cc
-served_written NotShown e = refl
-served_written Unserved e = cc
+-- a daemon's status is never a failed read's nor a wrong use's; it ends by its link or by a write only where its session did
+pub served_by : (s : DaemonExit) → (status_of_served s ≡ ReadFault → ⊥) × (status_of_served s ≡ Usage → ⊥) ×
+    (status_of_served s ≡ LinkFault → s ≡ NotHeard) × (status_of_served s ≡ WriteFault → s ≡ NotShown)
+served_by NotHeard = ((λ e. cc), (λ e. cc), (λ e. refl), (λ e. cc))
+served_by NotShown = ((λ e. cc), (λ e. cc), (λ e. cc), (λ e. refl))
+served_by _ = ((λ e. cc), (λ e. cc), (λ e. cc), (λ e. cc))
 
 served_complete : (s : DaemonExit) (links links_now writes writes_now : ℕ) (told : Option ℤ) (wall : ℤ) → (s ≡ BadWall → IfSome told (λ w. is_clock_value w ≡ false)) → (s ≡ NotHeard → Rose links links_now) → (s ≡ NotShown → Rose writes writes_now)
     → told ≡ Some wall → is_clock_value wall ≡ true → ¬ Rose links links_now → ¬ Rose writes writes_now → (status_of_served s ≡ Ok) ⊎ (status_of_served s ≡ OutOfMemory)
@@ -90,37 +61,13 @@ RunsDaemon-served s old new links links_now writes writes_now served status e se
   complete = λ wall is within l w. subst (λ (x : Status). (x ≡ Ok) ⊎ (x ≡ OutOfMemory)) (sym e) (served_complete served links links_now writes writes_now old.wall wall bad heard shown is within l w);
 }
 
--- a question's status is never a failed read's
-pub asking_unread : (a : QueryExit) → status_of_asking a ≡ ReadFault → ⊥
-asking_unread Answered e = cc
-asking_unread Unanswered e = cc
-asking_unread NotAsked e = cc
-asking_unread Untold e = cc
-asking_unread Unasked e = cc
-
--- nor a wrong use's
-pub asking_used : (a : QueryExit) → status_of_asking a ≡ Usage → ⊥
-asking_used Answered e = cc
-asking_used Unanswered e = cc
-asking_used NotAsked e = cc
-asking_used Untold e = cc
-asking_used Unasked e = cc
-
--- a question ends by its link only where asking did
-pub asking_linked : (a : QueryExit) → status_of_asking a ≡ LinkFault → a ≡ NotAsked
-asking_linked Answered e = cc
-asking_linked Unanswered e = cc
-asking_linked NotAsked e = refl
-asking_linked Untold e = cc
-asking_linked Unasked e = cc
-
--- a question ends by a write only where its line's did
-pub asking_written : (a : QueryExit) → status_of_asking a ≡ WriteFault → a ≡ Untold
-asking_written Answered e = cc
-asking_written Unanswered e = cc
-asking_written NotAsked e = cc
-asking_written Untold e = refl
-asking_written Unasked e = cc
+-- a question's status is never a failed read's nor a wrong use's; it ends by its link only where asking did, and by a write only
+-- where its line's did
+pub asking_by : (a : QueryExit) → (status_of_asking a ≡ ReadFault → ⊥) × (status_of_asking a ≡ Usage → ⊥) ×
+    (status_of_asking a ≡ LinkFault → a ≡ NotAsked) × (status_of_asking a ≡ WriteFault → a ≡ Untold)
+asking_by NotAsked = ((λ e. cc), (λ e. cc), (λ e. refl), (λ e. cc))
+asking_by Untold = ((λ e. cc), (λ e. cc), (λ e. cc), (λ e. refl))
+asking_by _ = ((λ e. cc), (λ e. cc), (λ e. cc), (λ e. cc))
 
 asking_complete : (a : QueryExit) (links links_now sends sends_now writes writes_now : ℕ) → (a ≡ NotAsked → Rose links links_now ⊎ Rose sends sends_now) → (a ≡ Untold → Rose writes writes_now)
     → ¬ Rose links links_now → ¬ Rose sends sends_now → ¬ Rose writes writes_now → (status_of_asking a ≡ Ok) ⊎ (status_of_asking a ≡ NoAnswer) ⊎ (status_of_asking a ≡ OutOfMemory)
@@ -142,31 +89,12 @@ RunsQuery-asked daemon q old new links links_now sends sends_now writes writes_n
   complete = λ l s w. subst (λ (x : Status). (x ≡ Ok) ⊎ (x ≡ NoAnswer) ⊎ (x ≡ OutOfMemory)) (sym e) (asking_complete asking links links_now sends sends_now writes writes_now asked told l s w);
 }
 
--- a storm's status is none of a source's, a link's or a wrong use's
-pub storm_unread : (e : StormEnd) → status_of_storm e ≡ ReadFault → ⊥
-storm_unread Summed e = cc
-storm_unread Full e = cc
-storm_unread Unsaid e = cc
-storm_unread Unmade e = cc
-
-pub storm_unlinked : (e : StormEnd) → status_of_storm e ≡ LinkFault → ⊥
-storm_unlinked Summed e = cc
-storm_unlinked Full e = cc
-storm_unlinked Unsaid e = cc
-storm_unlinked Unmade e = cc
-
-pub storm_used : (e : StormEnd) → status_of_storm e ≡ Usage → ⊥
-storm_used Summed e = cc
-storm_used Full e = cc
-storm_used Unsaid e = cc
-storm_used Unmade e = cc
-
--- a storm ends by a write only where its summary or its limit wasn't written
-pub storm_written : (e : StormEnd) → status_of_storm e ≡ WriteFault → e ≡ Unsaid
-storm_written Summed e = cc
-storm_written Full e = cc
-storm_written Unsaid e = refl
-storm_written Unmade e = cc
+-- a storm's status is none of a source's, a wrong use's or a link's; it ends by a write only where its summary or its limit
+-- wasn't written
+pub storm_by : (e : StormEnd) → (status_of_storm e ≡ ReadFault → ⊥) × (status_of_storm e ≡ Usage → ⊥) × (status_of_storm e ≡ LinkFault → ⊥) ×
+    (status_of_storm e ≡ WriteFault → e ≡ Unsaid)
+storm_by Unsaid = ((λ e. cc), (λ e. cc), (λ e. cc), (λ e. refl))
+storm_by _ = ((λ e. cc), (λ e. cc), (λ e. cc), (λ e. cc))
 
 storm_ends : (e : StormEnd) → (e ≡ Summed) ⊎ (e ≡ Unmade) → (status_of_storm e ≡ Ok) ⊎ (status_of_storm e ≡ OutOfMemory)
 storm_ends e h = elim h [ inl s ↦ inl (ap (λ (x : StormEnd). status_of_storm x) s) | inr s ↦ inr (ap (λ (x : StormEnd). status_of_storm x) s) ]

@@ -2,34 +2,30 @@
 use Rattle.std.proofs.Common.{sym, ap, ◌∙◌, inl, inr, subst, append-nil, ◌≡◌, ℕ, ◌==◌, Bool, true, false, if◌then◌else◌, List, [], ◌∷◌, ◌++◌, reverse, Option, All}
 use Rattle.std.proofs.lemmas.List.Elements.{All-cons, All-nil}
 use Rattle.hex.proofs.HexLemmas.{decode_of-ok}
-use Rattle.tsp_rules.specs.Values.{Event, BootAt, Turn, Take, Bytes}
 use Rattle.tsp_base.specs.Words.{HeaderValue}
 use Rattle.tsp_io.specs.Streams.{Grows}
 use Rattle.tsp_script.specs.{Schedules.SpellsEvent, declared.event_line.EventItem.TheVariants.Event as EventOf}
 use Rattle.tsp_schedule.specs.Schedules.{Progress, Untitled, Titled, Drifted, Heading, Running, Ended, IsEnded, new_header}
 use Rattle.tsp_replay.proofs.{Places.GoesOn, Places.RunsOn, ReadHeaders.IsSchedule-header}
 use Rattle.tsp_run.specs.{Ranges.Accepted, Ranges.IsInRange, Refusals.Valid}
-use Rattle.tsp_run.proofs.{RunPremises.runs-keep-premises, RunPromises.runs-keep-promises}
+use Rattle.tsp_run.proofs.{RunPremises.runs_keep_premises, RunPromises.runs-keep-promises}
 use Rattle.tsp_lines.specs.Lines.{NoFeed, AreLines, IsInput, IsOver}
 use Rattle.tsp_lines.specs.{Outcomes.Comes, declared.limits.TheConstants.MOST_INPUT, declared.treat.Outcome.TheVariants.Ok as Done}
 use Rattle.tsp_replay.specs.{Meaning.IsSchedule, Meaning.replaying, Schedules.Reaches, Traces.written_at, Traces.trace}
 use Rattle.tsp_cli.specs.{Headline.PrintsHistory, Lines.EndsAs, declared.status.Status.Status, declared.status.Status.TheVariants.Ok}
+use Rattle.tsp_rules.specs.Values.{Event, BootAt, Bytes}
 
 -- the events that were read so far are in their ranges, and nothing refuses them
 abbrev pub KeepsValid : Progress → Type 0
-KeepsValid Untitled = Unit {0}
-KeepsValid (Titled version) = Unit {0}
-KeepsValid (Drifted drift) = Unit {0}
-KeepsValid (Heading header) = Unit {0}
 KeepsValid (Running header events) = Valid header events × All IsInRange events
 KeepsValid (Ended header events) = Valid header events × All IsInRange events
+KeepsValid _ = Unit {0}
 
 -- what an event's line spells is in its range
 spelled_range : (line : List ℕ) (e : Event) → SpellsEvent line (EventOf e) → IsInRange e
 spelled_range line (BootAt at node word) s = s.0.2
-spelled_range line (Turn at node) s = tt
-spelled_range line (Take at datagram) s = tt
 spelled_range line (Bytes at node port from octets) s = (decode_of-ok s.1.0 octets s.1.1).3
+spelled_range line _ s = tt
 
 run_valid : (header : HeaderValue) (events : List Event) (line : List ℕ) (to : Progress) → Valid header events × All IsInRange events → RunsOn header events line to → KeepsValid to
 run_valid header events line to v (inl g) = subst (λ p. KeepsValid p) (sym g.3) ((g.2, v.0), All-cons IsInRange g.0 events (spelled_range line g.0 g.1) v.1)
@@ -55,17 +51,13 @@ Reaches-valid (line ∷ before) p r = goes_valid r.0 line p (Reaches-valid befor
 
 done_prints : (p : Progress) (input left written now : Option (List ℕ)) (lines : List (List ℕ)) (octets text said : List ℕ)
     → All NoFeed lines → Reaches (reverse lines) p → text ≡ written_at p → IsEnded p → said ≡ [] → AreLines octets lines → IsInput MOST_INPUT input octets → IsOver left → Grows written now (text ++ said) → PrintsHistory input left written now
-done_prints Untitled input left written now lines octets text said n r t e s a i o g = absurd e
-done_prints (Titled version) input left written now lines octets text said n r t e s a i o g = absurd e
-done_prints (Drifted drift) input left written now lines octets text said n r t e s a i o g = absurd e
-done_prints (Heading header) input left written now lines octets text said n r t e s a i o g = absurd e
-done_prints (Running header events) input left written now lines octets text said n r t e s a i o g = absurd e
 done_prints (Ended header events) input left written now lines octets text said n r t e s a i o g =
     let valid = Reaches-valid (reverse lines) (Ended header events) r in
     let all : text ++ said ≡ trace header events = ap (λ l. text ++ l) s ∙ append-nil text ∙ t in
     let is : IsSchedule octets header events = (lines, n, a, r) in
     let accepted : Accepted header events = record { header_is = IsSchedule-header octets header events is; ranges = valid.1; valid = valid.0 } in
-    (header, events, octets, i, is, accepted, o, subst (λ l. Grows written now l) all g, (λ setting set. runs-keep-promises header setting events set accepted), runs-keep-premises header events accepted)
+    (header, events, octets, i, is, accepted, o, subst (λ l. Grows written now l) all g, (λ setting set. runs-keep-promises header setting events set accepted), runs_keep_premises header events accepted)
+done_prints _ input left written now lines octets text said n r t e s a i o g = absurd e
 
 -- a replay that ends well printed the history of a schedule
 pub Comes-prints : (input left written now : Option (List ℕ)) → Comes replaying MOST_INPUT input left written now Done → PrintsHistory input left written now

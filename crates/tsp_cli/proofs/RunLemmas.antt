@@ -2,7 +2,7 @@
 use Rattle.std.proofs.Common.{sym, ◌∙◌, inl, inr, subst, refl, ap, arith, ◌≡◌, ◌≢◌, ◌⊎◌, ℕ, ◌≤◌, List, length, Option, Some, Bool, true, false}
 use Rattle.tsp_io.specs.{Counts.Rose, declared.link.Link.Ghosts as LinkOf}
 use Rattle.tsp_query.specs.Faults.{Counts, LinkCounts}
-use Rattle.tsp_lines.specs.declared.treat.Outcome.TheVariants.{Ok as Done, Bad as Refused, ReadFault as NotRead, WriteFault as NotWritten, Limit as Limited, OutOfMemory as NoMemory}
+use Rattle.tsp_lines.specs.declared.treat.Outcome.TheVariants.{Ok as Done, ReadFault as NotRead, WriteFault as NotWritten, OutOfMemory as NoMemory}
 use Rattle.tsp_lines.specs.{Answers.Agrees, Answers.Answers, Meanings.Meaning, Outcomes.Comes, Outcomes.KeepsUp}
 use Rattle.tsp_lines.{proofs.OneAnswer.Agrees-outcome, specs.declared.limits.TheConstants.MOST_INPUT, specs.declared.treat.Outcome.Outcome}
 use Rattle.tsp_cli.specs.declared.status.Status.TheVariants.{Ok, Usage, ReadFault, WriteFault, LinkFault, OutOfMemory}
@@ -12,28 +12,20 @@ use Rattle.tsp_cli.specs.Lines.{LineCommand, meaning_of, IsTextOf, EndsAs, Agree
 -- the status of a treatment says what the treatment came to
 EndsAs-comes : (m : Meaning) (input left written now : Option (List ℕ)) (o : Outcome) → Comes m MOST_INPUT input left written now o → EndsAs m input left written now (status_of o)
 EndsAs-comes m input left written now Done c = c
-EndsAs-comes m input left written now Refused c = c
-EndsAs-comes m input left written now NotRead c = c
-EndsAs-comes m input left written now NotWritten c = c
-EndsAs-comes m input left written now Limited c = c
-EndsAs-comes m input left written now NoMemory c = c
+EndsAs-comes m input left written now _ c = c
 
 AgreesAs-agrees : (o : Outcome) (output : List ℕ) (written now : Option (List ℕ)) (result : Outcome) → Agrees o output written now result → AgreesAs o output written now (status_of result)
 AgreesAs-agrees o output written now Done a = a
-AgreesAs-agrees o output written now Refused a = a
-AgreesAs-agrees o output written now NotRead a = a
-AgreesAs-agrees o output written now NotWritten a = a
-AgreesAs-agrees o output written now Limited a = a
-AgreesAs-agrees o output written now NoMemory a = a
+AgreesAs-agrees o output written now _ a = a
 
--- only the outcome Ok has the status Ok
-pub status_ok : (o : Outcome) → status_of o ≡ Ok → o ≡ Done
-status_ok Done e = refl
-status_ok Refused e = cc
-status_ok NotRead e = cc
-status_ok NotWritten e = cc
-status_ok Limited e = cc
-status_ok NoMemory e = cc
+-- only the outcome Ok has the status Ok; no treatment of lines ends by the link or as a wrong use, and each ends by a read or by a
+-- write only where its outcome says so
+pub status_by : (o : Outcome) → (status_of o ≡ Ok → o ≡ Done) × (status_of o ≡ LinkFault → ⊥) × (status_of o ≡ Usage → ⊥) ×
+    (status_of o ≡ ReadFault → o ≡ NotRead) × (status_of o ≡ WriteFault → o ≡ NotWritten)
+status_by Done = ((λ e. refl), (λ e. cc), (λ e. cc), (λ e. cc), (λ e. cc))
+status_by NotRead = ((λ e. cc), (λ e. cc), (λ e. cc), (λ e. refl), (λ e. cc))
+status_by NotWritten = ((λ e. cc), (λ e. cc), (λ e. cc), (λ e. cc), (λ e. refl))
+status_by _ = ((λ e. cc), (λ e. cc), (λ e. cc), (λ e. cc), (λ e. cc))
 
 -- a treatment that ends as another, or for lack of memory, has that one's status
 pub status_same : (o p : Outcome) → (o ≡ p) ⊎ (o ≡ NoMemory) → (status_of o ≡ status_of p) ⊎ (status_of o ≡ OutOfMemory)
@@ -51,60 +43,26 @@ Runs-treated command input left written now ended reads reads_now writes writes_
   decided = λ octets outcome output told a r w. status_same o outcome (Agrees-outcome outcome o output written now (answers octets outcome output told a) (λ e. r (read e)) (λ e. w (write e)));
   complete = λ octets told l is r w. status_same o Done (complete octets told l is r w);
   keeps_up = keeps_up;
-  whole = λ e. whole (status_ok o e);
+  whole = λ e. whole ((status_by o).0 e);
 })
-
--- no treatment of lines ends by the link
-pub status_unlinked : (o : Outcome) → status_of o ≡ LinkFault → ⊥
-status_unlinked Done e = cc
-status_unlinked Refused e = cc
-status_unlinked NotRead e = cc
-status_unlinked NotWritten e = cc
-status_unlinked Limited e = cc
-status_unlinked NoMemory e = cc
-
--- no treatment of lines ends as a wrong use
-pub status_used : (o : Outcome) → status_of o ≡ Usage → ⊥
-status_used Done e = cc
-status_used Refused e = cc
-status_used NotRead e = cc
-status_used NotWritten e = cc
-status_used Limited e = cc
-status_used NoMemory e = cc
-
-status_read : (o : Outcome) → status_of o ≡ ReadFault → o ≡ NotRead
-status_read Done e = cc
-status_read Refused e = cc
-status_read NotRead e = refl
-status_read NotWritten e = cc
-status_read Limited e = cc
-status_read NoMemory e = cc
-
-status_written : (o : Outcome) → status_of o ≡ WriteFault → o ≡ NotWritten
-status_written Done e = cc
-status_written Refused e = cc
-status_written NotRead e = cc
-status_written NotWritten e = refl
-status_written Limited e = cc
-status_written NoMemory e = cc
 
 -- the count of failed reads of a treatment is its command's
 pub read_counts : (o : Outcome) (status : Status) (before now : ℕ) (ended : Bool) → status ≡ status_of o → before ≤ now → (o ≡ NotRead → Rose before now × (ended ≡ false)) → (o ≢ NotRead → now ≡ before) → Counts before now (status ≡ ReadFault)
 read_counts o status before now ended is later read still = record {
   later = later;
-  cause = λ e. (read (status_read o (sym is ∙ e))).0;
+  cause = λ e. (read ((status_by o).3 (sym is ∙ e))).0;
   still = λ h. still (λ e. h (is ∙ ap (λ (x : Outcome). status_of x) e));
 }
 
 -- after a failed read the end wasn't read
 pub read_open : (o : Outcome) (status : Status) (before now : ℕ) (ended : Bool) → status ≡ status_of o → (o ≡ NotRead → Rose before now × (ended ≡ false)) → status ≡ ReadFault → ended ≡ false
-read_open o status before now ended is read e = (read (status_read o (sym is ∙ e))).1
+read_open o status before now ended is read e = (read ((status_by o).3 (sym is ∙ e))).1
 
 -- the count of failed writes of a treatment is its command's
 pub write_counts : (o : Outcome) (status : Status) (before now : ℕ) → status ≡ status_of o → before ≤ now → (o ≡ NotWritten → Rose before now) → (o ≢ NotWritten → now ≡ before) → Counts before now (status ≡ WriteFault)
 write_counts o status before now is later write still = record {
   later = later;
-  cause = λ e. write (status_written o (sym is ∙ e));
+  cause = λ e. write ((status_by o).4 (sym is ∙ e));
   still = λ h. still (λ e. h (is ∙ ap (λ (x : Outcome). status_of x) e));
 }
 

@@ -9,27 +9,24 @@ use Rattle.tsp_lines.specs.Outcomes.{Follows, IsBad, IsLimited, WritesGot, Write
 use Rattle.tsp_lines.{proofs.Outputs.Grows-nil, specs.declared.limits.TheConstants.MOST_INPUT}
 use Rattle.tsp_replay.specs.{Meaning.Replays, Meaning.replaying, Schedules.Reaches, Schedules.refused, Traces.written_at}
 use Rattle.tsp_run.specs.{Ranges.Accepted, Ranges.IsInRange, Refusals.Valid}
-use Rattle.tsp_run.proofs.{RunPremises.runs-keep-premises, RunPromises.runs-keep-promises}
-use Rattle.tsp_schedule.specs.Schedules.{Progress, Untitled, Titled, Drifted, Heading, Running, Ended}
+use Rattle.tsp_run.proofs.{RunPremises.runs_keep_premises, RunPromises.runs-keep-promises}
 use Rattle.tsp_schedule.proofs.ReadHeaders.{KeepsHeader, Reaches-header}
 use Rattle.tsp_cli.specs.declared.status.Status.TheVariants.{Ok, Usage, Bad, ReadFault, WriteFault, LinkFault, NoAnswer, Limit, OutOfMemory}
 use Rattle.tsp_cli.specs.{Lines.EndsAs, declared.status.Status.Status}
 use Rattle.tsp_cli.specs.Headline.{IsLastLine, KeepsPromises, PrintsSoFar, TellsSoFar, WritesOnly, WritesSoFar}
 use Rattle.tsp_cli.proofs.HeadlineLemmas.{KeepsValid, Reaches-valid}
+use Rattle.tsp_schedule.specs.Schedules.{Progress, Untitled, Running, Ended}
 
 keeps_promises : (header : HeaderValue) (events : List Event) → IsHeader header → Valid header events × All IsInRange events → KeepsPromises header events
 keeps_promises header events is v =
     let accepted : Accepted header events = record { header_is = is; ranges = v.1; valid = v.0 } in
-    (accepted, (λ setting set. runs-keep-promises header setting events set accepted), runs-keep-premises header events accepted)
+    (accepted, (λ setting set. runs-keep-promises header setting events set accepted), runs_keep_premises header events accepted)
 
 -- what is written so far is what the lines tell
 tells_at : (p : Progress) → KeepsHeader p → KeepsValid p → TellsSoFar p (written_at p)
-tells_at Untitled h v = refl
-tells_at (Titled version) h v = refl
-tells_at (Drifted drift) h v = refl
-tells_at (Heading header) h v = refl
 tells_at (Running header events) h v = (keeps_promises header events h v, refl)
 tells_at (Ended header events) h v = (keeps_promises header events h v, refl)
+tells_at _ h v = refl
 
 -- accepted lines have come somewhere, and this is what they tell
 abbrev Tells : List (List ℕ) → List ℕ → Type 0

@@ -4,7 +4,7 @@ use Rattle.std.proofs.lemmas.List.{drop_more}
 use Rattle.tsp_rules.specs.Values.{Placed}
 use Rattle.tsp_io.specs.Streams.{Grows}
 use Rattle.tsp_lines.proofs.Outputs.{Grows-trans}
-use Rattle.tsp_daemon.specs.declared.end.ServeEnd.TheVariants.{Done, LinkFault, WriteFault, OutOfMemory}
+use Rattle.tsp_daemon.specs.declared.end.ServeEnd.TheVariants.{WriteFault, OutOfMemory}
 use Rattle.tsp_daemon.specs.{Ends.CutsShort, Ends.TellsUntil, Posts.send_of, Posts.line_of, Posts.act_lines, declared.end.ServeEnd.ServeEnd}
 
 -- the lines of acts from a place on are that of the act there, and those of the acts behind it
@@ -25,10 +25,9 @@ cuts_on all done line rest a b c g e t = (
 
 -- some text, and a line of which only a part was written
 pub tells_until : (end : ServeEnd) (all done line rest : List ℕ) (a b c : Option (List ℕ)) → Grows a b done → all ≡ done ++ (line ++ rest) → TellsUntil line b c end → TellsUntil all a c end
-tells_until Done all done line rest a b c g e t = absurd t
-tells_until LinkFault all done line rest a b c g e t = absurd t
 tells_until WriteFault all done line rest a b c g e t = cuts_on all done line rest a b c g e t
 tells_until OutOfMemory all done line rest a b c g e t = cuts_on all done line rest a b c g e t
+tells_until _ all done line rest a b c g e t = absurd t
 
 -- a line was cut off before its end
 pub cut_short : (line : List ℕ) (at : ℕ) (a b : Option (List ℕ)) → at < length line → Grows a b (take at line) → CutsShort line a b

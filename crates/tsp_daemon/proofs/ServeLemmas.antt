@@ -2,7 +2,7 @@
 use Rattle.std.proofs.Common.{arith, ap, ◌∙◌, subst, refl, ◌≡◌, ℕ, ◌≤◌, ℤ, true, List, Option, Some}
 use Rattle.std.specs.Option.{option_map}
 use Rattle.tsp_query.specs.{Arrivals.all_but_first, Clocks.tick_given, Ends.Outside, Ends.KnowsExactly, Outside.Observed}
-use Rattle.tsp_daemon.specs.declared.end.ServeEnd.TheVariants.{Done, LinkFault, WriteFault, OutOfMemory}
+use Rattle.tsp_daemon.specs.declared.end.ServeEnd.TheVariants.{Done, LinkFault, WriteFault}
 use Rattle.tsp_daemon.specs.{Ends.IsAt, Ends.Serves, Ends.ServesUntil, Nodes.first_past, Sessions.Session, Sessions.read_once}
 use Rattle.tsp_daemon.{proofs.SessionFits.session_kept, specs.declared.exit.DaemonExit.DaemonExit}
 use Rattle.tsp_query.proofs.AskLemmas.{reading_taken}
@@ -37,9 +37,7 @@ walled_is readings between last first walled later left told takes at same = sam
 -- a session takes no more turns than it has
 serves_few : (turns i : ℕ) (s : Session) (arrivals : Option (List Arrival)) (tried : Option (List Tried)) (calls : Option ℕ) (readings : Option (List ℕ)) (last : ℕ) (written : Option (List ℕ)) (end : ServeEnd) → ServesUntil turns i s arrivals tried calls readings last written end → i ≤ turns
 serves_few turns i s arrivals tried calls readings last written Done h = let all = h.0 in omega (arith, all)
-serves_few turns i s arrivals tried calls readings last written LinkFault h = let less = h.0 in omega (arith, less)
-serves_few turns i s arrivals tried calls readings last written WriteFault h = let less = h.0 in omega (arith, less)
-serves_few turns i s arrivals tried calls readings last written OutOfMemory h = let less = h.0 in omega (arith, less)
+serves_few turns i s arrivals tried calls readings last written _ h = let less = h.0 in omega (arith, less)
 
 -- a node that has booted at these readings serves the first session
 pub IsServed_serves : (s : ServeWords) (o : Outside) (wall wall' : ℤ) (word word' tick : ℕ) (written : List ℕ) (node : Gateway) (arrivals : Option (List Arrival)) (tried : Option (List Tried)) (calls : Option ℕ) (readings : Option (List ℕ)) (last : ℕ) (before : Option (List ℕ)) (old : Option (List ℕ)) (now : Observed) (end : ServeEnd) (served : DaemonExit)
@@ -72,19 +70,13 @@ IsServed_serves s o wall wall' word word' tick written node arrivals tried calls
 
 -- a daemon ends by its link, or by a write, only where its session does; and then its wall clock isn't out of its range
 pub served_linked : (end : ServeEnd) → served_of end ≡ Faulty → end ≡ LinkFault
-served_linked Done e = cc
 served_linked LinkFault e = refl
-served_linked WriteFault e = cc
-served_linked OutOfMemory e = cc
+served_linked _ e = cc
 
 pub served_written : (end : ServeEnd) → served_of end ≡ Unwritten → end ≡ WriteFault
-served_written Done e = cc
-served_written LinkFault e = cc
 served_written WriteFault e = refl
-served_written OutOfMemory e = cc
+served_written _ e = cc
 
 pub served_in_time : (end : ServeEnd) → served_of end ≡ BadWall → ⊥
 served_in_time Done e = cc
-served_in_time LinkFault e = cc
-served_in_time WriteFault e = cc
-served_in_time OutOfMemory e = cc
+served_in_time _ e = cc

@@ -19,10 +19,9 @@ use Rattle.tsp_rules.specs.NodeRows.{NodePast, NodeRow, PortSetup, in_node_step,
 use Rattle.tsp_run.{proofs.BootLemmas.boots-up, proofs.RunFits.joined-time, proofs.RunLemmas.up_joined, specs.Networks.room}
 use Rattle.tsp_run.proofs.AnswersFit.{StepOk, boot_ok, got_ok, turn_ok}
 use Rattle.tsp_run.proofs.FitsLines.{ActsOn, AllAlive, AreOn, acts_fit, all_end, mark_line, posted_more}
-use Rattle.tsp_daemon.specs.{Kept.HistoryKept, Kept.SetByWords, Serving.first_session}
-use Rattle.tsp_daemon.specs.Nodes.{daemon_config, first_past, is_strict, setups_from}
 use Rattle.tsp_daemon.specs.Sessions.{after_turns, turn_begun, turn_cause, given_in, given_of, port_from, read_once, Rises, turn_tick}
-use Rattle.tsp_daemon.proofs.NodeLemmas.{length-setups_from, room_is}
+use Rattle.tsp_daemon.specs.{Nodes.daemon_config, Nodes.first_past, Nodes.is_strict, Nodes.setups_from, Kept.HistoryKept, Kept.SetByWords}
+use Rattle.tsp_daemon.{proofs.NodeLemmas.length-setups_from, proofs.NodeLemmas.room_is, specs.Serving.first_session}
 
 -- all lines are of node 0
 abbrev AreOwn : List Line → Type 0

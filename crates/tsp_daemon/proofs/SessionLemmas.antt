@@ -1,7 +1,8 @@
 -- How a turn lengthens a session.
 use Rattle.std.proofs.Common.{ap, sym, subst, ◌∙◌, arith, inl, inr, ◌≡◌, ◌<◌, ◌≤◌, ◌+◌, ◌||◌, ℕ, suc, Bool, List, [], ◌∷◌, ◌++◌, length, take, Option, Some, refl}
 use Rattle.std.specs.Option.{option_map}
-use Rattle.tsp_rules.specs.Values.{Placed, Peer, Stranger}
+use Rattle.tsp_rules.specs.{GateRows.NodeGiven, GateRows.NodeTurn, GateRows.GotOn, GateRows.answers_all, NodePerforms.PerformsAll}
+use Rattle.tsp_rules.specs.{NodeRows.NodePast, NodeRows.PortSetup, NodeRows.spread, Values.Placed, Values.Peer, Values.Stranger}
 use Rattle.tsp_base.specs.Words.{dids, tracing}
 use Rattle.tsp_codec.specs.Taken.{taken_of}
 use Rattle.tsp_gateway.specs.{GatewayStands.GatewayStands, GatewayStands.GatewayBegun, PortOf.setups_in, declared.gateway.Gateway.Gateway}
@@ -11,8 +12,6 @@ use Rattle.tsp_io.specs.Links.{Arrival, Tried, ReceivesOne, TakesDatagram, Takes
 use Rattle.tsp_io.specs.declared.link.Recv.TheVariants.{Datagram, Nothing, Failed}
 use Rattle.tsp_query.proofs.AskLemmas.{reading_taken}
 use Rattle.tsp_query.specs.{Arrivals.next_arrival, Arrivals.all_but_first, Clocks.tick_given, Ends.Outside, Ends.KnowsExactly}
-use Rattle.tsp_rules.specs.GateRows.{NodeGiven, NodeTurn, GotOn, answers_all}
-use Rattle.tsp_rules.specs.{NodePerforms.PerformsAll, NodeRows.NodePast, NodeRows.PortSetup, NodeRows.spread}
 use Rattle.tsp_daemon.specs.declared.end.ServeEnd.{ServeEnd}
 use Rattle.tsp_daemon.specs.declared.end.ServeEnd.TheVariants.{Done, LinkFault, WriteFault, OutOfMemory}
 use Rattle.tsp_daemon.specs.Ends.{given_by, TriesAll, FinishesUntil, Lives, IsAt, EndsTurn, ServesUntil}
@@ -154,8 +153,7 @@ lives_on node next g tick acts l row = record {
 known_by : (ports : List PortSetup) (r : Recv) (buf : List ℕ) (arrivals rest : Option (List Arrival)) (stranger now : Bool) (acts : List Placed) → ReceivesOne arrivals rest stranger now r buf → AreKnown (is_strange_on (given_by ports r buf)) acts → AreKnown now acts
 known_by ports (Datagram Stranger count) buf arrivals rest stranger now acts got k = subst (λ b. AreKnown b acts) (sym got.2) k
 known_by ports (Datagram (Peer p) count) buf arrivals rest stranger now acts got k = subst (λ b. AreKnown b acts) (sym got.2) k
-known_by ports Nothing buf arrivals rest stranger now acts got k = known_any now acts k
-known_by ports Failed buf arrivals rest stranger now acts got k = known_any now acts k
+known_by ports _ buf arrivals rest stranger now acts got k = known_any now acts k
 
 pub acts_known : (arrivals rest : Option (List Arrival)) (stranger now : Bool) (r : Recv) (buf : List ℕ) (tick : ℕ) (node next : Gateway) (acts : List Placed) → ReceivesOne arrivals rest stranger now r buf → Lives node →
     PerformsAll GatewayBegun GatewayStands (answers_all (given_by (setups_in node) r buf)) tick node next [] acts → AreKnown now acts
@@ -168,9 +166,7 @@ acts_known arrivals rest stranger now r buf tick node next acts got l row =
 pub serves_until : (turns i : ℕ) (s : Session) (arrivals : Option (List Arrival)) (tried : Option (List Tried)) (calls : Option ℕ) (readings : Option (List ℕ)) (last : ℕ) (written : Option (List ℕ)) (end : ServeEnd) → i < turns →
     EndsTurn (after_turns i s) arrivals tried calls readings last written end → ServesUntil turns i s arrivals tried calls readings last written end
 serves_until turns i s arrivals tried calls readings last written Done less h = absurd h
-serves_until turns i s arrivals tried calls readings last written LinkFault less h = (less, h)
-serves_until turns i s arrivals tried calls readings last written WriteFault less h = (less, h)
-serves_until turns i s arrivals tried calls readings last written OutOfMemory less h = (less, h)
+serves_until turns i s arrivals tried calls readings last written _ less h = (less, h)
 
 -- one turn more
 pub turns_more : (i : ℕ) (s : Session) (node : Gateway) (counters : Counters) (arrivals : Option (List Arrival)) (tried : Option (List Tried)) (calls : Option ℕ) (readings : Option (List ℕ)) (last : ℕ) (written : Option (List ℕ)) →
@@ -188,7 +184,6 @@ rises_more i s node next counters after arrivals now_arrivals tried now_tried ca
 
 -- sends and lines don't end by the link's receives
 pub finish_unlinked : (sends : List Tried) (text : List ℕ) (tried more : Option (List Tried)) (written now : Option (List ℕ)) (end : ServeEnd) → FinishesUntil sends text tried more written now end → end ≡ LinkFault → ⊥
-finish_unlinked sends text tried more written now Done f e = f.1
-finish_unlinked sends text tried more written now LinkFault f e = f.1
 finish_unlinked sends text tried more written now WriteFault f e = cc
 finish_unlinked sends text tried more written now OutOfMemory f e = cc
+finish_unlinked sends text tried more written now _ f e = f.1

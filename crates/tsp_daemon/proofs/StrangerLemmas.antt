@@ -5,7 +5,8 @@ use Rattle.tsp_rules.specs.Values.{Act, Took, Post, Abandon, Placed, Message, St
 use Rattle.tsp_base.specs.Words.{Past, view, MessageValue, is_going, Row, placed, puts}
 use Rattle.tsp_rules.proofs.CalmSteps.{calm_handles, known_calm, taking, TakesFirst}
 use Rattle.tsp_rules.specs.{Answers.takes, Answers.handles, RoundRows.corrects, Strangers.is_stranger, Strangers.IsKnown}
-use Rattle.tsp_rules.specs.GateRows.{LoopStep, PassOver, GiveUp, Forward, NodeGiven, NodeTurn, GotOn, all_ports, answers_all, input_all, judge, in_charge, steers, stirred_ports, takes_kind, takes_loop, takes_message, takes_on, turns_on}
+use Rattle.tsp_rules.specs.GateRows.{LoopStep, PassOver, NodeGiven, NodeTurn, GotOn, all_ports, answers_all, input_all, judge}
+use Rattle.tsp_rules.specs.GateRows.{in_charge, steers, stirred_ports, takes_kind, takes_loop, takes_message, takes_on, turns_on}
 use Rattle.tsp_rules.specs.NodeRows.{NodePast, NodeRow, abandons_on, for_ports, nothing_at_all, on, on_port, ◌and_then◌, reading_all, spread, stirring}
 use Rattle.tsp_rules.proofs.BuiltAll.{AnyPort, BuiltAll, EmptyAll, ForPorts, MoreAll, On, ReadingAll, StirringAll, ThenAll, WhereAll}
 use Rattle.tsp_rules.proofs.{BuiltPorts.OwesStep, BuiltPorts.built_all_turns, BuiltPorts.built_heeds, CalmBuilt.calm_moving, FewActs.Calm}
@@ -95,8 +96,7 @@ module _ (strange : Bool) where
 
   known-step : (step : LoopStep) → OwesStep (answers_owed strange) step
   known-step PassOver = tt
-  known-step GiveUp = tt
-  known-step (Forward m) = tt
+  known-step _ = tt
 
   known-took : (from : Place) (t : Taken) (x : ℕ) (past : Past) → All (IsKnown strange) (puts (Took from t) x past)
   unfolding puts

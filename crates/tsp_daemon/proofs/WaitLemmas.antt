@@ -3,10 +3,9 @@ use Rattle.std.proofs.Common.{ap, inl, inr, sym, subst, ◌∙◌, append_assoc,
 use Rattle.tsp_gateway.specs.{Dues.IsNodeDue, GatewayStands.GatewayStands, declared.gateway.Gateway.Gateway}
 use Rattle.tsp_io.specs.{Clocks.TakesReading, Links.Arrival, Links.NotesReceive, Links.Tried}
 use Rattle.tsp_rules.specs.NodeRows.{NodePast}
-use Rattle.tsp_daemon.specs.declared.end.ServeEnd.{ServeEnd}
-use Rattle.tsp_daemon.specs.declared.end.ServeEnd.TheVariants.{Done, LinkFault, WriteFault, OutOfMemory}
-use Rattle.tsp_daemon.specs.{Ends.EndsTurn, Ends.IsReceived, Sessions.Session, Sessions.after_turns, Sessions.read_once}
-use Rattle.tsp_daemon.specs.Waits.{NotesTurn, NotesWait, NotesWaits, wait_until}
+use Rattle.tsp_daemon.specs.declared.end.ServeEnd.TheVariants.{Done, OutOfMemory}
+use Rattle.tsp_daemon.specs.{Waits.NotesTurn, Waits.NotesWait, Waits.NotesWaits, Waits.wait_until, declared.end.ServeEnd.ServeEnd}
+use Rattle.tsp_daemon.specs.{Sessions.Session, Sessions.after_turns, Sessions.read_once, Ends.EndsTurn, Ends.IsReceived}
 use Rattle.tsp_query.{proofs.AskLemmas.reading_taken, specs.Clocks.tick_given, specs.Ends.Outside, specs.Ends.KnowsExactly}
 
 -- the first reading of a turn
@@ -35,16 +34,13 @@ pub until_noted : (i : ℕ) (s : Session) (waits between now : Option (List ℕ)
     EndsTurn (after_turns i s) arrivals tried calls readings last written end → NotesWaits s i waits between → NotesTurn (after_turns i s) between now end →
     (received : ℕ) × IsReceived i received end × NotesWaits s received waits now
 until_noted i s waits between now arrivals tried calls readings last written Done ends w n = absurd ends
-until_noted i s waits between now arrivals tried calls readings last written LinkFault ends w n = (i + 1, refl, one_more_noted s i waits between now w n)
-until_noted i s waits between now arrivals tried calls readings last written WriteFault ends w n = (i + 1, refl, one_more_noted s i waits between now w n)
 until_noted i s waits between now arrivals tried calls readings last written OutOfMemory ends w n = elim n [
   | inl same ↦ (i, inl refl, subst (λ ws. NotesWaits s i waits ws) (sym same) w)
   | inr one ↦ (i + 1, inr refl, one_more_noted s i waits between now w one)
 ]
+until_noted i s waits between now arrivals tried calls readings last written _ ends w n = (i + 1, refl, one_more_noted s i waits between now w n)
 
 -- a turn that noted its receive, however it ends
 pub turn_noted : (s : Session) (waits now : Option (List ℕ)) (end : ServeEnd) → NotesWait s waits now → NotesTurn s waits now end
-turn_noted s waits now Done n = n
-turn_noted s waits now LinkFault n = n
-turn_noted s waits now WriteFault n = n
 turn_noted s waits now OutOfMemory n = inr n
+turn_noted s waits now _ n = n

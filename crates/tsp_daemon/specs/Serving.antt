@@ -6,8 +6,7 @@ use Rattle.tsp_promises.specs.Setting.{Setting}
 use Rattle.tsp_args.specs.{Ports.all_peers, declared.serve.ServeWords.ServeWords}
 use Rattle.tsp_daemon.specs.{Ends.IsReceived, Ends.ServesUntil, Kept.HistoryKept, Kept.SetByWords, Nodes.first_past, Waits.NotesWaits}
 use Rattle.tsp_daemon.specs.{Sessions.Session, Sessions.after_turns, Sessions.read_once, declared.end.ServeEnd.ServeEnd}
-use Rattle.tsp_query.specs.Ends.{Outside, KnowsExactly}
-use Rattle.tsp_query.specs.Outside.{Observed, Knows, after_bind, WritesBeginning}
+use Rattle.tsp_query.specs.{Outside.Observed, Outside.Knows, Outside.after_bind, Outside.WritesBeginning, Ends.Outside, Ends.KnowsExactly}
 use Rattle.tsp_rules.specs.Guards.{is_clock_value}
 use Rattle.tsp_daemon.specs.declared.exit.DaemonExit.{DaemonExit}
 use Rattle.tsp_daemon.specs.declared.exit.DaemonExit.TheVariants.{Done, BadWall, LinkFault, WriteFault, OutOfMemory}

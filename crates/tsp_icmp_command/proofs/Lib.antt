@@ -1,10 +1,3 @@
-pub mod Cuts
-pub mod Messages
 pub mod RecordLemmas
-pub mod Notes
-pub mod Tellings
 pub mod BestLemmas
 pub mod TreatLemmas
-pub mod OneExchange
-pub mod Definites
-pub mod BestsAreBest

@@ -2,9 +2,8 @@
 use Rattle.std.specs.Prelude.{◌≡◌, ℕ, ◌≤◌, ◌-◌, List, length, map}
 use Rattle.std.specs.List.{All, AllZip}
 use Rattle.tsp_lines.specs.{Lines.NoFeed, Lines.closed, Lines.AreLines, Meanings.Meaning}
+use Rattle.tsp_icmp_command.specs.{Bests.TallyValue, Bests.bests, Bests.differences, Bests.group_lines, declared.exchange.Exchange.Exchange}
 use Rattle.tsp_icmp_command.specs.{Findings.finding_of, Findings.finding_line, Records.IsExchange, Records.RefusesRecord}
-use Rattle.tsp_icmp_command.specs.Bests.{TallyValue, bests, differences, group_lines}
-use Rattle.tsp_icmp_command.specs.declared.exchange.Exchange.{Exchange}
 
 -- the output line of an exchange
 abbrev pub exchange_line : Exchange → List ℕ

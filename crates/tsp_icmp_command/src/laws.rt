@@ -19,11 +19,13 @@ pub fn an_exchange_is_not_refused()
 {}
 
 /// After any lines, at most one thing can come of the next line or of the end.
+#[tactic(auto, using(crate::proofs::TreatLemmas::IsDefinite_averaging))]
 pub fn definite_averaging()
     ensures { IsDefinite averaging }
 {}
 
 /// Each clock counts in the group by its difference with the shortest round trip, the first of them.
+#[tactic(auto, using(crate::proofs::BestLemmas::bests_are_best))]
 pub fn first_of_least_trip()
     ensures { (differences : List BestValue) → All (IsBestDifference differences) (bests differences) }
 {}

@@ -6,7 +6,7 @@ use Rattle.tsp_io.specs.{Clocks.TakesReading, Links.Arrival, Links.Tried, Links.
 use Rattle.tsp_query.specs.Arrivals.{answer_in, next_arrival, all_but_first, or_later, asked_from}
 use Rattle.tsp_query.specs.{Clocks.tick_given, declared.ask.AskEnd.AskEnd, declared.question.Question.Question}
 use Rattle.tsp_query.specs.Ends.{Outside, KnowsExactly, after_wait, heard_times, receives, Listens, after_send, Asks, WaitsSeconds}
-use Rattle.tsp_query.specs.declared.ask.AskEnd.TheVariants.{Answer, NoAnswer, LinkFault, OutOfMemory}
+use Rattle.tsp_query.specs.declared.ask.AskEnd.TheVariants.{LinkFault, OutOfMemory}
 
 next_reading : (last : ℕ) (rs : List ℕ) (k : ℕ) → tick_given (tick_given last rs 0) (all_but_first rs) k ≡ tick_given last rs (suc k)
 next_reading last [] k = refl
@@ -75,10 +75,9 @@ receives-least q i a h = receives_cases (asked_from q i (8 - i) a) i h (λ r e. 
 -- what eight receives come to is what asking does, once the request was sent
 pub asks-listens : (request : Datagram) (q : Question) (o : Outside) (arrivals : Option (List Arrival)) (tried : Option (List Tried)) (calls : Option ℕ) (readings : Option (List ℕ)) (last sends sends_now : ℕ) (end : AskEnd) → sends_now ≡ sends →
     Listens q (after_send request o) arrivals tried calls readings last end → Asks request q o arrivals tried calls readings last sends sends_now end
-asks-listens request q o arrivals tried calls readings last sends sends_now (Answer d tick) same h = h
-asks-listens request q o arrivals tried calls readings last sends sends_now NoAnswer same h = h
 asks-listens request q o arrivals tried calls readings last sends sends_now LinkFault same h = inr (h, same)
 asks-listens request q o arrivals tried calls readings last sends sends_now OutOfMemory same h = absurd h
+asks-listens request q o arrivals tried calls readings last sends sends_now _ same h = h
 
 -- no receive was made
 pub no-wait : (waits : Option (List ℕ)) → WaitsSeconds waits waits

@@ -1,7 +1,7 @@
 -- Laws of what calls do to counts of faults.
 use Rattle.std.proofs.Common.{◌∙◌, arith, ◌≡◌}
 use Rattle.tsp_io.specs.declared.link.Link.{Ghosts as LinkOf}
-pub use Rattle.tsp_lines.proofs.Faults.{Counts-from, Counts-same}
+pub use Rattle.tsp_lines.proofs.Leaving.{Counts-from, Counts-same}
 use Rattle.tsp_query.specs.Faults.{LinkCounts}
 
 -- a link's counts from an earlier moment, at which they were the same, and by another word for the fault

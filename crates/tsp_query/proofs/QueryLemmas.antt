@@ -8,9 +8,9 @@ use Rattle.tsp_io.specs.{Links.Arrival, Links.Tried, declared.link.Link.Ghosts a
 use Rattle.tsp_query.proofs.FaultLemmas.{LinkCounts-from}
 use Rattle.tsp_query.specs.{Arrivals.all_but_first, Clocks.tick_given, Faults.LinkCounts, Told.AsksOnce, Told.KeepsOn, Told.ReadsWall}
 use Rattle.tsp_query.specs.Ends.{Outside, KnowsExactly, Asks, WaitsSeconds}
-use Rattle.tsp_query.specs.Queries.{read_twice, trace_kind, message_with, question_of, stamp, diff_in, end_of, QueryEnds, master_in, heard_in, date_answer}
+use Rattle.tsp_query.specs.Queries.{read_twice, trace_kind, message_with, question_of, stamp, diff_in, end_of, QueryEnds}
 use Rattle.tsp_query.specs.declared.{ask.AskEnd.AskEnd, query.QueryEnd.QueryEnd, query.QueryEnd.TheVariants.LinkFault as Faulty}
-use Rattle.tsp_query.specs.declared.ask.AskEnd.TheVariants.{Answer, NoAnswer, LinkFault, OutOfMemory}
+use Rattle.tsp_query.specs.declared.ask.AskEnd.TheVariants.{Answer, LinkFault}
 use Rattle.tsp_query.specs.declared.question.Question.{Question, TheVariants.OfWord}
 
 -- the messages of queries carry nothing, but for the one that sets the date
@@ -35,34 +35,17 @@ fits-date time = refl
 pub asks-message : (kind : Kind) (body : Body) (dates : Bool) (w word : ℕ) (name : List ℕ) (m : MessageValue) (q : Question) (o : Outside) (arrivals : Option (List Arrival)) (tried : Option (List Tried)) (calls : Option ℕ) (readings : Option (List ℕ)) (last sends sends_now : ℕ) (end : AskEnd)
     → m ≡ record { kind = kind; number = w % 65536; body = body; name = name } → name ≡ codes "timedc" → q ≡ question_of dates (w % 65536) → w ≡ word
     → Asks (Message m) q o arrivals tried calls readings last sends sends_now end → Asks (message_with kind body word) (question_of dates (word % 65536)) o arrivals tried calls readings last sends sends_now end
-asks-message kind body dates w word name m q o arrivals tried calls readings last sends sends_now end e f t s h =
-    let O : Question → Type 0 = λ (x : Question). Asks (Message m) x o arrivals tried calls readings last sends sends_now end in
-    let P : MessageValue → Type 0 = λ (x : MessageValue). Asks (Message x) (question_of dates (w % 65536)) o arrivals tried calls readings last sends sends_now end in
-    let Q : List ℕ → Type 0 = λ (n : List ℕ). Asks (Message (record { kind = kind; number = w % 65536; body = body; name = n })) (question_of dates (w % 65536)) o arrivals tried calls readings last sends sends_now end in
-    let R : ℕ → Type 0 = λ (v : ℕ). Asks (message_with kind body v) (question_of dates (v % 65536)) o arrivals tried calls readings last sends sends_now end in
-    subst R s (subst Q f (subst P e (subst O t h)))
+asks-message kind body dates w word name m q o arrivals tried calls readings last sends sends_now end e f t s h = rw (e, f, t, s) at h
 
--- asking in the words of the queries that a message asks
-pub ends-master : (request : Datagram) (q : Question) (o : Outside) (arrivals : Option (List Arrival)) (tried : Option (List Tried)) (calls : Option ℕ) (readings : Option (List ℕ)) (last sends sends_now : ℕ) (asked : AskEnd)
-    → Asks request q (read_twice o) arrivals tried calls readings last sends sends_now asked → QueryEnds request q master_in o arrivals tried calls readings last sends sends_now (end_of master_in asked)
-ends-master request q o arrivals tried calls readings last sends sends_now (Answer d tick) h = (d, tick, h, refl)
-ends-master request q o arrivals tried calls readings last sends sends_now NoAnswer h = h
-ends-master request q o arrivals tried calls readings last sends sends_now LinkFault h = h
-ends-master request q o arrivals tried calls readings last sends sends_now OutOfMemory h = h
-
-pub ends-heard : (request : Datagram) (q : Question) (o : Outside) (arrivals : Option (List Arrival)) (tried : Option (List Tried)) (calls : Option ℕ) (readings : Option (List ℕ)) (last sends sends_now : ℕ) (asked : AskEnd)
-    → Asks request q (read_twice o) arrivals tried calls readings last sends sends_now asked → QueryEnds request q heard_in o arrivals tried calls readings last sends sends_now (end_of heard_in asked)
-ends-heard request q o arrivals tried calls readings last sends sends_now (Answer d tick) h = (d, tick, h, refl)
-ends-heard request q o arrivals tried calls readings last sends sends_now NoAnswer h = h
-ends-heard request q o arrivals tried calls readings last sends sends_now LinkFault h = h
-ends-heard request q o arrivals tried calls readings last sends sends_now OutOfMemory h = h
-
-pub ends-date : (request : Datagram) (q : Question) (o : Outside) (arrivals : Option (List Arrival)) (tried : Option (List Tried)) (calls : Option ℕ) (readings : Option (List ℕ)) (last sends sends_now : ℕ) (asked : AskEnd)
-    → Asks request q (read_twice o) arrivals tried calls readings last sends sends_now asked → QueryEnds request q date_answer o arrivals tried calls readings last sends sends_now (end_of date_answer asked)
-ends-date request q o arrivals tried calls readings last sends sends_now (Answer d tick) h = (d, tick, h, refl)
-ends-date request q o arrivals tried calls readings last sends sends_now NoAnswer h = h
-ends-date request q o arrivals tried calls readings last sends sends_now LinkFault h = h
-ends-date request q o arrivals tried calls readings last sends sends_now OutOfMemory h = h
+-- asking in the words of a query that a message asks, if an answer that it reads is one that it may end by
+pub ends-by : (request : Datagram) (q : Question) (answer : Datagram → ℕ → QueryEnd) (o : Outside) (arrivals : Option (List Arrival))
+    (tried : Option (List Tried)) (calls : Option ℕ) (readings : Option (List ℕ)) (last sends sends_now : ℕ) (asked : AskEnd)
+    → ((d : Datagram) (tick : ℕ) → Asks request q (read_twice o) arrivals tried calls readings last sends sends_now (Answer d tick)
+    → QueryEnds request q answer o arrivals tried calls readings last sends sends_now (answer d tick))
+    → Asks request q (read_twice o) arrivals tried calls readings last sends sends_now asked
+    → QueryEnds request q answer o arrivals tried calls readings last sends sends_now (end_of answer asked)
+ends-by request q answer o arrivals tried calls readings last sends sends_now (Answer d tick) reads h = reads d tick h
+ends-by request q answer o arrivals tried calls readings last sends sends_now _ reads h = h
 
 -- what is told once the tick counter was read twice
 pub tells-twice : (o : Outside) (arrivals : Option (List Arrival)) (tried : Option (List Tried)) (calls : Option ℕ) (readings now : Option (List ℕ)) (last sent : ℕ) (later : ℕ)
@@ -91,9 +74,8 @@ ends-diff request q wall wall' f f' s s' o arrivals tried calls readings last se
 -- a question ends by its link where asking did, if no answer means that
 linked_end : (answer : Datagram → ℕ → QueryEnd) → ((d : Datagram) (tick : ℕ) → answer d tick ≡ Faulty → ⊥) → (asked : AskEnd) → end_of answer asked ≡ Faulty → asked ≡ LinkFault
 linked_end answer never (Answer d tick) e = absurd (never d tick e)
-linked_end answer never NoAnswer e = cc
 linked_end answer never LinkFault e = refl
-linked_end answer never OutOfMemory e = cc
+linked_end answer never _ e = cc
 
 -- so the link's counts are those of asking
 pub counts_end : {L : Type 0} (links : LinkOf L) (before now : L) (answer : Datagram → ℕ → QueryEnd) (asked : AskEnd) (end : QueryEnd) → ((d : Datagram) (tick : ℕ) → answer d tick ≡ Faulty → ⊥) → end ≡ end_of answer asked

@@ -1,8 +1,7 @@
 -- How a question ends as a command: what is read, sent, awaited and written.
 use Rattle.std.specs.Prelude.{◌≡◌, ◌⊎◌, ℕ, ℤ, ◌%◌, List, [], ◌∷◌, Option, Some}
 use Rattle.tsp_base.specs.declared.kind.Kind.TheVariants.{Msite, Test}
-use Rattle.tsp_io.specs.declared.addr.Addr.{Addr}
-use Rattle.tsp_io.specs.Links.{Arrival, Binding, NotesReceive, Tried}
+use Rattle.tsp_io.specs.{Links.Arrival, Links.Binding, Links.NotesReceive, Links.Tried, declared.addr.Addr.Addr}
 use Rattle.tsp_query.specs.{Arrivals.all_but_first, Clocks.tick_given, Ends.Outside, Ends.KnowsExactly, Ends.WaitsSeconds, Lines.end_line}
 use Rattle.tsp_query.specs.Queries.{message, stamp, trace_kind, date_message, QueryEnds, master_in, heard_in, date_answer, diff_in}
 use Rattle.tsp_query.specs.Outside.{Observed, Knows, after_bind, WritesBeginning}

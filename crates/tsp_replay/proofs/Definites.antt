@@ -42,8 +42,8 @@ replays_before lines line text (p, r, e) =
 same_place : (lines : List (List ℕ)) (p q : Progress) → Reaches (reverse lines) p → Reaches (reverse lines) q → p ≡ q
 same_place lines p q r s = Reaches-one refused (reverse lines) p q r s
 
-pub IsDefinite-replaying : IsDefinite replaying
-IsDefinite-replaying = record {
+pub definite_replaying : IsDefinite replaying
+definite_replaying = record {
   one_output = λ lines text other (p, r, e) (q, s, f). e ∙ ap written_at (same_place lines p q r s) ∙ sym f;
   before = λ lines line text a. ((λ f. f), replays_before lines line text a);
   not_refused = λ lines line text cause (p, r, e) (q, s, f).

@@ -4,11 +4,10 @@ use Rattle.std.proofs.lemmas.{Grind.flat_map-append, List.reverse-append}
 use Rattle.tsp_base.specs.{Words.HeaderValue, declared.event.Event.Event}
 use Rattle.tsp_run.specs.Run.{told, gained}
 use Rattle.tsp_schedule.specs.declared.stage.Stage.{Stage}
-use Rattle.tsp_schedule.specs.declared.stage.Stage.TheVariants.{Untitled as AtUntitled, Titled as AtTitled, Drifted as AtDrifted, Heading as AtHeading, Running as AtRunning}
+use Rattle.tsp_schedule.specs.declared.stage.Stage.TheVariants.{Titled as AtTitled, Drifted as AtDrifted, Heading as AtHeading, Running as AtRunning}
 use Rattle.tsp_schedule.specs.Schedules.{Progress, Untitled, Titled, Drifted, Heading, Running, Ended, new_header}
-use Rattle.tsp_replay.proofs.Places.{GoesOn, RunsOn, StageStands}
-use Rattle.tsp_replay.specs.{Stages.told_at, declared.replayed.Replayed.Replayed}
-use Rattle.tsp_replay.specs.Traces.{line_text, lines_text, trace, written_at}
+use Rattle.tsp_replay.specs.{Traces.line_text, Traces.lines_text, Traces.trace, Traces.written_at, declared.replayed.Replayed.Replayed}
+use Rattle.tsp_replay.{proofs.Places.GoesOn, proofs.Places.RunsOn, proofs.Places.StageStands, specs.Stages.told_at}
 
 -- one line more, read back
 pub reverse-more : {A : Type 0} (xs : List A) (x : A) → reverse (xs ++ x ∷ []) ≡ x ∷ reverse xs
@@ -19,39 +18,24 @@ pub trace-more : (header : HeaderValue) (events : List Event) (e : Event) → tr
 trace-more header events e = flat_map-append line_text (told header events) (gained header (e ∷ events))
 
 titled_told : (version : ℕ) (stage : Stage Replayed) → StageStands (Titled version) stage → told_at stage ≡ []
-titled_told version AtUntitled s = absurd s
 titled_told version (AtTitled read) s = refl
-titled_told version (AtDrifted held) s = absurd s
-titled_told version (AtHeading held) s = absurd s
-titled_told version (AtRunning run) s = absurd s
+titled_told version _ s = absurd s
 
 drifted_told : (drift : ℕ) (stage : Stage Replayed) → StageStands (Drifted drift) stage → told_at stage ≡ []
-drifted_told drift AtUntitled s = absurd s
-drifted_told drift (AtTitled read) s = absurd s
 drifted_told drift (AtDrifted held) s = refl
-drifted_told drift (AtHeading held) s = absurd s
-drifted_told drift (AtRunning run) s = absurd s
+drifted_told drift _ s = absurd s
 
 heading_told : (header : HeaderValue) (stage : Stage Replayed) → StageStands (Heading header) stage → told_at stage ≡ []
-heading_told header AtUntitled s = absurd s
-heading_told header (AtTitled read) s = absurd s
-heading_told header (AtDrifted held) s = absurd s
 heading_told header (AtHeading held) s = refl
-heading_told header (AtRunning run) s = absurd s
+heading_told header _ s = absurd s
 
 running_told : (header : HeaderValue) (events : List Event) (stage : Stage Replayed) → StageStands (Running header events) stage → told_at stage ≡ gained header events
-running_told header events AtUntitled s = absurd s
-running_told header events (AtTitled read) s = absurd s
-running_told header events (AtDrifted held) s = absurd s
-running_told header events (AtHeading held) s = absurd s
 running_told header events (AtRunning run) s = ap (λ o. if o then [] else run.handler.world.lines.items) s.0 ∙ s.1.lines
+running_told header events _ s = absurd s
 
 ended_told : (header : HeaderValue) (events : List Event) (stage : Stage Replayed) → StageStands (Ended header events) stage → told_at stage ≡ []
-ended_told header events AtUntitled s = absurd s
-ended_told header events (AtTitled read) s = absurd s
-ended_told header events (AtDrifted held) s = absurd s
-ended_told header events (AtHeading held) s = absurd s
 ended_told header events (AtRunning run) s = ap (λ o. if o then [] else run.handler.world.lines.items) s.0
+ended_told header events _ s = absurd s
 
 run_written : (header : HeaderValue) (events : List Event) (line : List ℕ) (to : Progress) (next : Stage Replayed) → RunsOn header events line to → StageStands to next → written_at to ≡ trace header events ++ lines_text (told_at next)
 run_written header events line to next (inl g) s =

@@ -35,14 +35,11 @@ pub StopsAt-untold : (lines : List (List ℕ)) (text line : List ℕ) (p : Progr
     Advances p line next → HandsBeginning (lines_text (told_at next)) written held now keeps stop → StopsAt replaying lines text line written held now keeps stop
 StopsAt-untold lines text line p next written now held keeps (Bad cause) reaches text_is a h = absurd h
 StopsAt-untold lines text line p next written now held keeps Limit reaches text_is a h = absurd h
-StopsAt-untold lines text line p next written now held keeps WriteFault reaches text_is a h =
-    (h.0, h.3, inr (h.1, subst (λ more. Replays (lines ++ line ∷ []) (text ++ more)) h.2 (accepted lines text line p next reaches text_is a)))
-StopsAt-untold lines text line p next written now held keeps OutOfMemory reaches text_is a h =
+StopsAt-untold lines text line p next written now held keeps _ reaches text_is a h =
     (h.0, h.3, inr (h.1, subst (λ more. Replays (lines ++ line ∷ []) (text ++ more)) h.2 (accepted lines text line p next reaches text_is a)))
 
 -- a line that isn't accepted
 pub StopsAt-halts : (lines : List (List ℕ)) (text line : List ℕ) (p : Progress) (written : Option (List ℕ)) (held : List ℕ) (stop : Stop) → Reaches (reverse lines) p → Halts p line stop → StopsAt replaying lines text line written held written held stop
-StopsAt-halts lines text line p written held (Bad cause) reaches h = (Hands-nil written held, (p, reaches, h))
-StopsAt-halts lines text line p written held Limit reaches h = (Hands-nil written held, (p, reaches, h))
 StopsAt-halts lines text line p written held WriteFault reaches h = absurd h
 StopsAt-halts lines text line p written held OutOfMemory reaches h = ([], Hands-nil written held, inl refl)
+StopsAt-halts lines text line p written held _ reaches h = (Hands-nil written held, (p, reaches, h))

@@ -26,6 +26,7 @@ pub fn one_place_of_lines()
 {}
 
 /// After any lines of a schedule, at most one thing can come of the next line or of the end.
+#[tactic(auto, using(crate::proofs::Definites::definite_replaying))]
 pub fn definite_replay()
     ensures { IsDefinite replaying }
 {}

@@ -48,10 +48,9 @@ part_of : (s : StormWords) (end : StormEnd) (text : List ℕ) (written now : Opt
 part_of s end text written now a (other, more, rest, b, some, part) = (rest, some, subst (λ t. IsTextPart t written now rest) (one_answer s other end more text b a).1 part)
 
 some_text : (s : StormWords) (end : StormEnd) (text : List ℕ) → IsStormAnswer s end text → 0 < length text
-some_text s Done text a = let e = ap (λ t. length t) a.2 in omega (arith, e, length-append {A = ℕ})
-some_text s Limit text a = let e = ap (λ t. length t) a.2 in omega (arith, e, length-append {A = ℕ})
 some_text s WriteFault text a = absurd a
 some_text s OutOfMemory text a = absurd a
+some_text s _ text a = let e = ap (λ t. length t) a.2 in omega (arith, e, length-append {A = ℕ})
 
 grows_nothing : (written now : Option (List ℕ)) → now ≡ written → Grows written now []
 grows_nothing None now e = e
@@ -63,10 +62,9 @@ said s end text written now result a (inr (inl is, (rest, some, part))) = subst 
 said s end text written now result a (inr (inr is, (rest, some, part))) = subst (λ r. StormsAs s written now r) (sym is) (inr (end, text, rest, a, some, part))
 said s end text written now result a (inl (is, grows)) = subst (λ r. StormsAs s written now r) (sym is) (whole end a) where
   whole : (e : StormEnd) → IsStormAnswer s e text → StormsAs s written now e
-  whole Done b = (text, b, grows)
-  whole Limit b = (text, b, grows)
   whole WriteFault b = absurd b
   whole OutOfMemory b = absurd b
+  whole _ b = (text, b, grows)
 
 -- how a storm ended agrees with the answer
 pub agrees : (s : StormWords) (written now : Option (List ℕ)) (result : StormEnd) → StormsAs s written now result → (end : StormEnd) (text : List ℕ) → IsStormAnswer s end text → AgreesWithAnswer end text written now result

@@ -1,7 +1,7 @@
 -- The lines that a generator gives can join a header.
 use Rattle.std.proofs.Common.{arith, ap, ◌∙◌, ◌≡◌, ◌≢◌, ℕ, ◌*◌, ◌<◌, ◌≤◌, ◌/◌, ◌^◌, length, [], ◌∷◌, ◌++◌, suc, false, Err, nat_abs, pos, ◌-ℤ◌, refl}
 use Rattle.std.proofs.lemmas.{Int.ints, Nat.mod_below}
-use Rattle.tsp_base.specs.declared.header.HeaderFault.TheVariants.{Full, Rate, Wall, Nets, Net, OutOfMemory}
+use Rattle.tsp_base.specs.declared.header.HeaderFault.TheVariants.{Full, Rate, Wall, OutOfMemory}
 use Rattle.tsp_rules.specs.Values.{NodeLine}
 use Rattle.tsp_base.specs.{Words.HeaderValue, Words.Pushes, declared.header.HeaderFault.HeaderFault}
 use Rattle.tsp_storm.specs.Schedules.{after_lines, storm_lines}
@@ -23,9 +23,8 @@ pub joins_header : (old new : HeaderValue) (v : StormValue) (f : HeaderFault) �
 joins_header old new v Full d few n p = omega (arith, p.0, few)
 joins_header old new v Rate d few n p = omega (arith, p.1, d, rate_near v)
 joins_header old new v Wall d few n p = omega (arith, p.2, wall_near v)
-joins_header old new v Nets d few n p = p
-joins_header old new v Net d few n p = p
 joins_header old new v OutOfMemory d few n p = n refl
+joins_header old new v _ d few n p = p
 
 -- a header with one line more
 pub header_more : (old new : HeaderValue) (line : NodeLine) (v w : StormValue) (n : ℕ) → new ≡ record old { nodes = old.nodes ++ line ∷ [] } → old ≡ record { drift = 100; strict = false; nodes = storm_lines n v; nets = [] } → line ≡ storm_line w → w ≡ after_lines n v →

@@ -59,9 +59,7 @@ IsMade-begins s is = let a = after_is s.nodes (generator_of s) in record {
 -- before all nodes are up the next event is the boot of the next
 pub next-boots : (posted : ℕ) (v : StormValue) (e : Event) → IsNext posted v e → v.given < v.nodes → (word : ℕ) × (e ≡ BootAt 0 v.given word)
 next-boots posted v (BootAt at node word) n lt = (word, let same : at ≡ 0 = n.0 in let node_is : node ≡ v.given = n.1 in cc)
-next-boots posted v (Turn at node) n lt = absurd (let ge = n.0 in omega (arith, ge, lt))
-next-boots posted v (Take at k) n lt = absurd (let ge = n.0 in omega (arith, ge, lt))
-next-boots posted v (Bytes at node port from octets) n lt = absurd (let ge = n.0 in omega (arith, ge, lt))
+next-boots posted v _ n lt = absurd (let ge = n.0 in omega (arith, ge, lt))
 
 IsMade-next : (header : HeaderValue) (events : List Event) (v : StormValue) → IsMade header events v → IsMade header ((next_event header events v).0 ∷ events) (next_event header events v).1
 IsMade-next header events v i =
@@ -104,9 +102,7 @@ no_time_back at last le = rw (le-ltb at last le) refl
 -- a next event is in time
 in_time : (header : HeaderValue) (events : List Event) (v : StormValue) (e : Event) → IsMade header events v → IsNext (posted_count header events) v e → last_at events ≤ event_at e
 in_time header events v (BootAt at node word) i n = let l = i.last in let s = i.start (let lt = n.2 in omega (arith, lt)) in omega (arith, l, s)
-in_time header events v (Turn at node) i n = let l = i.last in let later = n.1 in omega (arith, l, later)
-in_time header events v (Take at k) i n = let l = i.last in let later = n.1 in omega (arith, l, later)
-in_time header events v (Bytes at node port from octets) i n = let l = i.last in let later = n.1 in omega (arith, l, later)
+in_time header events v _ i n = let l = i.last in let later = n.1 in omega (arith, l, later)
 
 -- a header that names no network is whole
 pub whole_alone : (header : HeaderValue) → header.nets ≡ [] → is_whole header ≡ true
@@ -130,10 +126,8 @@ node_known header events v (Bytes at node port from octets) i n =
 
 -- what it takes was posted
 datagram_known : (header : HeaderValue) (events : List Event) (v : StormValue) (e : Event) → IsNext (posted_count header events) v e → no_datagram (posted_count header events) e ≡ None
-datagram_known header events v (BootAt at node word) n = refl
-datagram_known header events v (Turn at node) n = refl
 datagram_known header events v (Take at k) n = rw (lt-ltb k (posted_count header events) n.2) refl
-datagram_known header events v (Bytes at node port from octets) n = refl
+datagram_known header events v _ n = refl
 
 -- once all have booted, each node is up
 all_up : (header : HeaderValue) (events : List Event) (v : StormValue) (k : ℕ) → IsMade header events v → v.nodes ≤ v.given → k < v.nodes → down (scene header events).up (Some k) ≡ None

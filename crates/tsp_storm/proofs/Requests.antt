@@ -2,7 +2,7 @@
 use Rattle.std.proofs.Common.{arith, ◌≡◌, ℕ, zero, suc, ◌<◌, ◌^◌, List, [], ◌∷◌, ◌++◌, replicate}
 use Rattle.std.{proofs.lemmas.Nat.mod_below, specs.Int.w64, specs.Int.to_be_bytes}
 use Rattle.tsp_rules.specs.Values.{Stamp, Good, Request}
-use Rattle.tsp_codec.{proofs.TakenOf.taken_of-canon, specs.Numbers.octet_at, specs.Taken.taken_of}
+use Rattle.tsp_codec.{proofs.TakenOf.taken_of_canon, specs.Numbers.octet_at, specs.Taken.taken_of}
 use Rattle.tsp_script.specs.Storms.{request_octets}
 
 record AreOctets (l : List ℕ) : Type 0 where
@@ -39,4 +39,4 @@ request-octets word =
 
 -- and what is read from them is the request
 pub request-read : (word : ℕ) → word < 2 ^ 64 → taken_of (request_octets word) ≡ Good (Stamp (Request word 0))
-request-read word small = taken_of-canon (Stamp (Request word 0)) (small, omega arith)
+request-read word small = taken_of_canon (Stamp (Request word 0)) (small, omega arith)

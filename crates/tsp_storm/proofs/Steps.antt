@@ -5,11 +5,10 @@ use Rattle.tsp_rules.specs.Values.{Event, Taken}
 use Rattle.tsp_base.specs.declared.event.EventFault.{EventFault}
 use Rattle.tsp_base.specs.declared.event.EventFault.TheVariants.{TimeBack, NoNode, NoDatagram, NotUp, Limit, OutOfMemory}
 use Rattle.tsp_script.specs.Storms.{StormValue}
-use Rattle.tsp_storm.specs.declared.{making.Making.Making, making.Stopped.Stopped}
-use Rattle.tsp_storm.specs.{Answers.StopsAfter, Answers.refused_after, Makings.MakingStands, Makings.StopsMaking}
 use Rattle.tsp_storm.specs.Schedules.{header_of, storm_events, made, posted_count, next_event, event_after}
-use Rattle.tsp_storm.proofs.Draws.{Moves, next_moves}
-use Rattle.tsp_storm.proofs.Mades.{IsMade, made_is, OnlyLimit, only_limit}
+use Rattle.tsp_storm.proofs.{Mades.IsMade, Mades.made_is, Mades.OnlyLimit, Mades.only_limit, Draws.Moves, Draws.next_moves}
+use Rattle.tsp_storm.specs.{Answers.StopsAfter, Answers.refused_after, Makings.MakingStands, Makings.StopsMaking}
+use Rattle.tsp_storm.specs.{declared.making.Stopped.Stopped, declared.making.Making.Making}
 use Rattle.tsp_args.specs.{Storms.IsStorm, declared.storm.StormWords.StormWords}
 use Rattle.tsp_run.specs.Refusals.{IsRefusal}
 use Rattle.tsp_world.specs.{WorldStands.WorldStands, declared.world.World.World}

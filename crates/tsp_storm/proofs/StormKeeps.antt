@@ -7,7 +7,7 @@ use Rattle.tsp_rules.specs.Values.{NodeLine}
 use Rattle.tsp_base.specs.Words.{IsHeader, KeepsDrift, IsName}
 use Rattle.tsp_base.specs.declared.name.NameFault.TheVariants.{TooLong, HasNul}
 use Rattle.tsp_run.specs.{Premised.NamesDiffer, Ranges.Accepted, Setup.nobody}
-use Rattle.tsp_run.proofs.{RunPremises.runs-keep-premises, RunPromises.runs-keep-promises}
+use Rattle.tsp_run.proofs.{RunPremises.runs_keep_premises, RunPromises.runs-keep-promises}
 use Rattle.tsp_script.{proofs.NodeNames.node_name_fits, specs.Storms.StormValue, specs.Storms.storm_line}
 use Rattle.tsp_storm.specs.Schedules.{after_lines, storm_events, generator_of, header_of, storm_lines, made}
 use Rattle.tsp_storm.proofs.{Draws.next_moves, Heads.rate_near, Heads.wall_near, Mades.after_is, Mades.length-storm_lines, Mades.made_is}
@@ -83,7 +83,7 @@ module _ (s : StormWords) (is : IsStorm s) where
       let events = storm_events s n in
       let t = tame_is s is n in
       let accepted : Accepted header events = record { header_is = header_is; ranges = t.ranges; valid = valid } in
-      let kept = runs-keep-premises header events accepted in
+      let kept = runs_keep_premises header events accepted in
       record {
         honest = kept.honest t.sealed;
         life = kept.life t.prompt;

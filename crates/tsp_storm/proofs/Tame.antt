@@ -9,8 +9,7 @@ use Rattle.tsp_run.specs.{Ranges.IsInRange, Run.posted_time, Run.posts, Run.run,
 use Rattle.tsp_script.specs.declared.storm.Draw.{Draw, TheVariants.Event as Gives, TheVariants.Ask}
 use Rattle.tsp_script.specs.Storms.{StormValue, moved, drawn, gave, boots_next, turns_one, asks_one, request_octets, recent_one, as_event, as_question, asks_or_turns, chosen, storm_draw, storm_take}
 use Rattle.tsp_storm.specs.Schedules.{drawn_event, next_event, posted_count, posting_time}
-use Rattle.tsp_storm.proofs.BootWords.{Follow, boot-otherwise, moved-low, next_low}
-use Rattle.tsp_storm.proofs.Draws.{Moves}
+use Rattle.tsp_storm.proofs.{BootWords.Follow, BootWords.boot-otherwise, BootWords.moved-low, BootWords.next_low, Draws.Moves}
 
 -- what an event is besides the next: a boot's word is the state, a take is recent, and octets are a request's
 abbrev Adds : HeaderValue → List Event → StormValue → Event → StormValue → Type 0

@@ -2,9 +2,8 @@
 use Rattle.std.proofs.Common.{ap, ◌∙◌, eq-eqb, ◌≡◌, ℕ, ◌==◌, Bool, true, false, List, ◌∷◌, Option, None, Some, refl}
 use Rattle.tsp_base.specs.Words.{HeaderValue, Step, Begins, Line, of, dids, first_port, line_of, stepped, up}
 use Rattle.tsp_rules.specs.{GateRows.boots_all, NodeRows.in_node_step, Values.Placed, Values.Event, Values.BootAt}
-use Rattle.tsp_run.specs.Run.{Happening, happening, joins, run, steps, step_tick, boot_step}
-use Rattle.tsp_run.specs.Setup.{past_of}
-use Rattle.tsp_run.proofs.{BootLemmas.boots-up, RunLemmas.stepped_own, RunLemmas.stepped_other, RunLemmas.up_joined}
+use Rattle.tsp_run.specs.{Run.Happening, Run.happening, Run.joins, Run.run, Run.steps, Run.step_tick, Run.boot_step, Setup.past_of}
+use Rattle.tsp_run.proofs.{RunLemmas.stepped_own, RunLemmas.stepped_other, RunLemmas.up_joined, BootLemmas.boots-up}
 
 up-stepped : (n : ℕ) (step : Step) (x : ℕ) (acts : List Placed) (h : List Line) → up (dids (of n h)) ≡ true → up (dids (of n (stepped step x acts h))) ≡ true
 up-stepped n step x acts h was = by_case (step.node == n) refl where

@@ -3,8 +3,7 @@ use Rattle.std.specs.Prelude.{ℕ, List}
 use Rattle.tsp_args.specs.declared.storm.StormWords.{StormWords}
 use Rattle.tsp_rules.specs.Values.{Event}
 use Rattle.tsp_base.specs.Words.{HeaderValue}
-use Rattle.tsp_promises.specs.Premises.{Few, Honest, Life, NamesApart, Words}
-use Rattle.tsp_promises.specs.Setting.{Setting}
+use Rattle.tsp_promises.specs.{Premises.Few, Premises.Honest, Premises.Life, Premises.NamesApart, Premises.Words, Setting.Setting}
 use Rattle.tsp_run.specs.{Premised.Short, Promises.Promises, Refusals.Valid, Run.run, Setting.SetBy}
 use Rattle.tsp_storm.specs.Schedules.{header_of, storm_events}
 

@@ -1,7 +1,6 @@
 -- What is said of a schedule's run in one line.
-use Rattle.tsp_rules.specs.RoundRows.{is_correct}
+use Rattle.tsp_rules.specs.{Values.Act, Values.Took, Values.Become, Values.Event, Values.Master, RoundRows.is_correct}
 use Rattle.std.specs.Prelude.{◌≡◌, ℕ, Bool, true, false, List, [], ◌∷◌, ◌++◌, length, count_by, codes, decimal}
-use Rattle.tsp_rules.specs.Values.{Act, Took, Become, Event, Master}
 use Rattle.tsp_base.specs.Words.{HeaderValue}
 use Rattle.tsp_storm.specs.{Schedules.posted_count, declared.counts.Counts.Counts}
 use Rattle.tsp_run.specs.{Run.told, declared.line.Line.Line}

@@ -7,6 +7,7 @@ ghost use Rattle.tsp_args.specs.declared.storm.StormWords.{StormWords};
 ghost use Rattle.tsp_args.specs.Storms.{IsStorm};
 
 /// Words have one answer at most.
+#[tactic(auto, using(crate::proofs::Ends::one_answer))]
 pub fn one_answer_of_words()
     ensures { (s : StormWords) (end other : StormEnd) (text more : List ℕ) → IsStormAnswer s end text
         → IsStormAnswer s other more → (end ≡ other) × (text ≡ more) }

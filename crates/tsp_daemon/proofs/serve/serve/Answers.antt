@@ -8,12 +8,22 @@ use Rattle.tsp_daemon.proofs.TurnLemmas.{le_on, posts_more, went_on, done_unlink
 use Rattle.tsp_daemon.{proofs.WaitLemmas.one_more_noted, proofs.WaitLemmas.until_noted, specs.Sessions.after_turns}
 use Rattle.tsp_daemon.proofs.serve.serve.Goals as goal
 
-pub returns-in-Err-clause-serves : goal.returns-in-Err-clause-serves
-returns-in-Err-clause-serves g c s at =
-    let i = c.loop.counter in
-    let ends = c.in-Err.ensures.turns (after_turns i s) (c.loop.invariant.at s at) in
-    let noted = until_noted i s _ _ _ _ _ _ _ _ _ c.in-Err.end ends (c.loop.invariant.waits s at) (c.in-Err.ensures.waits (after_turns i s) (c.loop.invariant.at s at)) in
-    (i, noted.0, serves_until c.args.turns i s _ _ _ _ _ _ c.in-Err.end (search arith) ends, c.loop.invariant.rises s at, noted.1, noted.2)
+pub returns-in-Err : goal.returns-in-Err
+returns-in-Err g c = record {
+  serves = λ s at.
+      let i = c.loop.counter in
+      let ends = c.in-Err.ensures.turns (after_turns i s) (c.loop.invariant.at s at) in
+      let noted = until_noted i s _ _ _ _ _ _ _ _ _ c.in-Err.end ends (c.loop.invariant.waits s at) (c.in-Err.ensures.waits (after_turns i s) (c.loop.invariant.at s at)) in
+      (i, noted.0, serves_until c.args.turns i s _ _ _ _ _ _ c.in-Err.end (search arith) ends, c.loop.invariant.rises s at, noted.1, noted.2);
+  keeps = record {
+    binds = c.turn.ensures.keeps.binds ∙ c.loop.invariant.binds;
+    walled = c.turn.ensures.keeps.walled ∙ c.loop.invariant.walled;
+    last = le_on _ _ _ c.loop.invariant.last c.turn.ensures.keeps.last;
+  };
+  link = Counts-from _ _ _ _ _ c.loop.invariant.faults (λ e. end_as c.in-Err.end LinkFault e) (λ e. same_end c.in-Err.end LinkFault e) c.in-Err.ensures.link;
+  write = Counts-from _ _ _ _ _ c.loop.invariant.writes (λ e. end_as c.in-Err.end WriteFault e) (λ e. same_end c.in-Err.end WriteFault e) c.in-Err.ensures.write;
+  sends = le_on _ _ _ c.loop.invariant.send_faults c.turn.ensures.sends;
+}
 
 pub loop-preserved : goal.loop-preserved
 loop-preserved g c =
@@ -36,36 +46,14 @@ loop-preserved g c =
       last = le_on _ _ _ c.loop.invariant.last c.turn.ensures.keeps.last;
     }
 
-pub returns-clause-serves : goal.returns-clause-serves
-returns-clause-serves g c s at =
-    let all : c.loop.counter ≡ c.args.turns = search arith in
-    let end = c.loop.invariant.at s at in
-    (c.loop.counter, c.loop.counter, (all, end.tells, end.written_is), c.loop.invariant.rises s at, refl, c.loop.invariant.waits s at)
-
-pub returns-in-Err-clause-keeps : goal.returns-in-Err-clause-keeps
-returns-in-Err-clause-keeps g c = record {
-  binds = c.turn.ensures.keeps.binds ∙ c.loop.invariant.binds;
-  walled = c.turn.ensures.keeps.walled ∙ c.loop.invariant.walled;
-  last = le_on _ _ _ c.loop.invariant.last c.turn.ensures.keeps.last;
+pub returns : goal.returns
+returns g c = record {
+  serves = λ s at.
+      let all : c.loop.counter ≡ c.args.turns = search arith in
+      let end = c.loop.invariant.at s at in
+      (c.loop.counter, c.loop.counter, (all, end.tells, end.written_is), c.loop.invariant.rises s at, refl, c.loop.invariant.waits s at);
+  keeps = record { binds = c.loop.invariant.binds; walled = c.loop.invariant.walled; last = c.loop.invariant.last };
+  link = Counts-same _ _ _ c.loop.invariant.faults (λ e. done_unlinked e);
+  write = Counts-same _ _ _ c.loop.invariant.writes (λ e. done_unwritten e);
+  sends = c.loop.invariant.send_faults;
 }
-
-pub returns-in-Err-clause-link : goal.returns-in-Err-clause-link
-returns-in-Err-clause-link g c = Counts-from _ _ _ _ _ c.loop.invariant.faults (λ e. end_as c.in-Err.end LinkFault e) (λ e. same_end c.in-Err.end LinkFault e) c.in-Err.ensures.link
-
-pub returns-in-Err-clause-write : goal.returns-in-Err-clause-write
-returns-in-Err-clause-write g c = Counts-from _ _ _ _ _ c.loop.invariant.writes (λ e. end_as c.in-Err.end WriteFault e) (λ e. same_end c.in-Err.end WriteFault e) c.in-Err.ensures.write
-
-pub returns-in-Err-clause-sends : goal.returns-in-Err-clause-sends
-returns-in-Err-clause-sends g c = le_on _ _ _ c.loop.invariant.send_faults c.turn.ensures.sends
-
-pub returns-clause-keeps : goal.returns-clause-keeps
-returns-clause-keeps g c = record { binds = c.loop.invariant.binds; walled = c.loop.invariant.walled; last = c.loop.invariant.last }
-
-pub returns-clause-link : goal.returns-clause-link
-returns-clause-link g c = Counts-same _ _ _ c.loop.invariant.faults (λ e. done_unlinked e)
-
-pub returns-clause-write : goal.returns-clause-write
-returns-clause-write g c = Counts-same _ _ _ c.loop.invariant.writes (λ e. done_unwritten e)
-
-pub returns-clause-sends : goal.returns-clause-sends
-returns-clause-sends g c = c.loop.invariant.send_faults

@@ -13,124 +13,96 @@ pub finish-requires-clause-known : goal.finish-requires-clause-known
 finish-requires-clause-known g c =
     subst (λ (ps : List Placed). AreKnown (g.L.Link.stranger c.recv-received.new.self) ps) (sym c.acts-acts.ensures) (acts_known _ _ _ _ _ _ _ _ _ _ c.recv-received.ensures.receives c.requires.lives c.step.ensures.row)
 
-pub returns-in-Err-clause-turns : goal.returns-in-Err-clause-turns
-returns-in-Err-clause-turns g c s at =
-    let ok : c.recv-received.result ≡ Failed → ⊥ = c.in_default.not-Failed in
-    let w = waits_is s.past.ports s.outside _ _ _ _ _ _ _ _ _ _ _ _ _ _ _ _ _ _ at.tells c.tick-first.ensures.takes c.tick-first.ensures.last c.recv-received.ensures.receives ok c.recv-received.ensures.same.0 c.recv-received.ensures.counted c.tick-tick.ensures.takes c.tick-tick.ensures.last in
-    let row = subst (λ (ps : List Placed). PerformsAll GatewayBegun GatewayStands (answers_all (given_by (setups_in c.args.node.now) c.recv-received.result c.recv-received.new.buf)) c.tick-tick.result c.args.node.now c.step.new.node [] ps) (sym c.acts-acts.ensures) c.step.ensures.row in
-    let steps = steps_is s _ _ c.args.counters.now _ _ _ _ _ _ _ _ _ _ _ _ at.stands at.turns_is at.posts_is w row (c.tracing-before.ensures.past s.past at.stands) c.tracing.ensures.past c.is_shown-shown.ensures in
-    ends_is s _ c.args.counters.now _ _ _ _ _ _ _ _ _ _ _ _ _ _ _ c.in-Err.end at.written_is w steps c.finish.ensures.only.arrivals c.finish.ensures.only.calls c.in-Err.ensures.err
-
-pub returns-clause-turns : goal.returns-clause-turns
-returns-clause-turns g c s at =
-    let ok : c.recv-received.result ≡ Failed → ⊥ = c.in_default.not-Failed in
-    let w = waits_is s.past.ports s.outside _ _ _ _ _ _ _ _ _ _ _ _ _ _ _ _ _ _ at.tells c.tick-first.ensures.takes c.tick-first.ensures.last c.recv-received.ensures.receives ok c.recv-received.ensures.same.0 c.recv-received.ensures.counted c.tick-tick.ensures.takes c.tick-tick.ensures.last in
-    let row = subst (λ (ps : List Placed). PerformsAll GatewayBegun GatewayStands (answers_all (given_by (setups_in c.args.node.now) c.recv-received.result c.recv-received.new.buf)) c.tick-tick.result c.args.node.now c.step.new.node [] ps) (sym c.acts-acts.ensures) c.step.ensures.row in
-    let steps = steps_is s _ _ c.args.counters.now _ _ _ _ _ _ _ _ _ _ _ _ at.stands at.turns_is at.posts_is w row (c.tracing-before.ensures.past s.past at.stands) c.tracing.ensures.past c.is_shown-shown.ensures in
-    let sent = c.in_default-finish.ensures.ok in
-    turned_is s _ c.args.counters.now _ _ _ _ _ _ _ _ _ _ _ _ _ _ _ _ _ at.turns_is at.posts_is at.written_is w steps c.finish.ensures.only.arrivals c.finish.ensures.only.calls sent.0 sent.1 refl
-    (ap (λ n. c.args.counters.now.posts + n) c.posts_in.ensures.count)
-
-pub returns-clause-lives : goal.returns-clause-lives
-returns-clause-lives g c = lives_on _ _ _ _ _ c.requires.lives c.step.ensures.row
-
-pub returns-in-Err-clause-waits : goal.returns-in-Err-clause-waits
-returns-in-Err-clause-waits g c s at = turn_noted s _ _ c.in-Err.end (wait_noted s _ c.due.result c.tick-first.result c.wait_until.result _ _ at.stands c.due.ensures.past (first_reading s.outside _ _ _ _ _ _ _ at.tells c.tick-first.ensures.takes) c.wait_until.ensures (Notes_same _ _ _ _ c.finish.ensures.only.waits c.recv-received.ensures.waits))
-
-pub returns-clause-waits : goal.returns-clause-waits
-returns-clause-waits g c s at = wait_noted s _ c.due.result c.tick-first.result c.wait_until.result _ _ at.stands c.due.ensures.past (first_reading s.outside _ _ _ _ _ _ _ at.tells c.tick-first.ensures.takes) c.wait_until.ensures (Notes_same _ _ _ _ c.finish.ensures.only.waits c.recv-received.ensures.waits)
-
--- out of memory before the turn did anything
-pub returns-then-is_err-clause-turns : goal.returns-then-is_err-clause-turns
-returns-then-is_err-clause-turns g c s at = inl (at.tells, at.written_is)
-
-pub returns-then-is_err-clause-waits : goal.returns-then-is_err-clause-waits
-returns-then-is_err-clause-waits g c s at = inl refl
-
-pub returns-then-is_err-clause-keeps : goal.returns-then-is_err-clause-keeps
-returns-then-is_err-clause-keeps g c = record { binds = refl; walled = refl; last = le_self _ }
-
-pub returns-then-is_err-clause-link : goal.returns-then-is_err-clause-link
-returns-then-is_err-clause-link g c = Counts-same _ _ _ refl (λ e. memory_unlinked e)
-
-pub returns-then-is_err-clause-write : goal.returns-then-is_err-clause-write
-returns-then-is_err-clause-write g c = Counts-same _ _ _ refl (λ e. memory_unwritten e)
-
-pub returns-then-is_err-clause-sends : goal.returns-then-is_err-clause-sends
-returns-then-is_err-clause-sends g c = le_self _
-
--- the receive failed
-pub returns-in-Failed-clause-turns : goal.returns-in-Failed-clause-turns
-returns-in-Failed-clause-turns g c s at =
-    let failed : c.recv-received.result ≡ Failed = c.in-Failed.is in (
-      unheard_is s.outside _ _ _ _ _ _ _ _ _ _ _ _ _ _ _ at.tells c.tick-first.ensures.takes c.tick-first.ensures.last c.recv-received.ensures.receives failed c.recv-received.ensures.same.0 c.recv-received.ensures.counted,
-      at.written_is,
-    )
-
-pub returns-in-Failed-clause-waits : goal.returns-in-Failed-clause-waits
-returns-in-Failed-clause-waits g c s at = wait_noted s _ c.due.result c.tick-first.result c.wait_until.result _ _ at.stands c.due.ensures.past (first_reading s.outside _ _ _ _ _ _ _ at.tells c.tick-first.ensures.takes) c.wait_until.ensures c.recv-received.ensures.waits
-
-pub returns-in-Failed-clause-keeps : goal.returns-in-Failed-clause-keeps
-returns-in-Failed-clause-keeps g c = record {
-  binds = c.recv-received.ensures.same.1;
-  walled = c.tick-first.ensures.same.2;
-  last = last_on _ _ _ c.tick-first.ensures.low c.tick-first.ensures.last;
-}
-
-pub returns-in-Failed-clause-link : goal.returns-in-Failed-clause-link
-returns-in-Failed-clause-link g c =
-    let failed : c.recv-received.result ≡ Failed = c.in-Failed.is in
-    record { later = c.recv-received.ensures.later.0; cause = λ e. c.recv-received.ensures.cause failed; still = λ h. absurd (h refl) }
-
-pub returns-in-Failed-clause-write : goal.returns-in-Failed-clause-write
-returns-in-Failed-clause-write g c = Counts-same _ _ _ refl (λ e. link_unwritten e)
-
-pub returns-in-Failed-clause-sends : goal.returns-in-Failed-clause-sends
-returns-in-Failed-clause-sends g c = le_is _ _ c.recv-received.ensures.later.1
-
 -- a send or a line ended it
-pub returns-in-Err-clause-keeps : goal.returns-in-Err-clause-keeps
-returns-in-Err-clause-keeps g c = record {
-  binds = c.finish.ensures.only.binds ∙ c.recv-received.ensures.same.1;
-  walled = c.tick-tick.ensures.same.2 ∙ c.tick-first.ensures.same.2;
-  last = last_twice _ _ _ _ _ c.tick-first.ensures.low c.tick-first.ensures.last c.tick-tick.ensures.low c.tick-tick.ensures.last;
+pub returns-in-Err : goal.returns-in-Err
+returns-in-Err g c = record {
+  turns = λ s at.
+      let ok : c.recv-received.result ≡ Failed → ⊥ = c.in_default.not-Failed in
+      let w = waits_is s.past.ports s.outside _ _ _ _ _ _ _ _ _ _ _ _ _ _ _ _ _ _ at.tells c.tick-first.ensures.takes c.tick-first.ensures.last c.recv-received.ensures.receives ok c.recv-received.ensures.same.0 c.recv-received.ensures.counted c.tick-tick.ensures.takes c.tick-tick.ensures.last in
+      let row = subst (λ (ps : List Placed). PerformsAll GatewayBegun GatewayStands (answers_all (given_by (setups_in c.args.node.now) c.recv-received.result c.recv-received.new.buf)) c.tick-tick.result c.args.node.now c.step.new.node [] ps) (sym c.acts-acts.ensures) c.step.ensures.row in
+      let steps = steps_is s _ _ c.args.counters.now _ _ _ _ _ _ _ _ _ _ _ _ at.stands at.turns_is at.posts_is w row (c.tracing-before.ensures.past s.past at.stands) c.tracing.ensures.past c.is_shown-shown.ensures in
+      ends_is s _ c.args.counters.now _ _ _ _ _ _ _ _ _ _ _ _ _ _ _ c.in-Err.end at.written_is w steps c.finish.ensures.only.arrivals c.finish.ensures.only.calls c.in-Err.ensures.err;
+  waits = λ s at. turn_noted s _ _ c.in-Err.end (wait_noted s _ c.due.result c.tick-first.result c.wait_until.result _ _ at.stands c.due.ensures.past (first_reading s.outside _ _ _ _ _ _ _ at.tells c.tick-first.ensures.takes) c.wait_until.ensures (Notes_same _ _ _ _ c.finish.ensures.only.waits c.recv-received.ensures.waits));
+  keeps = record {
+    binds = c.finish.ensures.only.binds ∙ c.recv-received.ensures.same.1;
+    walled = c.tick-tick.ensures.same.2 ∙ c.tick-first.ensures.same.2;
+    last = last_twice _ _ _ _ _ c.tick-first.ensures.low c.tick-first.ensures.last c.tick-tick.ensures.low c.tick-tick.ensures.last;
+  };
+  link =
+      let ok : c.recv-received.result ≡ Failed → ⊥ = c.in_default.not-Failed in
+      Counts-same _ _ _ (c.finish.ensures.only.faults ∙ c.recv-received.ensures.still ok) (λ e. finish_unlinked _ _ _ _ _ _ c.in-Err.end c.in-Err.ensures.err (same_end c.in-Err.end LinkFault e));
+  write = c.in-Err.ensures.write;
+  sends = sends_on _ _ _ c.recv-received.ensures.later.1 c.finish.ensures.only.sends;
+  lives = tt;
+  clock = tt;
+  counts = tt;
+  ports = tt;
 }
-
-pub returns-in-Err-clause-link : goal.returns-in-Err-clause-link
-returns-in-Err-clause-link g c =
-    let ok : c.recv-received.result ≡ Failed → ⊥ = c.in_default.not-Failed in
-    Counts-same _ _ _ (c.finish.ensures.only.faults ∙ c.recv-received.ensures.still ok) (λ e. finish_unlinked _ _ _ _ _ _ c.in-Err.end c.in-Err.ensures.err (same_end c.in-Err.end LinkFault e))
-
-pub returns-in-Err-clause-write : goal.returns-in-Err-clause-write
-returns-in-Err-clause-write g c = c.in-Err.ensures.write
-
-pub returns-in-Err-clause-sends : goal.returns-in-Err-clause-sends
-returns-in-Err-clause-sends g c = sends_on _ _ _ c.recv-received.ensures.later.1 c.finish.ensures.only.sends
 
 -- the turn was taken
-pub returns-clause-keeps : goal.returns-clause-keeps
-returns-clause-keeps g c = record {
-  binds = c.finish.ensures.only.binds ∙ c.recv-received.ensures.same.1;
-  walled = c.tick-tick.ensures.same.2 ∙ c.tick-first.ensures.same.2;
-  last = last_twice _ _ _ _ _ c.tick-first.ensures.low c.tick-first.ensures.last c.tick-tick.ensures.low c.tick-tick.ensures.last;
+pub returns : goal.returns
+returns g c = record {
+  turns = λ s at.
+      let ok : c.recv-received.result ≡ Failed → ⊥ = c.in_default.not-Failed in
+      let w = waits_is s.past.ports s.outside _ _ _ _ _ _ _ _ _ _ _ _ _ _ _ _ _ _ at.tells c.tick-first.ensures.takes c.tick-first.ensures.last c.recv-received.ensures.receives ok c.recv-received.ensures.same.0 c.recv-received.ensures.counted c.tick-tick.ensures.takes c.tick-tick.ensures.last in
+      let row = subst (λ (ps : List Placed). PerformsAll GatewayBegun GatewayStands (answers_all (given_by (setups_in c.args.node.now) c.recv-received.result c.recv-received.new.buf)) c.tick-tick.result c.args.node.now c.step.new.node [] ps) (sym c.acts-acts.ensures) c.step.ensures.row in
+      let steps = steps_is s _ _ c.args.counters.now _ _ _ _ _ _ _ _ _ _ _ _ at.stands at.turns_is at.posts_is w row (c.tracing-before.ensures.past s.past at.stands) c.tracing.ensures.past c.is_shown-shown.ensures in
+      let sent = c.in_default-finish.ensures.ok in
+      turned_is s _ c.args.counters.now _ _ _ _ _ _ _ _ _ _ _ _ _ _ _ _ _ at.turns_is at.posts_is at.written_is w steps c.finish.ensures.only.arrivals c.finish.ensures.only.calls sent.0 sent.1 refl
+      (ap (λ n. c.args.counters.now.posts + n) c.posts_in.ensures.count);
+  lives = lives_on _ _ _ _ _ c.requires.lives c.step.ensures.row;
+  waits = λ s at. wait_noted s _ c.due.result c.tick-first.result c.wait_until.result _ _ at.stands c.due.ensures.past (first_reading s.outside _ _ _ _ _ _ _ at.tells c.tick-first.ensures.takes) c.wait_until.ensures (Notes_same _ _ _ _ c.finish.ensures.only.waits c.recv-received.ensures.waits);
+  keeps = record {
+    binds = c.finish.ensures.only.binds ∙ c.recv-received.ensures.same.1;
+    walled = c.tick-tick.ensures.same.2 ∙ c.tick-first.ensures.same.2;
+    last = last_twice _ _ _ _ _ c.tick-first.ensures.low c.tick-first.ensures.last c.tick-tick.ensures.low c.tick-tick.ensures.last;
+  };
+  clock = last_on _ _ _ c.step.ensures.clock c.tick-tick.ensures.last;
+  counts = (refl, posts_on c.args.counters.now.posts _ _ _ _ c.posts_in.ensures.few c.step.ensures.few c.acts-acts.ensures);
+  ports = c.step.ensures.ports;
+  link =
+      let ok : c.recv-received.result ≡ Failed → ⊥ = c.in_default.not-Failed in
+      Counts-same _ _ _ (c.finish.ensures.only.faults ∙ c.recv-received.ensures.still ok) (λ e. cc);
+  write = c.in_default-finish.ensures.write;
+  sends = sends_on _ _ _ c.recv-received.ensures.later.1 c.finish.ensures.only.sends;
 }
 
-pub returns-clause-clock : goal.returns-clause-clock
-returns-clause-clock g c = last_on _ _ _ c.step.ensures.clock c.tick-tick.ensures.last
+-- out of memory before the turn did anything
+pub returns-then-is_err : goal.returns-then-is_err
+returns-then-is_err g c = record {
+  turns = λ s at. inl (at.tells, at.written_is);
+  waits = λ s at. inl refl;
+  keeps = record { binds = refl; walled = refl; last = le_self _ };
+  link = Counts-same _ _ _ refl (λ e. memory_unlinked e);
+  write = Counts-same _ _ _ refl (λ e. memory_unwritten e);
+  sends = le_self _;
+  lives = tt;
+  clock = tt;
+  counts = tt;
+  ports = tt;
+}
 
-pub returns-clause-counts : goal.returns-clause-counts
-returns-clause-counts g c = (refl, posts_on c.args.counters.now.posts _ _ _ _ c.posts_in.ensures.few c.step.ensures.few c.acts-acts.ensures)
-
-pub returns-clause-ports : goal.returns-clause-ports
-returns-clause-ports g c = c.step.ensures.ports
-
-pub returns-clause-link : goal.returns-clause-link
-returns-clause-link g c =
-    let ok : c.recv-received.result ≡ Failed → ⊥ = c.in_default.not-Failed in
-    Counts-same _ _ _ (c.finish.ensures.only.faults ∙ c.recv-received.ensures.still ok) (λ e. cc)
-
-pub returns-clause-write : goal.returns-clause-write
-returns-clause-write g c = c.in_default-finish.ensures.write
-
-pub returns-clause-sends : goal.returns-clause-sends
-returns-clause-sends g c = sends_on _ _ _ c.recv-received.ensures.later.1 c.finish.ensures.only.sends
+-- the receive failed
+pub returns-in-Failed : goal.returns-in-Failed
+returns-in-Failed g c = record {
+  turns = λ s at.
+      let failed : c.recv-received.result ≡ Failed = c.in-Failed.is in (
+        unheard_is s.outside _ _ _ _ _ _ _ _ _ _ _ _ _ _ _ at.tells c.tick-first.ensures.takes c.tick-first.ensures.last c.recv-received.ensures.receives failed c.recv-received.ensures.same.0 c.recv-received.ensures.counted,
+        at.written_is,
+      );
+  waits = λ s at. wait_noted s _ c.due.result c.tick-first.result c.wait_until.result _ _ at.stands c.due.ensures.past (first_reading s.outside _ _ _ _ _ _ _ at.tells c.tick-first.ensures.takes) c.wait_until.ensures c.recv-received.ensures.waits;
+  keeps = record {
+    binds = c.recv-received.ensures.same.1;
+    walled = c.tick-first.ensures.same.2;
+    last = last_on _ _ _ c.tick-first.ensures.low c.tick-first.ensures.last;
+  };
+  link =
+      let failed : c.recv-received.result ≡ Failed = c.in-Failed.is in
+      record { later = c.recv-received.ensures.later.0; cause = λ e. c.recv-received.ensures.cause failed; still = λ h. absurd (h refl) };
+  write = Counts-same _ _ _ refl (λ e. link_unwritten e);
+  sends = le_is _ _ c.recv-received.ensures.later.1;
+  lives = tt;
+  clock = tt;
+  counts = tt;
+  ports = tt;
+}

@@ -1,4 +1,4 @@
-use Rattle.tsp_icmp_command.proofs.OneExchange.{IsExchange-not_refused}
+use Rattle.tsp_icmp_command.proofs.RecordLemmas.{IsExchange-not_refused}
 use Rattle.tsp_icmp_command.proofs.laws.an_exchange_is_not_refused.Goals as goal
 
 pub returns : goal.returns

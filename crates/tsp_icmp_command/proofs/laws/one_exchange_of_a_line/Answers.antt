@@ -1,4 +1,4 @@
-use Rattle.tsp_icmp_command.proofs.OneExchange.{IsExchange-one}
+use Rattle.tsp_icmp_command.proofs.RecordLemmas.{IsExchange-one}
 use Rattle.tsp_icmp_command.proofs.laws.one_exchange_of_a_line.Goals as goal
 
 pub returns : goal.returns

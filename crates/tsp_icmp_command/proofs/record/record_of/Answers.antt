@@ -1,7 +1,7 @@
 use Rattle.std.proofs.Common.{◌∙◌, sym, ap, subst, arith, length}
 use Rattle.tsp_script.specs.{Schedules.IsHost, Words.first_word, Words.after_word}
-use Rattle.tsp_icmp_command.{proofs.Cuts.length-first_word, proofs.Cuts.length-after_word, specs.Records.SaysInHex}
-use Rattle.tsp_icmp_command.proofs.RecordLemmas.{HasWords-IsRecord, IsRecord-words, MatchOption-none}
+use Rattle.tsp_icmp_command.proofs.RecordLemmas.{length-first_word, length-after_word, HasWords-IsRecord, IsRecord-words, MatchOption-none}
+use Rattle.tsp_icmp_command.specs.Records.{SaysInHex}
 use Rattle.tsp_icmp_command.proofs.record.record_of.Goals as goal
 
 pub returns-in_err-name : goal.returns-in_err-name

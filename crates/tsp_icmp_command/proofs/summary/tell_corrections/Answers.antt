@@ -2,7 +2,7 @@
 use Rattle.std.proofs.Common.{◌≡◌, ◌∙◌, ap, sym, subst, ◌++◌, ◌+◌, List, ℕ, get_or, append_assoc, append-nil, drop, rules, ℤ, to_z, of_z}
 use Rattle.std.{proofs.lemmas.Int.to_z-of_z, proofs.lemmas.List.drop_more, specs.Int.w64}
 use Rattle.tsp_lines.{proofs.Outputs.Hands-trans, specs.Lines.close, specs.Outputs.Hands}
-use Rattle.tsp_icmp_command.{proofs.Tellings.on_err, specs.Bests.BestValue, specs.Bests.correct_line, specs.Bests.corrections}
+use Rattle.tsp_icmp_command.{proofs.TreatLemmas.on_err, specs.Bests.BestValue, specs.Bests.correct_line, specs.Bests.corrections}
 use Rattle.tsp_icmp_command.proofs.summary.tell_corrections.Goals as goal
 
 pub returns-in_err-put-clause-err : goal.returns-in_err-put-clause-err

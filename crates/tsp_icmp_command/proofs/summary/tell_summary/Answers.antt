@@ -3,7 +3,7 @@ use Rattle.std.{proofs.lemmas.Int.to_z-of_z, specs.Int.w64}
 use Rattle.tsp_group.specs.Groups.{mean_of}
 use Rattle.tsp_lines.specs.Lines.{close}
 use Rattle.tsp_icmp_command.specs.Bests.{group_line, corrections, summary_of}
-use Rattle.tsp_icmp_command.proofs.Tellings.{HandsPart-none, Hands-both, HandsPart-behind}
+use Rattle.tsp_icmp_command.proofs.TreatLemmas.{HandsPart-none, Hands-both, HandsPart-behind}
 use Rattle.tsp_icmp_command.proofs.summary.tell_summary.Goals as goal
 
 pub returns-in_err-put-clause-err : goal.returns-in_err-put-clause-err

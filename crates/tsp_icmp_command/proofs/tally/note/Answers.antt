@@ -1,6 +1,6 @@
 use Rattle.std.proofs.Common.{◌≡◌, ◌∙◌, sym, arith, Some, None, position}
 use Rattle.std.specs.Str.{bytes_eq}
-use Rattle.tsp_icmp_command.proofs.Notes.{note-replaces, note-keeps, note-adds}
+use Rattle.tsp_icmp_command.proofs.BestLemmas.{note-replaces, note-keeps, note-adds}
 use Rattle.tsp_icmp_command.proofs.tally.note.Goals as goal
 
 pub returns-then-trip-clause-ok : goal.returns-then-trip-clause-ok

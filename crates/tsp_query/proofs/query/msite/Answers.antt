@@ -1,7 +1,7 @@
-use Rattle.std.proofs.Common.{◌%◌}
+use Rattle.std.proofs.Common.{◌%◌, refl}
 use Rattle.tsp_base.specs.declared.kind.Kind.TheVariants.{Msite}
 use Rattle.tsp_query.specs.{Queries.message, Queries.master_in, declared.question.Question.TheVariants.OfNumber}
-use Rattle.tsp_query.proofs.QueryLemmas.{fits-msite, ends-master, counts_end}
+use Rattle.tsp_query.proofs.QueryLemmas.{fits-msite, ends-by, counts_end}
 use Rattle.tsp_query.proofs.query.msite.Goals as goal
 
 pub ask_by_message-requires : goal.ask_by_message-requires
@@ -9,7 +9,8 @@ ask_by_message-requires g c = fits-msite
 
 pub returns-clause-asks : goal.returns-clause-asks
 returns-clause-asks g c = λ o word t w.
-    rw c.master_end.ensures (ends-master (message Msite word) (OfNumber (word % 65536)) o _ _ _ _ _ _ _ c.ask_by_message.result (c.ask_by_message.ensures.asks o word t w))
+    rw c.master_end.ensures (ends-by (message Msite word) (OfNumber (word % 65536)) master_in o _ _ _ _ _ _ _ c.ask_by_message.result
+    (λ d tick h. (d, tick, h, refl)) (c.ask_by_message.ensures.asks o word t w))
 
 pub returns-clause-faults : goal.returns-clause-faults
 returns-clause-faults g c = counts_end _ _ _ master_in c.ask_by_message.result c.master_end.result (λ d tick e. cc) c.master_end.ensures c.ask_by_message.ensures.faults

@@ -32,12 +32,10 @@ loop-preserved c = rw add-one (record {
   header = header_more c.loop.header c.push.new.self c.head.result (generator_of c.args.words.now) c.loop.storm c.loop.counter c.in-Ok.ensures.2 c.loop.invariant.header c.head.ensures.line c.loop.invariant.generator;
 })
 
-pub returns-clause-header : goal.returns-clause-header
-returns-clause-header c =
+pub returns : goal.returns
+returns c =
     let all : c.loop.counter ≡ c.args.words.now.nodes = (let low = c.loop-test.false in let high = c.loop.auto.counter-end in omega (arith, low, high)) in
-    c.loop.invariant.header ∙ ap (λ (n : ℕ). record { drift = 100; strict = false; nodes = storm_lines n (generator_of c.args.words.now); nets = [] }) all
-
-pub returns-clause-generator : goal.returns-clause-generator
-returns-clause-generator c =
-    let all : c.loop.counter ≡ c.args.words.now.nodes = (let low = c.loop-test.false in let high = c.loop.auto.counter-end in omega (arith, low, high)) in
-    c.loop.invariant.generator ∙ ap (λ (n : ℕ). after_lines n (generator_of c.args.words.now)) all
+    record {
+      header = c.loop.invariant.header ∙ ap (λ (n : ℕ). record { drift = 100; strict = false; nodes = storm_lines n (generator_of c.args.words.now); nets = [] }) all;
+      generator = c.loop.invariant.generator ∙ ap (λ (n : ℕ). after_lines n (generator_of c.args.words.now)) all;
+    }

@@ -6,20 +6,17 @@ use Rattle.tsp_storm.proofs.Draws.{asks_is, next-chosen, next-asked, no_time}
 use Rattle.tsp_storm.proofs.making.draw.Goals as goal
 use Rattle.tsp_run.specs.Run.{posted_time}
 
-pub answer-requires-clause-named : goal.answer-requires-clause-named
-answer-requires-clause-named c =
+pub answer-requires : goal.answer-requires
+answer-requires c =
     let a = asks_is c.posted-posted.result c.in-Ask.k c.args.storm.now c.choice.new.self c.requires.some c.in-Ask.ensures.next in
-    a.named ∙ c.requires.named ∙ sym a.nodes
-
-pub answer-requires-clause-few : goal.answer-requires-clause-few
-answer-requires-clause-few c =
-    let a = asks_is c.posted-posted.result c.in-Ask.k c.args.storm.now c.choice.new.self c.requires.some c.in-Ask.ensures.next in
-    let same = a.given in
-    let few = c.requires.few in
-    omega (arith, same, few)
-
-pub answer-requires-clause-asked : goal.answer-requires-clause-asked
-answer-requires-clause-asked c = (asks_is c.posted-posted.result c.in-Ask.k c.args.storm.now c.choice.new.self c.requires.some c.in-Ask.ensures.next).asked
+    record {
+      named = a.named ∙ c.requires.named ∙ sym a.nodes;
+      few =
+          let same = a.given in
+          let few = c.requires.few in
+          omega (arith, same, few);
+      asked = (asks_is c.posted-posted.result c.in-Ask.k c.args.storm.now c.choice.new.self c.requires.some c.in-Ask.ensures.next).asked;
+    }
 
 pub unreachable-requires : goal.unreachable-requires
 unreachable-requires c =

@@ -16,9 +16,8 @@ new-requires-clause-some c =
 pub new-requires-clause-whole : goal.new-requires-clause-whole
 new-requires-clause-whole c = whole_alone c.in_ok-begun.begun.header (ap (λ (h : HeaderValue). h.nets) c.in_ok-begun.ensures.header)
 
-pub returns-clause-stands : goal.returns-clause-stands
-returns-clause-stands c =
-    stands_begins c.args.words.now c.in_ok-begun.begun.storm c.in_ok-world.world c.new-2.result c.requires c.in_ok-begun.ensures.generator (subst (λ (h : HeaderValue). WorldStands h [] c.in_ok-world.world) c.in_ok-begun.ensures.header c.in_ok-world.ensures)
-
-pub returns-clause-none : goal.returns-clause-none
-returns-clause-none c = ap (λ (v : StormValue). v.given) c.in_ok-begun.ensures.generator ∙ (made_is c.args.words.now c.requires 0).count
+pub returns : goal.returns
+returns c = record {
+  stands = stands_begins c.args.words.now c.in_ok-begun.begun.storm c.in_ok-world.world c.new-2.result c.requires c.in_ok-begun.ensures.generator (subst (λ (h : HeaderValue). WorldStands h [] c.in_ok-world.world) c.in_ok-begun.ensures.header c.in_ok-world.ensures);
+  none = ap (λ (v : StormValue). v.given) c.in_ok-begun.ensures.generator ∙ (made_is c.args.words.now c.requires 0).count;
+}

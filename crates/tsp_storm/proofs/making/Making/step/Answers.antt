@@ -30,32 +30,17 @@ happen-requires-clause-event c =
     let comes = given-next _ c.draw-choice.new.storm next (c.draw-choice.ensures.next (header_of s) (storm_events s m.storm.given) st.world) in
     comes.0 ∙ ap (λ (e : Event). Gives e) (event_now s m next.0 c.draw-choice.new.storm st comes.1)
 
-pub returns-clause-stands : goal.returns-clause-stands
-returns-clause-stands c =
+pub returns : goal.returns
+returns c =
     let s = c.args.words.now in
     let m = c.args.self.now in
     let st = c.requires.stands in
     let next = next_event (header_of s) (storm_events s m.storm.given) m.storm in
     let comes = given-next _ c.draw-choice.new.storm next (c.draw-choice.ensures.next (header_of s) (storm_events s m.storm.given) st.world) in
-    on_step s m next.0 c.draw-choice.new.storm c.happen.new.world c.happen.new.parcel c.happen.result _ st comes.1 (λ d. d.stands) c.happen.ensures.stands
-
-pub returns-clause-given : goal.returns-clause-given
-returns-clause-given c =
-    let s = c.args.words.now in
-    let m = c.args.self.now in
-    let st = c.requires.stands in
-    let next = next_event (header_of s) (storm_events s m.storm.given) m.storm in
-    let comes = given-next _ c.draw-choice.new.storm next (c.draw-choice.ensures.next (header_of s) (storm_events s m.storm.given) st.world) in
-    on_step s m next.0 c.draw-choice.new.storm c.happen.new.world c.happen.new.parcel c.happen.result _ st comes.1 (λ d. d.given) c.happen.ensures.stands
-
-pub returns-clause-event : goal.returns-clause-event
-returns-clause-event c =
-    let s = c.args.words.now in
-    let m = c.args.self.now in
-    let st = c.requires.stands in
-    let next = next_event (header_of s) (storm_events s m.storm.given) m.storm in
-    let comes = given-next _ c.draw-choice.new.storm next (c.draw-choice.ensures.next (header_of s) (storm_events s m.storm.given) st.world) in
-    on_step s m next.0 c.draw-choice.new.storm c.happen.new.world c.happen.new.parcel c.happen.result _ st comes.1 (λ d. d.event) c.happen.ensures.stands
-
-pub returns-clause-stops : goal.returns-clause-stops
-returns-clause-stops c = stops_step c.args.words.now c.args.self.now c.happen.result c.requires.stands c.happen.ensures.stops
+    let new = c.happen.new in
+    record {
+      stands = on_step s m next.0 c.draw-choice.new.storm new.world new.parcel c.happen.result _ st comes.1 (λ d. d.stands) c.happen.ensures.stands;
+      given = on_step s m next.0 c.draw-choice.new.storm new.world new.parcel c.happen.result _ st comes.1 (λ d. d.given) c.happen.ensures.stands;
+      event = on_step s m next.0 c.draw-choice.new.storm new.world new.parcel c.happen.result _ st comes.1 (λ d. d.event) c.happen.ensures.stands;
+      stops = stops_step s m c.happen.result st c.happen.ensures.stops;
+    }
