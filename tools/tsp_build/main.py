@@ -14,7 +14,7 @@ from tsp_build.stamp import Stamp
 
 HERE = os.path.dirname(os.path.dirname(os.path.dirname(os.path.realpath(__file__))))
 NOT_BUILT, NO_RT = 126, 127
-SEEN = 'from nothing the proof took 12 to 31 minutes on the machines that were seen, 36 to 75 of one processor'
+SEEN = 'from nothing the proof took 12 to 31 minutes on the machines that were seen, 36 to 75 of one processor, and longer beside other work'
 
 
 class Stopped(BaseException):
