@@ -4,7 +4,7 @@
 unset TSP_HOSTS TSP_SELF TSP_TURNS TSP_WAIT TSP_TRACE TSP_PROGRAM
 cp tools/tests/launch.hosts "$out/hosts"
 
-# A program that answers a query with what stands in a file of its address, and is silent where there is none. A clock is asked for alone.
+# A program that answers a query with what stands in a file of its address, and hangs where there is none. A clock is asked for alone.
 cat >"$out/fake" <<'END'
 #!/bin/sh
 echo "$1 $2" >>"$CALLS"
@@ -28,19 +28,31 @@ answers() {
     printf '0 clockdiff %s\n' "$3" >"$ANSWERS/clockdiff-$1"
 }
 
-# Lets a host be silent.
+# Lets a host be silent: the program says so itself, in its own time.
 silence() {
+    for query in msite clockdiff; do echo '6 no answer' >"$ANSWERS/$query-$1"; done
+}
+
+# Lets the program hang that asks a host, so that it has to be ended.
+hang() {
     rm -f "$ANSWERS/msite-$1" "$ANSWERS/clockdiff-$1"
 }
 
-# Wants this status of tsp-status with these words.
-ends() {
+# Wants this status of tsp-status with these words. It waits for as long as it does of itself.
+ends_in_time() {
     wanted=$1
     shift
     : >"$CALLS"
     status=0
     tools/tsp-status --program "$out/fake" --file "$out/hosts" "$@" >"$out/said" 2>"$out/told" || status=$?
     [ "$status" -eq "$wanted" ] || fail "'$*' ends with status $status: $(cat "$out/said" "$out/told")"
+}
+
+# The same, with patience: what an answer says doesn't depend on how fast this machine is.
+ends() {
+    wanted=$1
+    shift
+    ends_in_time "$wanted" --timeout 40 "$@"
 }
 
 # Wants these lines of output.
@@ -183,19 +195,20 @@ done
 cat "$out/metrics" "$out/rates" | sed -n 's/^# TYPE \([a-z_]*\) .*/\1/p' | sort -u >"$out/there"
 grep -o 'tsp_host_[a-z_]*\|tsp_spread_[a-z_]*' man/tsp-status.8 | sort -u | diff - "$out/there" >"$out/differ" || fail "the page has other metrics: $(cat "$out/differ")"
 
-# A silent host is asked as often as that was asked for, and costs no more than the time that an answer is waited for.
-silence 192.0.2.12:526
+# A host that hangs is asked as often as that was asked for, and costs no more than the time that an answer is waited for.
+hang 192.0.2.12:526
 began=$(date +%s)
-ends 1 --csv
+ends_in_time 1 --csv
 took=$(($(date +%s) - began))
-[ "$took" -le 4 ] || fail "a silent host costs $took s"
+[ "$took" -le 15 ] || fail "a silent host costs $took s"
 [ "$(sed -n 3p "$out/said")" = beta,192.0.2.12:526,,,,no,1,,,, ] || fail "a silent host is '$(sed -n 3p "$out/said")'"
 tells 'tsp-status: silent: beta'
 [ "$(grep -c 'msite 192.0.2.12:526' "$CALLS")" -eq 2 ] && ! grep 'clockdiff 192.0.2.12:526' "$CALLS" || fail 'a silent host is not asked twice for its master alone'
-ends 1 -t 1 --timeout 0.5
+ends_in_time 1 -t 1
 [ "$(sed -n 3p "$out/said" | tr -s ' ')" = '1 beta 192.0.2.12:526 - - - - silent' ] || fail "a silent host is '$(sed -n 3p "$out/said")'"
 [ "$(grep -c 'msite 192.0.2.12:526' "$CALLS")" -eq 1 ] || fail 'a silent host is asked more than once'
-ends 1 --timeout 0.5 --check
+silence 192.0.2.12:526
+ends 1 --check
 says 'TSP WARNING: silent: beta | reached=3;;;0;4 masters=1 spread=1.501ms;;50.000'
 
 # A host to which nothing can be sent, or that nobody answers for, is silent too; one whose clock can't be read is reached.
@@ -205,10 +218,10 @@ for status in 5 6; do
     tells 'tsp-status: silent: beta'
 done
 printf '0 master alpha\n' >"$ANSWERS/msite-192.0.2.12:526"
-ends 1 -c --timeout 0.5
+ends 1 -c
 [ "$(sed -n 3p "$out/said")" = beta,192.0.2.12:526,alpha,,,yes,1,slave,,, ] || fail "a host without a clock is '$(sed -n 3p "$out/said")'"
 tells 'tsp-status: no clock was read: beta'
-ends 2 --check --timeout 0.5
+ends 2 --check
 says 'TSP CRITICAL: no clock was read: beta | reached=4;;;0;4 masters=1 spread=1.501ms;;50.000'
 
 # Two masters of one network are told of. (each network has its own)
@@ -253,10 +266,10 @@ answers 192.0.2.1:525 'master alpha' '5 5'
 ends 2 --check
 says "TSP CRITICAL: no master is known to alpha; alpha is named as master and doesn't lead | reached=3;;;0;3 masters=0 spread=0.010ms;;50.000"
 silence 192.0.2.11:525
-ends 2 --check --timeout 0.5
+ends 2 --check
 says "TSP CRITICAL: alpha is named as master and doesn't lead; silent: alpha | reached=2;;;0;3 masters=0 spread=0.010ms;;50.000"
 for host in 192.0.2.12:526 192.0.2.1:525; do silence "$host"; done
-ends 2 --check --timeout 0.5
+ends 2 --check
 says 'TSP CRITICAL: silent: alpha, beta, gate | reached=0;;;0;3 masters=0'
 
 # A program that answers otherwise, or that doesn't know the queries, and none at all.
@@ -308,13 +321,13 @@ tells 'tsp-status: standard output: Bad file descriptor'
 ends 4 --output "$out/none/file"
 tells "tsp-status: $out/none/file: No such file or directory"
 
-# Forty hosts of which half are dead: these cost two seconds together, and the others' clocks are asked for one after the other.
+# Forty hosts of which half hang: these cost no more together than one, and the others' clocks are asked for one after the other.
 awk 'BEGIN { for (i = 1; i <= 40; i++) printf "n%d 10.0.0.%d master\n", i, i }' >"$out/hosts"
 for i in $(seq 20); do answers "10.0.0.$i:525" 'master n1' "$i 1"; done
 began=$(date +%s)
-ends 1 -c
+ends_in_time 1 -c --timeout 6
 took=$(($(date +%s) - began))
-[ "$took" -le 12 ] || fail "forty hosts take $took s"
+[ "$took" -le 60 ] || fail "forty hosts take $took s"
 [ "$(grep -c ',n1,' "$out/said")" -eq 20 ] || fail 'not each of twenty hosts is reached'
 tells 'tsp-status: silent: n21, n22, n23, n24, n25, n26, n27, n28, n29, n30 and 10 more'
 [ ! -e "$BUSY-again" ] || fail 'clocks are asked for at the same time'
