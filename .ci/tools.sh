@@ -5,9 +5,14 @@
 set -eu
 cd "$(dirname "$0")/.."
 
-# Prints of which share of its time, in percent, the processors of a virtual machine were taken away in five seconds.
+# Prints which share of its time, in percent, the processors of a virtual machine are taken away in five seconds in which all are wanted.
 taken_away() {
-    { cat /proc/stat; sleep 5; cat /proc/stat; } | awk '
+    {
+        cat /proc/stat
+        for _ in $(seq "$(nproc)"); do timeout 5 sh -c 'while :; do :; done' & done
+        wait
+        cat /proc/stat
+    } | awk '
         $1 == "cpu" { sign = seen++ ? 1 : -1; for (i = 2; i <= 9; i++) all += sign * $i; taken += sign * $9 }
         END { print all ? int(100 * taken / all) : 0 }'
 }
