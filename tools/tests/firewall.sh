@@ -7,6 +7,9 @@ unset TSP_HOSTS TSP_SELF TSP_TURNS TSP_WAIT TSP_TRACE TSP_ASKERS
 tools/tsp-launch --firewall nft -f tools/tests/witness/loops.hosts -s b >"$out/rules" || fail "there are no rules of a gateway"
 grep -qx '        udp dport 525 jump datagrams' "$out/rules" || fail "a gateway has the rules $(cat "$out/rules")"
 grep -q 'ip saddr { 192.0.2.1, 192.0.2.3, 198.51.100.2/31 } limit' "$out/rules" || fail "a gateway has the rules $(cat "$out/rules")"
+# (a gateway is asked by its own machine at its addresses too)
+tools/tsp-launch --firewall systemd -f tools/tests/witness/loops.hosts -s b >"$out/rules" || fail "there is no drop-in of a gateway"
+grep -q '^IPAddressAllow=127.0.0.0/8 192.0.2.1 192.0.2.2/31 198.51.100.1 198.51.100.2/31' "$out/rules" || fail "the drop-in of a gateway is $(cat "$out/rules")"
 echo 'alone 192.0.2.1:1025 master' >"$out/hosts"
 tools/tsp-launch --firewall nft -f "$out/hosts" -s alone >"$out/rules" || fail 'there are no rules of a host alone'
 ! grep saddr "$out/rules" || fail 'a host alone lets something in'

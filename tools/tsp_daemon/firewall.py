@@ -1,7 +1,8 @@
-"""Prints rules that let in what a daemon needs, by its words: `firewall.py nft|systemd serve LOCAL NAME ..`. TSP_ASKERS names networks that may ask.
+"""Prints rules that let in what a daemon needs, by its own addresses and its words: `firewall.py nft|systemd OWN serve LOCAL NAME ..`.
 
-As an nftables table: its peers from their ports, questions from its peers' machines and from those networks, so many in a second, and nothing else; over
-the loopback it is asked by root and by users of services alone. As a drop-in of the unit: datagrams of these addresses, and of name servers.
+As an nftables table: its peers from their ports, questions from its peers' machines and from the networks of TSP_ASKERS, so many in a second, and nothing
+else; over the loopback it is asked by root and by users of services alone. As a drop-in of the unit: datagrams of these addresses, of its own, and of name
+servers.
 """
 import ipaddress
 import os
@@ -98,19 +99,19 @@ def is_free(port):
         return port >= 1024
 
 
-def systemd(words, askers):
-    """The drop-in."""
-    host, port = words[1].split(':')
-    hosts = [*([] if host == EVERYWHERE else [host]), *(peer.split(':')[0] for peer in words[5:] if peer != '+')]
+def systemd(own, words, askers):
+    """The drop-in. (what this machine asks its own daemon comes from the address that it asks)"""
+    hosts = [*own, *(peer.split(':')[0] for peer in words[5:] if peer != '+')]
     allowed = ' '.join([LOOPBACK, *together(hosts, askers), *name_servers()])
-    return SYSTEMD.format(name=words[2], local=words[1], allowed=allowed) + (NO_CAPABILITY if is_free(int(port)) else '')
+    return SYSTEMD.format(name=words[2], local=words[1], allowed=allowed) + (NO_CAPABILITY if is_free(int(words[1].split(':')[1])) else '')
 
 
 def main():
-    form, *words = sys.argv[1:]
+    form, own, *words = sys.argv[1:]
     # (what it says is said by the one that started it)
     sys.argv[0] = 'tsp-launch'
-    print({'nft': nft, 'systemd': systemd}[form](words, asking_networks(os.environ.get('TSP_ASKERS', ''))))
+    askers = asking_networks(os.environ.get('TSP_ASKERS', ''))
+    print(nft(words, askers) if form == 'nft' else systemd(own.split(), words, askers))
 
 
 usage.run(main)
