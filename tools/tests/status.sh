@@ -168,6 +168,28 @@ for self in alpha alpha.example.org beta; do
     PATH=$out/journal:$PATH TSP_SELF=$self tools/tsp-status --program "$out/fake" --file "$out/hosts" >"$out/said" 2>"$out/told" || status=$?
     [ "$(grep -c 'RATE' "$out/said")$status" -eq "$([ "$self" = beta ] && echo 00 || echo 11)" ] || fail "on $self it says $(cat "$out/said")"
 done
+# (the name of this machine may be in the unit's variables alone; those of the caller count first)
+cat >"$out/by_unit.py" <<'END'
+import runpy
+import sys
+sys.path.insert(0, 'tools')
+from tsp_daemon import traced
+traced.VARIABLES, sys.argv = sys.argv[1], ['tools/tsp-status', *sys.argv[2:]]
+runpy.run_path(sys.argv[0], run_name='__main__')
+END
+# Wants this of tsp-status if the unit's variables are these lines: whether rates are shown, and the status.
+by_unit() {
+    printf '%b\n' "$2" >"$out/variables"
+    status=0
+    PATH=$out/journal:$PATH python3 -B "$out/by_unit.py" "$out/variables" --program "$out/fake" --file "$out/hosts" >"$out/said" 2>"$out/told" || status=$?
+    [ "$(grep -c 'RATE' "$out/said")$status" = "$1" ] || fail "if the unit has '$2' it says $(cat "$out/said" "$out/told")"
+}
+by_unit 11 'TSP_SELF=alpha'
+by_unit 11 'TSP_SELF=beta\n # TSP_SELF=beta\n TSP_SELF = "alpha.example.org" '
+by_unit 00 'TSP_SELF=alpha\n#TSP_SELF=alpha\nTSP_SELF=beta'
+export TSP_SELF=beta
+by_unit 00 'TSP_SELF=alpha'
+unset TSP_SELF
 : >"$out/none"
 for file in none hosts; do
     ends 3 --trace "$out/$file"

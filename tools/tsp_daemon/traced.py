@@ -2,6 +2,7 @@
 from __future__ import annotations
 
 import os
+import re
 import subprocess
 from collections import namedtuple
 
@@ -13,6 +14,9 @@ from tsp_texts.tool import Fault
 
 # The journal's last lines: some hours of a master's.
 JOURNAL = ['journalctl', '-u', 'tsp', '-o', 'cat', '-n', '20000', '--no-pager', '-q']
+# The unit's variables, and the one of them that names this machine; the last line of it counts.
+VARIABLES = '/etc/default/tsp'
+SELF = re.compile(r'^[ \t]*TSP_SELF[ \t]*=[ \t]*(["\']?)([A-Za-z0-9._-]*)\1[ \t]*$', re.MULTILINE)
 # How many seconds the journal is waited for, and how many octets of a trace are read.
 PATIENCE, MOST = 5, 64 * 2**20
 
@@ -68,7 +72,17 @@ def told_by(daemon) -> dict[str, Traced]:
     return found
 
 
+def self_of_unit():
+    """This machine's name by the unit's variables, which aren't the caller's; None if they don't have it."""
+    try:
+        with open(VARIABLES, encoding='utf-8', errors='replace') as file:
+            found = SELF.findall(file.read())
+    except OSError:
+        return None
+    return found[-1][1] if found else None
+
+
 def own_of(names):
-    """Which of these names is this machine's, as tsp-launch finds it; None where none is."""
-    own = os.environ.get('TSP_SELF') or os.uname().nodename
+    """Which of these names is this machine's, as tsp-launch finds it under the unit; None where none is."""
+    own = os.environ.get('TSP_SELF') or self_of_unit() or os.uname().nodename
     return next((name for name in (own, own.partition('.')[0]) if name in names), None)
