@@ -181,7 +181,7 @@ END
 by_unit() {
     printf '%b\n' "$2" >"$out/variables"
     status=0
-    PATH=$out/journal:$PATH python3 -B "$out/by_unit.py" "$out/variables" --program "$out/fake" --file "$out/hosts" >"$out/said" 2>"$out/told" || status=$?
+    PATH=$out/journal:$PATH python3 -B "$out/by_unit.py" "$out/variables" --program "$out/fake" --file "$out/hosts" --timeout 40 >"$out/said" 2>"$out/told" || status=$?
     [ "$(grep -c 'RATE' "$out/said")$status" = "$1" ] || fail "if the unit has '$2' it says $(cat "$out/said" "$out/told")"
 }
 by_unit 11 'TSP_SELF=alpha'
@@ -190,6 +190,26 @@ by_unit 00 'TSP_SELF=alpha\n#TSP_SELF=alpha\nTSP_SELF=beta'
 export TSP_SELF=beta
 by_unit 00 'TSP_SELF=alpha'
 unset TSP_SELF
+# (a journal that the caller may not read is told of, but not beside the one line of a plugin)
+cat >"$out/journal/journalctl" <<'END'
+#!/bin/sh
+printf '%s\n' 'Hint: You are currently not seeing messages from other users.' '      Pass -q to turn off this notice.' >&2
+cat "$SEEN"
+END
+# Wants this status of tsp-status with these words on the machine that leads, whose journal has these lines.
+by_journal() {
+    wanted=$1 seen=$2
+    shift 2
+    status=0
+    PATH=$out/journal:$PATH SEEN=$seen TSP_SELF=alpha tools/tsp-status --program "$out/fake" --file "$out/hosts" --timeout 40 "$@" >"$out/said" 2>"$out/told" || status=$?
+    [ "$status" -eq "$wanted" ] || fail "with the journal $seen it ends with status $status: $(cat "$out/said" "$out/told")"
+}
+by_journal 0 /dev/null
+tells 'tsp-status: no rates are shown, since journalctl gives no trace: Hint: You are currently not seeing messages from other users.'
+by_journal 0 /dev/null --check
+tells ''
+by_journal 1 "$out/named"
+! grep 'Hint' "$out/told" || fail 'a journal that is read is told of'
 : >"$out/none"
 for file in none hosts; do
     ends 3 --trace "$out/$file"

@@ -12,8 +12,8 @@ from tsp_daemon.usage import NO_PROGRAM
 from tsp_texts import tool
 from tsp_texts.tool import Fault
 
-# The journal's last lines: some hours of a master's.
-JOURNAL = ['journalctl', '-u', 'tsp', '-o', 'cat', '-n', '20000', '--no-pager', '-q']
+# The journal's last lines: some hours of a master's. (without -q it says that it can't be read)
+JOURNAL = ['journalctl', '-u', 'tsp', '-o', 'cat', '-n', '20000', '--no-pager']
 # The unit's variables, and the one of them that names this machine; the last line of it counts.
 VARIABLES = '/etc/default/tsp'
 SELF = re.compile(r'^[ \t]*TSP_SELF[ \t]*=[ \t]*(["\']?)([A-Za-z0-9._-]*)\1[ \t]*$', re.MULTILINE)
@@ -37,13 +37,15 @@ def daemon_of_file(path) -> state.Daemon:
     return daemon
 
 
-def daemon_of_journal(own) -> state.Daemon | None:
-    """The daemon of this machine's unit by its journal, where it has this name; None where there is none to be read."""
+def daemon_of_journal(own, say=None) -> state.Daemon | None:
+    """The daemon of this machine's unit by its journal, if it has this name; None if there is none to be read, and `say` is told why if journalctl tells."""
     try:
-        ran = subprocess.run(JOURNAL, stdin=subprocess.DEVNULL, stdout=subprocess.PIPE, stderr=subprocess.DEVNULL, timeout=PATIENCE, check=False)
+        ran = subprocess.run(JOURNAL, stdin=subprocess.DEVNULL, stdout=subprocess.PIPE, stderr=subprocess.PIPE, timeout=PATIENCE, check=False)
     except (OSError, subprocess.TimeoutExpired):
         return None
-    daemon = daemon_of_octets(ran.stdout)
+    daemon, told = daemon_of_octets(ran.stdout), ran.stderr.decode('utf-8', 'replace').splitlines()
+    if say and told and daemon is None:
+        say(f'no rates are shown, since journalctl gives no trace: {told[0]}')
     return daemon if daemon and daemon.own_name == own else None
 
 
