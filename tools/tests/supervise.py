@@ -351,8 +351,8 @@ def variable(pid, name):
 
 
 def reloaded():
-    """SIGHUP: the daemon goes on where the hosts file has the same words for it or is faulty, and else is started again; its trace goes to a file
-    that is opened anew."""
+    """SIGHUP: the daemon goes on if the hosts file has the same words and names for it or is faulty, and else is started again; its trace goes to a
+    file that is opened anew."""
     trace = Supervised.path('trace')
     server = Supervised('--output', trace)
     first = server.ready()
@@ -368,6 +368,12 @@ def reloaded():
     with open(f'/proc/{server.daemon()}/cmdline', encoding='ascii') as file:
         wanted(file.read().split('\0')[-2] == '127.0.0.1:1', 'the daemon is started with other words than those of the file')
     until(lambda: ' trace on\n' in server.read(trace), 'the trace doesn\'t go to its file')
+    # (a peer's name is none of the daemon's words)
+    second = server.daemon()
+    server.write_hosts('c 127.0.0.1:1 slave')
+    server.process.send_signal(signal.SIGHUP)
+    until(lambda: 'in the trace peer 0 is a, 1 c\n' in server.read(), 'another name of a peer isn\'t told')
+    until(lambda: server.daemon() not in (None, second) and server.answers(), 'the daemon isn\'t started again with another name of a peer')
     wanted(server.read(server.out) == '', 'the trace goes to standard output too')
     server.end()
 

@@ -7,27 +7,32 @@ from tsp_daemon.hosts import LAUNCH
 
 
 class Reload:
-    """Has tsp-launch read the hosts file by the variables with which it began. `changed` is called where the words are other ones then."""
+    """Has tsp-launch read the hosts file by the variables with which it began. `changed` is called if the words or the peers' names are other ones then."""
 
-    def __init__(self, loop, words, say, changed):
-        self.loop, self.words, self.say, self.changed = loop, words, say, changed
-        self.process, self.octets, self.is_wanted = None, b'', False
+    def __init__(self, loop, words, names, say, changed):
+        self.loop, self.words, self.names, self.say, self.changed = loop, words, names, say, changed
+        self.process, self.octets, self.then, self.is_wanted = None, b'', None, False
 
     def begin(self):
         """Begins to read the file; where it is read already, it is read once more afterwards."""
         if self.process:
             self.is_wanted = True
             return
-        self.octets, self.is_wanted = b'', False
+        self.is_wanted = False
+        self.ask('--print', self.compare_words)
+
+    def ask(self, word, then):
+        """Has tsp-launch print something of the file, and calls with that then."""
+        self.octets, self.then = b'', then
         try:
-            self.process = child.begin([LAUNCH, '--print'], stdin=subprocess.DEVNULL, stdout=subprocess.PIPE)
+            self.process = child.begin([LAUNCH, word], stdin=subprocess.DEVNULL, stdout=subprocess.PIPE)
         except OSError as fault:
-            self.say(f'the hosts file isn\'t read again: {LAUNCH}: {fault.strerror}')
+            self.go_on(f'the hosts file isn\'t read again: {LAUNCH}: {fault.strerror}')
             return
         self.loop.watch(self.process.stdout.fileno(), self.read)
 
     def read(self):
-        """Reads the words, and compares them at their end."""
+        """Reads what is printed, and hands it on at its end."""
         octets = os.read(self.process.stdout.fileno(), 65536)
         self.octets += octets
         if octets:
@@ -36,12 +41,28 @@ class Reload:
         self.process.stdout.close()
         status, self.process = self.process.wait(), None
         if status:
-            self.say('the hosts file isn\'t read again, and the daemon goes on as it was')
-        elif self.octets.decode('ascii', 'replace').split() == self.words[1:]:
-            self.say('the hosts file was read again: the daemon goes on, since it is started with the same words')
+            self.go_on('the hosts file isn\'t read again, and the daemon goes on as it was')
+        else:
+            self.then(self.octets.decode('ascii', 'replace'))
+
+    def compare_words(self, text):
+        """Compares the words, which have the peers' addresses, and has the names read if they are the same."""
+        if text.split() == self.words[1:]:
+            self.ask('--list', self.compare_names)
         else:
             self.changed()
-            return
+
+    def compare_names(self, text):
+        """Compares the peers' names, in the order of the words."""
+        name_at = {address: name for _, name, address, _ in (line.split() for line in text.splitlines())}
+        if self.names and [name_at.get(word) for word in self.words[6:] if word != '+'] != self.names[1:]:
+            self.changed()
+        else:
+            self.go_on('the hosts file was read again: the daemon goes on, since it is started with the same words')
+
+    def go_on(self, text):
+        """Says what came of it, and reads the file once more if that is wanted."""
+        self.say(text)
         if self.is_wanted:
             self.begin()
 

@@ -44,7 +44,7 @@ class Supervisor:
         self.errors = Outlet(2, MOST_SAID)
         self.lines = Output(os.environ.get('TSP_OUTPUT', ''), self.loop, self.say, self.give_up)
         self.systemd = Systemd(self.loop, self.say)
-        self.reload = Reload(self.loop, words, self.say, self.begin_anew)
+        self.reload = Reload(self.loop, words, self.names, self.say, self.begin_anew)
         self.serving = self.sleep = self.final = None
         self.alarm = machine.Alarm()
         if self.alarm.file is not None:
