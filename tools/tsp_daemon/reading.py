@@ -9,7 +9,7 @@ from tsp_texts.tool import Fault
 
 
 class Told(namedtuple('Told', 'shown earliest latest')):
-    """A time, and between which the master's clock lies then; None where nobody leads whom it belongs to. All are microseconds since 1970."""
+    """A time, and between which the master's clock lies then; None if nothing is known of that. All are microseconds since 1970."""
     __slots__ = ()
 
     @property

@@ -17,7 +17,7 @@ def installed():
 
 
 def find(named=None, build=True):
-    """The program to run: the one that is named, that of TSP_PROGRAM, the repository's own, or `tsp` of PATH; or None.
+    """The program to run: the one that is named, that of TSP_PROGRAM, the repository's or the package's own, or `tsp` of PATH; or None.
 
     The repository's own is built where it must be, unless `build` is false: then it is none where it was never built.
     """
