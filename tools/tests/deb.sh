@@ -154,9 +154,13 @@ if in_system --install "$package"; then
     install -d "$out/system/usr/share/tsp/__pycache__" "$out/system/usr/share/tsp/tsp_daemon/__pycache__" "$out/system/usr/share/tsp/tsp_texts/__pycache__" \
         "$out/system/usr/share/tsp/tsp_witness/__pycache__" "$out/system/etc/systemd/system/tsp.service.d"
     echo '[Service]' >"$out/system/etc/systemd/system/tsp.service.d/mine.conf"
+    # (where systemd keeps the state of a unit with a user of its own)
+    install -d "$out/system/var/lib/private/tsp"
+    echo '0 0' >"$out/system/var/lib/private/tsp/rate"
+    ln -s private/tsp "$out/system/var/lib/tsp"
     in_system --purge tsp || fail "$(tail -n 1 "$out/told")"
     left >"$out/rest"
-    grep -v -x -e "$out/system" -e "$out/system/etc\(/systemd.*\)*" -e "$out/system/var\(/lib\)*" "$out/rest" >"$out/beyond" || :
+    grep -v -x -e "$out/system" -e "$out/system/etc\(/systemd.*\)*" -e "$out/system/var\(/lib\(/private\)*\)*" "$out/rest" >"$out/beyond" || :
     [ ! -s "$out/beyond" ] && ! grep -q 'wants/tsp.service' "$out/rest" || fail "a purge leaves $(cat "$out/beyond")"
     [ -s "$out/system/etc/systemd/system/tsp.service.d/mine.conf" ] || fail "a purge takes along the administrator's own changes of the unit"
 else
