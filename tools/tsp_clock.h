@@ -92,6 +92,7 @@ typedef struct {
 #define TSP_MAGIC UINT64_C(0x6b636f6c63707374) /* "tspclock" */
 #define TSP_LASTS INT64_C(64000000000)
 #define TSP_RECKONED INT64_C(100000000) /* the microseconds for which the own ticks tell the drift by the law */
+#define TSP_LONGEST (INT64_MAX / 2000) /* the longest wait in microseconds: 146 years, as good as without an end */
 #define TSP_AT_ONCE 64
 #define TSP_TRIES 512
 
@@ -308,11 +309,12 @@ static inline int tsp_clock_now(tsp_clock *clock, tsp_time *time)
     return TSP_STALE;
 }
 
-/* Waits until each later time of the network is after this one: 1 when it is, and 0 where it isn't within so many microseconds. */
+/* Waits until each later time of the network is after this one: 1 when it is, and 0 if it isn't within so many microseconds. More than TSP_LONGEST
+ * is taken as that, so INT64_MAX is as good as without an end; what is below 0 is taken as 0. */
 static inline int tsp_clock_wait_after(tsp_clock *clock, int64_t stamp, int64_t longest)
 {
     const struct timespec pause = {0, 100000};
-    const int64_t until = tsp_nanoseconds() + longest * 1000;
+    const int64_t until = tsp_nanoseconds() + (longest < 0 ? 0 : longest > TSP_LONGEST ? TSP_LONGEST : longest) * 1000;
     tsp_time time;
     while (tsp_clock_now(clock, &time) < TSP_SYNCHRONISED || time.earliest <= stamp) {
         if (tsp_nanoseconds() >= until)

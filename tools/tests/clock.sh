@@ -38,6 +38,16 @@ Writer('$out/led').write(tsp_clock.Page(1, 0, $leads, 2, target=10 ** 15))"
         [ "$(grep -cE '^1[0-9]{15} to 1[0-9]{15}( us)?$' "$out/said")" -eq "$((leads - 1))" ] || fail "'$command' says $(cat "$out/said")"
     done
 done
+# A wait is as long as it is said: the longest ones overflow nothing, and the shortest ones don't wait. (the page's interval is 300 ms wide)
+python3 -B -c "
+import sys
+sys.path.insert(0, 'tools')
+import tsp_clock
+from tsp_daemon.page import Writer
+Writer('$out/led').write(tsp_clock.Page(1, 0, 2, 2, target=10 ** 15, high=300000))"
+for longest in 9223372036854775807:1 9223372036854775:1 9223372036854776:1 4611686018427387:1 10000000:1 0:0 -1:0 -9223372036854775808:0; do
+    "$out/reader" after "$out/led" "${longest%:*}" >"$out/said" && [ "$(cat "$out/said")" = "${longest#*:}" ] || fail "a wait for ${longest%:*} us says $(cat "$out/said")"
+done
 mkdir "$out/pages"
 python3 tools/tests/clock.py "$program" "$out/reader" "$out/pages" "${TSP_MOMENTS:-30000}" "${TSP_SEED:-1}" >"$out/told" || fail 'the page is another one'
 # A short form of dev/read-cost; how much a read may cost is looked at on a machine that has nothing else to do.

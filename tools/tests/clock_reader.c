@@ -4,6 +4,7 @@
  *   torn   reads so often a page that is written without pause, all of whose fields come from one number, and counts those that don't; also
  *          of as many reads that don't look at the lock
  *   now    reads the page once, and writes its status and the microseconds that this took
+ *   after  waits for so many microseconds until each later time is after the latest that it is now, and writes whether it is
  *   cost   writes the nanoseconds that a read takes, those of clock_gettime right after it, and how many times as long the read takes: each at
  *          the median of many rounds of COUNT
  */
@@ -70,6 +71,14 @@ static int now(tsp_clock *clock)
     return 0;
 }
 
+static int after(tsp_clock *clock, int64_t longest)
+{
+    tsp_time time;
+    tsp_clock_now(clock, &time);
+    printf("%d\n", tsp_clock_wait_after(clock, time.latest, longest));
+    return 0;
+}
+
 static int by_size(const void *a, const void *b)
 {
     double first = *(const double *)a, second = *(const double *)b;
@@ -112,7 +121,7 @@ static int cost(tsp_clock *clock, long count)
 int main(int count, char **words)
 {
     tsp_clock clock;
-    long number = count > 3 ? atol(words[3]) : 1;
+    long long number = count > 3 ? atoll(words[3]) : 1;
     if (count < 3)
         return 2;
     if (strcmp(words[1], "times") == 0)
@@ -120,6 +129,8 @@ int main(int count, char **words)
     if (tsp_clock_open(&clock, words[2]) != 0)
         return 3;
     if (strcmp(words[1], "torn") == 0)
-        return torn(&clock, number);
-    return strcmp(words[1], "cost") == 0 ? cost(&clock, number) : now(&clock);
+        return torn(&clock, (long)number);
+    if (strcmp(words[1], "after") == 0)
+        return after(&clock, number);
+    return strcmp(words[1], "cost") == 0 ? cost(&clock, (long)number) : now(&clock);
 }
