@@ -1,10 +1,14 @@
 """The page of dev/accuracy: a table of what was measured, and a picture."""
 import math
 import os
+import textwrap
 
 WIDTH, LEFT, TOP, STEP, FOOT = 760, 230, 60, 22, 40
 INTERVALS = '## The interval that programs read\n'
 MARKS, LOWEST, HIGHEST = (0.01, 0.1, 1, 10, 100), 0.01, 200
+# How wide a line of the page is, and how small numbers are written.
+COLUMNS = 160
+NUMBERS = 'no one two three four five six seven eight nine ten eleven twelve'.split()
 TEXT = '''# How well it keeps time
 
 How far apart corrected clocks were when measured, beside what is promised of them; and, further down, how narrow the interval is that programs read.
@@ -20,7 +24,7 @@ late by up to the jitter. On top come the time through the kernel and the bridge
 of a measurement shows both.
 
 All daemons' clocks are made from one clock of the machine, by rates and wall clocks that are known here. Each run was also replayed and audited by
-`tsp-witness`, which knows neither: {judged}.
+{judged}
 
 - **error**: the least error of a measurement, which is half of the shortest round trip.
 - **apart**: the greatest distance of two clocks that one round of their master corrected, the master's among them, while nothing else moved them. A
@@ -91,7 +95,10 @@ def judged(cases):
     alike = sum(case['alike'] for case in cases)
     faulty = [name_of(case) for case in cases if case['faults']]
     told = f'{alike} acts are those of the rules'
-    return f'{told}, and each history passes the audit' if not faulty else f'{told}, but not all of {"; ".join(faulty)}'
+    if not faulty:
+        return f'{told}, and each history passes the audit'
+    count = NUMBERS[len(faulty)] if len(faulty) < len(NUMBERS) else len(faulty)
+    return f'{told}; not all acts are in {"this case" if len(faulty) == 1 else f"these {count} cases"}: {"; ".join(faulty)}'
 
 
 def place(millis):
@@ -140,7 +147,8 @@ def write(folder, cases, given):
     """Writes the page and its picture. What stands below the heading of the intervals stays."""
     path = os.path.join(folder, 'ACCURACY.md')
     rest = below(path)
-    told = {'rows': '\n'.join(map(row, cases)), 'sums': sums(cases), 'judged': judged(cases), 'time': time_of(given)}
+    known = textwrap.fill(f'`tsp-witness`, which knows neither: {judged(cases)}.', COLUMNS)
+    told = {'rows': '\n'.join(map(row, cases)), 'sums': sums(cases), 'judged': known, 'time': time_of(given)}
     with open(path, 'w', encoding='utf-8') as file:
         file.write(TEXT.format(minutes=given.minutes, rate=given.rate, seed=given.seed, jobs=given.jobs, **told) + rest)
     with open(os.path.join(folder, 'accuracy.svg'), 'w', encoding='utf-8') as file:

@@ -36,6 +36,21 @@ for document in docs/FORMATS.md docs/DECISIONS.md docs/PROOFS.md docs/PROMISES.m
     awk 'length > 160 && !/^\|/ { exit 1 }' "$document" || fail "a line of $document has more than 160 columns"
 done
 
+# dev/accuracy writes docs/ACCURACY.md in the words that it has.
+python3 -B - <<'END' || fail 'dev/accuracy writes other words than docs/ACCURACY.md has'
+import re
+import sys
+sys.path.insert(0, 'dev')
+from lab import page
+with open('docs/ACCURACY.md', encoding='utf-8') as file:
+    text = file.read()
+case = {'hosts': 3, 'drift': 20, 'jitter': 100, 'faults': [], 'alike': 7}
+faulty = {**case, 'faults': ['x']}
+judged = re.compile(r'[0-9]+ acts are those of the rules(, and each history passes the audit|; not all acts are in (this case|these [a-z]+ cases): [0-9]+ hosts, )')
+sys.exit(not (judged.search(text) and all(judged.match(page.judged(cases)) for cases in ([case], [case, faulty], [faulty] * 3))
+              and all(part in text for part in page.TEXT.split('\n\n') if '{' not in part)))
+END
+
 # The kit is named by its logic alone, in the same words, and is the one that is here.
 logic=$(grep -o 'logic [0-9a-f]*' README.md | sort -u)
 [ "$(grep -o 'logic [0-9a-f]*' docs/PROOFS.md | sort -u)" = "$logic" ] || fail 'README.md and docs/PROOFS.md name two kits'
