@@ -3,6 +3,7 @@
 
 Each case is a function below. One that fails says why, with status 1.
 """
+import fcntl
 import os
 import re
 import select
@@ -10,6 +11,8 @@ import signal
 import socket
 import subprocess
 import sys
+import termios
+import threading
 import time
 
 HERE = os.path.dirname(os.path.realpath(__file__))
@@ -18,6 +21,7 @@ DEV = os.path.join(os.path.dirname(TOOLS), 'dev')
 sys.dont_write_bytecode = True
 sys.path[:0] = TOOLS, DEV
 from lab import preload  # noqa: E402
+from tsp_daemon import machine, outlet, output, systemd  # noqa: E402
 from tsp_daemon.loop import Loop  # noqa: E402
 from tsp_daemon.systemd import Systemd  # noqa: E402
 import tsp_clock  # noqa: E402
@@ -197,6 +201,110 @@ def blocked():
     os.close(into)
 
 
+def full():
+    """The trace's file takes nothing for long: it is opened again and again, no more files are open than before, and each line that is lost is counted
+    once."""
+    loop, said, lines, again, output.AGAIN = Loop(), [], 0, output.AGAIN, 0.01
+    trace = output.Output('/dev/full', loop, said.append, None)
+    files = len(os.listdir('/proc/self/fd'))
+    while len(said) < 20:
+        step(loop, trace)
+        lines += 1
+    until(lambda: trace.outlet.fault, 'a full disk takes lines')
+    wanted(trace.outlet.backlog.lost == lines, f'{lines} lines are lost, and {trace.outlet.backlog.lost} are counted')
+    output.AGAIN = again
+    signal.set_wakeup_fd(-1)
+    until(lambda: len(os.listdir('/proc/self/fd')) <= files + 1, f'{len(os.listdir("/proc/self/fd"))} files are open, and {files} were')
+
+
+def renewed():
+    """The trace's file takes nothing, and is opened anew before that is heard of: nothing is made of the old one, and the new one gets lines."""
+    loop, said, path = Loop(), [], Supervised.path('renewed')
+    os.symlink('/dev/full', path)
+    trace = output.Output(path, loop, said.append, None)
+    trace.put(b'1 0 0 1 trace on\n')
+    until(lambda: trace.outlet.fault, 'the stream doesn\'t fail')
+    os.unlink(path)
+    trace.reopen()
+    steps(loop, 0.1)
+    trace.put(b'2 0 0 2 trace on\n')
+    trace.flush(5)
+    signal.set_wakeup_fd(-1)
+    with open(path, encoding='ascii') as file:
+        found = file.read()
+    wanted(not said and found == '... 1 lines dropped\n2 0 0 2 trace on\n', f'it says {said}, and the new file has {found!r}')
+
+
+def piped():
+    """The trace goes to a named pipe that nobody reads at first, and whose reader goes away: nobody is waited for, and each reader gets lines."""
+    loop, said, path = Loop(), [], Supervised.path('pipe')
+    os.mkfifo(path)
+    signal.alarm(10)
+    trace = output.Output(path, loop, said.append, None)
+    for _ in range(2):
+        for _ in range(20):
+            step(loop, trace)
+        with open(path, 'rb', buffering=0) as reader:
+            wanted(b' trace on\n' in reader.read(4096), 'the pipe has no lines')
+        trace.reopen()
+    before = threading.active_count()
+    for _ in range(3):
+        trace.put(b'1 0 0 1 trace on\n' * 20_000)
+        trace.reopen()
+    signal.alarm(0)
+    signal.set_wakeup_fd(-1)
+    wanted(not said, f'it says {said}')
+    wanted(threading.active_count() == before, f'{threading.active_count()} threads wait for one pipe, and {before} did')
+
+
+def lost():
+    """A reader that takes nothing goes away: each line that it didn't get is counted."""
+    end, into = os.pipe()
+    stream, count, line = outlet.Outlet(into, output.MOST), 20_000, b'1 0 0 1 trace on\n'
+    for _ in range(count):
+        stream.put(line)
+    until(lambda: not select.select([], [into], [], 0)[1], 'the pipe isn\'t full')
+    time.sleep(0.1)
+    taken = int.from_bytes(fcntl.ioctl(end, termios.FIONREAD, bytes(4)), sys.byteorder)
+    os.close(end)
+    until(lambda: stream.fault, 'the stream doesn\'t fail')
+    stream.close()
+    wanted(stream.backlog.lost == count - taken // len(line), f'{taken // len(line)} of {count} lines were taken, and {stream.backlog.lost} are lost')
+
+
+def threads():
+    """Other threads ask for calls all the time, while many times are looked through: all of them come."""
+    loop, ended, asked, came = Loop(), [], [], []
+    for number in range(200):
+        loop.after(number, 100, lambda: None)
+
+    def ask():
+        while not ended:
+            asked.append(len(asked))
+            loop.soon(('asked', asked[-1]), lambda: came.append(1))
+            time.sleep(0)
+    interval = sys.getswitchinterval()
+    sys.setswitchinterval(1e-6)
+    thread, until_then = threading.Thread(target=ask, daemon=True), time.monotonic() + 0.5
+    thread.start()
+    while time.monotonic() < until_then:
+        loop.step()
+    ended.append(True)
+    thread.join()
+    sys.setswitchinterval(interval)
+    loop.soon('last', lambda: None)
+    loop.step()
+    signal.set_wakeup_fd(-1)
+    wanted(len(came) == len(asked) > 10, f'{len(came)} of {len(asked)} calls came')
+
+
+def step(loop, trace):
+    """A line comes, and is written if it can be."""
+    trace.put(b'1 0 0 1 trace on\n')
+    loop.after('look', 0.01, lambda: None)
+    loop.step()
+
+
 def switched():
     """A stranger switches the trace off again and again: it is switched on once a second, and that is noted."""
     server = Supervised()
@@ -246,6 +354,40 @@ def states(heard):
     wanted(messages[0][1].endswith(' 1') and messages[-1][1].endswith(f' {number}') and number > 50, f'of {number} states systemd is told {messages}')
 
 
+def busy():
+    """systemd takes nothing for a while: that is said once, and it is told then."""
+    path, loop, said = os.path.join(FOLDER, 'busy'), Loop(), []
+    again, systemd.AGAIN = systemd.AGAIN, 0.05
+    with socket.socket(socket.AF_UNIX, socket.SOCK_DGRAM) as heard, socket.socket(socket.AF_UNIX, socket.SOCK_DGRAM) as other:
+        heard.bind(path)
+        heard.settimeout(0.01)
+        other.setblocking(False)
+        try:
+            while True:
+                other.sendto(b'x', path)
+        except BlockingIOError:
+            pass
+        os.environ['NOTIFY_SOCKET'] = path
+        told, messages = Systemd(loop, said.append), []
+        told.tell('READY=1')
+        steps(loop, 0.3)
+        wanted(said == ['systemd isn\'t told: Resource temporarily unavailable; it is tried again'], f'it says {said}')
+        received(heard)
+        steps(loop, 0.3)
+        messages = [text for _, text in received(heard)]
+        wanted(messages == ['READY=1'], f'systemd is told {messages}')
+    systemd.AGAIN = again
+    signal.set_wakeup_fd(-1)
+
+
+def steps(loop, seconds):
+    """Lets a loop go on for so long."""
+    end = time.monotonic() + seconds
+    while time.monotonic() < end:
+        loop.after('look', 0.01, lambda: None)
+        loop.step()
+
+
 def apart(messages, least, most):
     """Wants so many messages, of which no two came within a second, but for what the machine is late."""
     times = [at for at, _ in messages]
@@ -279,6 +421,21 @@ def slept():
     server.ready()
     wanted('the machine slept for 600 s, in which the daemon didn\'t count; the daemon is started again' in server.read(), f'it says {server.read()}')
     server.end()
+
+
+def stood():
+    """All stands still between two readings of clocks: that is no sleep."""
+    real, pauses = time.clock_gettime, [1.5, 0, 0, 0, 0, 0, 0, 1.5]
+
+    def read(clock):
+        moment = real(clock)
+        time.sleep(pauses.pop(0) if pauses else 0)
+        return moment
+    time.clock_gettime = read
+    sleep = machine.Sleep()
+    found = [sleep.seconds() for _ in range(3)]
+    time.clock_gettime = real
+    wanted(found == [0, 0, 0], f'the machine slept for {found} s while it stood still')
 
 
 def killed():
@@ -318,6 +475,20 @@ def ended():
     wanted('the daemon ended with status 137; the daemon is started again in 2 s' in server.read(), f'it says {server.read()}')
     server.ready()
     server.end()
+
+
+def replaced():
+    """The daemon's program isn't there for a while, and can't be run then, when the daemon has to be started again: it is started once that can be."""
+    program, aside = stubborn()[0], Supervised.path('aside')
+    server = Supervised('-p', program)
+    until(lambda: 'trace on' in server.read(server.out), 'the daemon doesn\'t trace', 10)
+    first = server.daemon()
+    os.rename(program, aside)
+    os.kill(first, signal.SIGKILL)
+    until(lambda: 'No such file or directory; the daemon is started again in ' in server.read(), 'it isn\'t told that the program isn\'t there', 10)
+    os.rename(aside, program)
+    until(lambda: server.daemon() not in (None, first), 'the daemon isn\'t started again when its program is back', 15)
+    server.end(within=5)
 
 
 def learned():
@@ -376,6 +547,60 @@ def reloaded():
     until(lambda: server.daemon() not in (None, second) and server.answers(), 'the daemon isn\'t started again with another name of a peer')
     wanted(server.read(server.out) == '', 'the trace goes to standard output too')
     server.end()
+
+
+def stubborn():
+    """A daemon that traces, notes that it is told to end, and doesn't; and where it notes that."""
+    daemon, told = Supervised.path('daemon'), Supervised.path('told')
+    with open(daemon, 'w', encoding='ascii') as file:
+        file.write(f'#!/bin/sh\ntrap "echo >{told}" TERM\necho 1 0 0 1 trace on\nwhile :; do sleep 0.05; done\n')
+    os.chmod(daemon, 0o755)
+    return daemon, told
+
+
+def retold():
+    """The hosts file changes what the daemon is started with: systemd is told of the daemon that is started anew, and of the end."""
+    with socket.socket(socket.AF_UNIX, socket.SOCK_DGRAM) as heard:
+        heard.bind(os.path.join(FOLDER, 'notify'))
+        heard.settimeout(10)
+        server = Supervised('-p', stubborn()[0], NOTIFY_SOCKET=heard.getsockname())
+        messages = [heard.recv(4096)]
+        server.write_hosts('b 127.0.0.1:1 slave')
+        server.process.send_signal(signal.SIGHUP)
+        messages.append(heard.recv(4096))
+        server.end(within=5)
+        messages.append(heard.recv(4096))
+        wanted(messages[0] == messages[1] and messages[2] == b'STOPPING=1', f'systemd is told {messages}')
+
+
+def hung_up():
+    """SIGHUP while the start waits for its moment: the hosts file is read again, and the daemon is started by it."""
+    server = Supervised('--spread', '3', '-p', stubborn()[0])
+    until(lambda: 'the daemon starts in' in server.read(), 'it doesn\'t wait for its moment')
+    server.write_hosts('b 127.0.0.1:1 slave')
+    server.process.send_signal(signal.SIGHUP)
+    until(lambda: server.read(server.out) and last_word(server.daemon()) == '127.0.0.1:1', 'the daemon isn\'t started with the words of the new file', 15)
+    server.end(within=5)
+
+
+def last_word(pid):
+    """The last word that a process was started with; the empty one if there is no process."""
+    try:
+        with open(f'/proc/{pid}/cmdline', encoding='ascii') as file:
+            return file.read().split('\0')[-2]
+    except (OSError, IndexError):
+        return ''
+
+
+def told_twice():
+    """The hosts file changes, and SIGTERM comes while the old daemon is ended for that: the end comes."""
+    daemon, told = stubborn()
+    server = Supervised('-p', daemon)
+    until(lambda: 'trace on' in server.read(server.out), 'the daemon doesn\'t trace', 10)
+    server.write_hosts('b 127.0.0.1:1 slave')
+    server.process.send_signal(signal.SIGHUP)
+    until(lambda: os.path.exists(told), 'the daemon isn\'t told to end', 10)
+    server.end(within=5)
 
 
 def rotated():

@@ -7,6 +7,8 @@ OF_STRANGERS = re.compile(rb'^[0-9]+ 0 [0-3] [0-9]+ (?:took|post [0-9]+) - .*\n'
 # And these whoever may send with a peer's address. All others are the daemon's own.
 OF_ANYBODY = re.compile(rb'^[0-9]+ 0 [0-3] [0-9]+ (?:took|post) .*\n', re.MULTILINE)
 SIFTS = (OF_STRANGERS, OF_ANYBODY)
+# The line that stands for lines that were dropped.
+TOLD = re.compile(rb'\.\.\. ([0-9]+) lines dropped\n')
 # Pieces are put together up to this size.
 PIECE = 65536
 
@@ -66,6 +68,17 @@ class Backlog:
         kept, dropped = sift.subn(b'', piece.octets)
         self.octets -= len(piece.octets) - len(kept)
         put_behind(self.sifted[times + 1], kept, piece.dropped + dropped)
+
+    def lose(self, taken, left):
+        """Drops all, and of the lines that were taken last those that are left: if these tell how many were dropped before, that many."""
+        told = TOLD.match(taken)
+        self.lost += left.count(b'\n')
+        if told and len(left) > len(taken) - told.end():
+            self.lost += int(told[1]) - 1
+        for pieces in self.sifted:
+            self.lost += sum(piece.dropped + piece.octets.count(b'\n') for piece in pieces)
+            pieces.clear()
+        self.octets = 0
 
     def holds(self):
         """Whether there is anything to take."""

@@ -13,6 +13,8 @@ class Loop:
 
     def __init__(self):
         self.poll, self.readers, self.times, self.signals, self.handlers = select.poll(), {}, {}, [], {}
+        # (what other threads ask for, which may touch nothing else)
+        self.wanted = []
         self.woken, self.waker = os.pipe()
         for end in (self.woken, self.waker):
             os.set_blocking(end, False)
@@ -64,15 +66,18 @@ class Loop:
 
     def soon(self, name, call):
         """Ends the wait, and calls. (any thread may ask for it)"""
-        self.at(name, self.now(), call)
+        self.wanted.append((name, call))
         try:
             os.write(self.waker, b'\0')
         except BlockingIOError:
             pass
 
     def awake(self):
-        """Forgets what woke it."""
+        """Forgets what woke it, and takes over what other threads ask for."""
         os.read(self.woken, 65536)
+        while self.wanted:
+            name, call = self.wanted.pop(0)
+            self.at(name, self.now(), call)
 
     def step(self):
         """Waits for the next thing, and calls whoever waits for it."""

@@ -5,13 +5,17 @@ import os
 import socket
 import time
 
-# A clock that counts on in a sleep is ahead by that many seconds only after one.
-SLEPT = 1
+# A clock that counts on in a sleep is ahead by that many seconds only after one. Two readings that are compared are no farther apart than that.
+SLEPT, APART = 1, 0.1
 
 
 def slept_so_far():
-    """The seconds that the machine slept since its boot, and a part that doesn't change."""
-    return time.clock_gettime(time.CLOCK_BOOTTIME) - time.clock_gettime(time.CLOCK_MONOTONIC)
+    """The seconds that the machine slept since its boot, and a part that doesn't change. If all stood still between two readings, they are taken
+    again, since one clock would be ahead by that."""
+    while True:
+        before, ran, after = map(time.clock_gettime, (time.CLOCK_MONOTONIC, time.CLOCK_BOOTTIME, time.CLOCK_MONOTONIC))
+        if after - before < APART:
+            return ran - before
 
 
 class Sleep:

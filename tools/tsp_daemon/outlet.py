@@ -24,7 +24,7 @@ class Outlet:
                 self.backlog.lost += octets.count(b'\n')
 
     def write_on(self):
-        """Writes what comes, until the stream fails, or nothing is left and it is closed."""
+        """Writes what comes, until the stream fails, or nothing is left and it is closed. A stream that failed is closed too, when that is asked for."""
         while self.fault is None:
             with self.changed:
                 self.changed.wait_for(lambda: self.is_closing or self.backlog.holds())
@@ -35,8 +35,9 @@ class Outlet:
             with self.changed:
                 self.is_writing = False
                 self.changed.notify_all()
-        if self.is_closing:
-            os.close(self.number)
+        with self.changed:
+            self.changed.wait_for(lambda: self.is_closing)
+        os.close(self.number)
 
     def write(self, octets):
         """Writes octets, however long that takes."""
@@ -47,7 +48,7 @@ class Outlet:
         except OSError as fault:
             with self.changed:
                 self.fault = fault
-                self.backlog.lost += bytes(left).count(b'\n')
+                self.backlog.lose(octets, bytes(left))
             self.failed()
 
     def flush(self, seconds):

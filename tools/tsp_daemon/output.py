@@ -1,5 +1,6 @@
 """Where a trace goes: standard output, or a file that is opened anew where that is asked for, or where it took nothing."""
 import os
+import stat
 
 from tsp_daemon.outlet import Outlet
 from tsp_daemon.usage import NOT_WRITTEN
@@ -7,7 +8,15 @@ from tsp_texts.tool import Fault
 
 # How many octets wait for a slow reader, and after how many seconds a file that took nothing is tried again.
 MOST, AGAIN = 4 << 20, 10
-FLAGS = os.O_WRONLY | os.O_APPEND | os.O_CREAT | os.O_CLOEXEC
+FLAGS = os.O_APPEND | os.O_CREAT | os.O_CLOEXEC
+
+
+def way_of(path):
+    """Whether a file is opened for writing alone. A named pipe isn't, so that nobody waits for its reader, and it stays open without one."""
+    try:
+        return os.O_RDWR if stat.S_ISFIFO(os.stat(path).st_mode) else os.O_WRONLY
+    except OSError:
+        return os.O_WRONLY
 
 
 class Output:
@@ -22,8 +31,9 @@ class Output:
 
     def opened(self, lost):
         """The stream, behind so many lines that were lost."""
-        number = os.open(self.path, FLAGS, 0o640) if self.path else 1
-        return Outlet(number, MOST, lambda: self.loop.soon('output', self.failed), lost)
+        number = os.open(self.path, FLAGS | way_of(self.path), 0o640) if self.path else 1
+        outlet = Outlet(number, MOST, lambda: self.loop.soon(('failed', number), lambda: self.failed(outlet)), lost)
+        return outlet
 
     def put(self, lines):
         """Takes lines, and doesn't wait."""
@@ -33,17 +43,27 @@ class Output:
         """Waits until all is written, but so many seconds at most."""
         self.outlet.flush(seconds)
 
-    def failed(self):
-        """The stream takes nothing."""
-        if not self.path:
-            self.give_up(f'standard output takes nothing: {self.outlet.fault.strerror}', NOT_WRITTEN)
+    def failed(self, outlet):
+        """A stream takes nothing: the one that is written, and not one before it."""
+        if outlet is not self.outlet:
             return
-        self.say(f'{self.path}: {self.outlet.fault.strerror}; lines are dropped until it can be written')
+        if not self.path:
+            self.give_up(f'standard output takes nothing: {outlet.fault.strerror}', NOT_WRITTEN)
+            return
+        self.say(f'{self.path}: {outlet.fault.strerror}; lines are dropped until it can be written')
         self.loop.after('output', AGAIN, self.reopen)
+
+    def is_same_pipe(self):
+        """Whether a named pipe is open and at its path, so that it needn't be opened anew, since what waits for its reader would wait on beside that."""
+        had = os.fstat(self.outlet.number)
+        try:
+            return self.outlet.fault is None and stat.S_ISFIFO(had.st_mode) and os.path.samestat(had, os.stat(self.path))
+        except OSError:
+            return False
 
     def reopen(self):
         """Opens the file at this path anew. What waits for the old one still goes there."""
-        if not self.path:
+        if not self.path or self.is_same_pipe():
             return
         old = self.outlet
         try:

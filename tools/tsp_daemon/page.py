@@ -16,6 +16,8 @@ class Writer:
         try:
             fcntl.flock(self.file, fcntl.LOCK_EX | fcntl.LOCK_NB)
             os.fchmod(self.file, 0o644)
+            # (if there is no room for it, whoever touched the page would be ended by the system)
+            os.posix_fallocate(self.file, 0, SIZE)
             os.ftruncate(self.file, SIZE)
             self.map = mmap.mmap(self.file, SIZE)
         except OSError:

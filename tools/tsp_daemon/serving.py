@@ -43,6 +43,9 @@ class Serving:
             pass
         try:
             self.process = child.begin(words, stdin=subprocess.DEVNULL, stdout=into)
+        except OSError:
+            os.close(self.output)
+            raise
         finally:
             os.close(into)
         os.set_blocking(self.output, False)

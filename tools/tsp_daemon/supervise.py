@@ -82,7 +82,7 @@ class Supervisor:
         """Runs the daemon, and gives the status to end with."""
         for number, call in ((signal.SIGTERM, self.stop), (signal.SIGINT, self.stop), (signal.SIGHUP, self.hang_up), (signal.SIGCHLD, self.look)):
             self.loop.on(number, call)
-        signal.pthread_sigmask(signal.SIG_UNBLOCK, (signal.SIGINT,))
+        signal.pthread_sigmask(signal.SIG_UNBLOCK, (signal.SIGINT, signal.SIGHUP))
         self.start()
         while self.final is None:
             self.loop.step()
@@ -113,9 +113,16 @@ class Supervisor:
         try:
             self.serving = Serving(self.loop, self.words, self.names, self)
         except OSError as fault:
-            self.give_up(f'{self.words[0]}: {fault.strerror}', usage.BAD_FILE)
+            self.not_begun(f'{self.words[0]}: {fault.strerror}')
             return
         self.look()
+
+    def not_begun(self, why):
+        """The program can't be run: it is tried again if a daemon answered before, as while the file of the program is replaced."""
+        if self.has_answered:
+            self.try_later(why)
+        else:
+            self.give_up(why, usage.BAD_FILE)
 
     def apply_rate(self):
         """The rate with which the daemon that starts is to count. It reads that from the environment."""
@@ -202,7 +209,10 @@ class Supervisor:
             outlet.flush(LAST_LINES)
         if self.learned:
             os.environ['TSP_RATE'] = learn.WORD
-        self.reload.begin_anew()
+        # (whoever told it to end meanwhile isn't forgotten)
+        if not {signal.SIGTERM, signal.SIGINT} & set(self.loop.signals):
+            self.systemd.hand_on()
+            self.reload.begin_anew()
 
     def wait_for_address(self):
         """Starts the daemon when its address is there."""
