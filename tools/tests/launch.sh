@@ -68,6 +68,18 @@ ends 0 --list -f "$hosts"
 printf '%s\n' '1 alpha 192.0.2.11:525 master' '1 beta 192.0.2.12:526 slave' '1 gate 192.0.2.1:525 master' '2 gamma 198.51.100.7:525 slave' '2 gate 192.0.2.1:525 master' |
     cmp -s - "$out/said" || fail "the hosts are listed as '$(cat "$out/said")'"
 
+# What can't be said stops nothing, and changes no status.
+printf '%s\n' 'a 192.0.2.1 master' 'b 192.0.2.2 strict' >"$out/mixed"
+for into in '2>/dev/full' '2>&-'; do
+    eval "tools/tsp-launch -n -f '$out/mixed' -s a $into" >"$out/said" || fail "$into: status $?"
+    [ "$(cat "$out/said")" = 'serve 192.0.2.1:525 a m 1000000000 192.0.2.2:525' ] || fail "$into: the words are '$(cat "$out/said")'"
+    for case in "78 -f '$out/none'" "2 --turns 0 -f '$out/mixed'"; do
+        status=0
+        eval "tools/tsp-launch -n -s a ${case#* } $into" || status=$?
+        [ "$status" -eq "${case%% *}" ] || fail "'${case#* } $into' ends with status $status"
+    done
+done
+
 # Files that can't work: `-n` says why beside its words, and --lint ends with 78.
 lints() {
     wanted=$1
