@@ -332,6 +332,15 @@ ends 3 --program "$out/none"
 tells "tsp-status: $out/none: No such file or directory"
 answers 192.0.2.11:525 'master alpha' '5 5'
 
+# A tsp-launch that can't be run, which lists the hosts.
+mkdir "$out/tools"
+cp -R tools/tsp-status tools/tsp-launch tools/tsp_texts tools/tsp_daemon "$out/tools"
+chmod -x "$out/tools/tsp-launch"
+status=0
+"$out/tools/tsp-status" --check --program "$out/fake" --file "$out/hosts" >"$out/said" 2>"$out/told" || status=$?
+[ "$status" -eq 3 ] || fail "without tsp-launch it ends with $status: $(cat "$out/told")"
+says "TSP UNKNOWN: $out/tools/tsp-launch: Permission denied"
+
 # A faulty hosts file, which is looked at before the program; and faulty words.
 : >"$out/empty"
 for file in none '' empty .; do
@@ -373,6 +382,53 @@ took=$(($(date +%s) - began))
 [ "$(grep -c ',n1,' "$out/said")" -eq 20 ] || fail 'not each of twenty hosts is reached'
 tells 'tsp-status: silent: n21, n22, n23, n24, n25, n26, n27, n28, n29, n30 and 10 more'
 [ ! -e "$BUSY-again" ] || fail 'clocks are asked for at the same time'
+
+# This machine stands still while a question is under way that is sent once: it is asked again, and the host isn't silent.
+cat >"$out/still" <<'END'
+#!/bin/sh
+if [ "$1" = msite ] && mkdir "$STILL" 2>/dev/null; then
+    # (what asked is stopped for longer than it waits)
+    kill -STOP "$PPID"
+    sleep 7
+    kill -CONT "$PPID"
+    exec sleep 30
+fi
+exec "$FAKE" "$@"
+END
+chmod +x "$out/still"
+export STILL="$out/stood"
+echo 'n1 10.0.0.1 master' >"$out/hosts"
+ends 0 --check --program "$out/still" --timeout 6 -t 1
+says 'TSP OK: 1 of 1 hosts answer, n1 leads | reached=1;;;0;1 masters=1'
+[ -d "$STILL" ] || fail 'nothing stood still'
+
+# This machine's wall clock is set by an hour between the clocks of two hosts, which aren't an hour apart for that.
+cat >"$out/set" <<'END'
+#!/bin/sh
+[ "$1" = clockdiff ] || exec "$FAKE" "$@"
+[ "$2" != 10.0.0.2:525 ] || : >"$SET"
+if [ -e "$SET" ]; then echo 'clockdiff -3600000000 5'; else echo 'clockdiff 0 5'; fi
+END
+cat >"$out/hour" <<'END'
+import os, runpy, sys, time
+wall = time.time_ns
+time.time_ns = lambda: wall() + os.path.exists(os.environ['SET']) * 3600 * 10 ** 9
+sys.argv.pop(0)
+runpy.run_path(sys.argv[0], run_name='__main__')
+END
+chmod +x "$out/set"
+printf '%s\n' 'n1 10.0.0.1 master' 'n2 10.0.0.2 master' >"$out/hosts"
+SET=$out/is-set python3 -B "$out/hour" tools/tsp-status --check --timeout 40 --program "$out/set" --file "$out/hosts" >"$out/said" 2>"$out/told" || :
+says 'TSP OK: 2 of 2 hosts answer, n1 leads, clocks within 0.010 ms | reached=2;;;0;2 masters=1 spread=0.010ms;;50.000'
+awk 'BEGIN { for (i = 1; i <= 40; i++) printf "n%d 10.0.0.%d master\n", i, i }' >"$out/hosts"
+
+# If the system has no more threads that is told, and nothing of the network. (their stacks are what there is no room for)
+status=0
+# shellcheck disable=SC3045  # dash has it, as others do
+(ulimit -v 150000 && exec tools/tsp-status --program "$out/fake" --file "$out/hosts" --check) >"$out/said" 2>"$out/told" || status=$?
+[ "$status" -eq 3 ] || fail "without threads it ends with status $status: $(cat "$out/said" "$out/told")"
+says "TSP UNKNOWN: 40 hosts can't be asked side by side: can't start new thread"
+tells
 
 # An interrupt ends it by the signal, without a word.
 ended=$(interrupted tools/tsp-status --program "$out/fake" --file "$out/hosts" --timeout 4)

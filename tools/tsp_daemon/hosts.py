@@ -5,7 +5,7 @@ import os
 import subprocess
 from collections import namedtuple
 
-from tsp_daemon.usage import BAD_FILE
+from tsp_daemon.usage import BAD_FILE, NO_PROGRAM
 from tsp_texts.tool import Fault
 
 LAUNCH = os.path.join(os.path.dirname(os.path.dirname(os.path.realpath(__file__))), 'tsp-launch')
@@ -19,7 +19,10 @@ class Host(namedtuple('Host', 'network name address may_be')):
 def launched(file, *words) -> str:
     """What tsp-launch prints for these words. Its line on standard error, where the file is faulty, becomes a fault."""
     command = [LAUNCH, *words] + ([] if file is None else ['--file', file])
-    ran = subprocess.run(command, stdout=subprocess.PIPE, stderr=subprocess.PIPE, check=False)
+    try:
+        ran = subprocess.run(command, stdout=subprocess.PIPE, stderr=subprocess.PIPE, check=False)
+    except OSError as fault:
+        raise Fault(f'{LAUNCH}: {fault.strerror}', NO_PROGRAM) from fault
     if ran.returncode:
         told = ran.stderr.decode('ascii', 'replace').strip().splitlines() or [f'it ends with status {ran.returncode}']
         text = told[-1]

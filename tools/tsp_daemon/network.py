@@ -2,11 +2,14 @@
 from __future__ import annotations
 
 import heapq
+import time
 from collections import namedtuple
 
 from tsp_daemon.hosts import Host
 from tsp_daemon.questions import Asker, Reading
 from tsp_daemon.rates import MOST
+from tsp_daemon.usage import NO_PROGRAM
+from tsp_texts.tool import Fault
 
 WARNING, CRITICAL = 1, 2
 # How many names a line lists.
@@ -14,6 +17,8 @@ MOST_NAMES = 10
 MOST_AT_ONCE = 256
 # How far clocks may be apart where nothing is said, in microseconds.
 WITHIN = 50_000
+# By how many microseconds this machine's wall clock may move while clocks are read by it, which are else read again, and how often they are read.
+MOVED, LOOKS = 20_000, 3
 
 
 class Seen:
@@ -65,7 +70,10 @@ def ask_masters(asker: Asker, hosts: list[Host]) -> list[Seen]:
     seen = [Seen(host) for host in hosts]
     from concurrent.futures import ThreadPoolExecutor
     with ThreadPoolExecutor(min(len(seen), MOST_AT_ONCE)) as pool:
-        asking = [pool.submit(asker.master, each.host.address) for each in seen]
+        try:
+            asking = [pool.submit(asker.master, each.host.address) for each in seen]
+        except RuntimeError as fault:
+            raise Fault(f'{len(seen)} hosts can\'t be asked side by side: {fault}', NO_PROGRAM) from fault
         try:
             for each, answer in zip(seen, asking):
                 master = answer.result()
@@ -79,12 +87,21 @@ def ask_masters(asker: Asker, hosts: list[Host]) -> list[Seen]:
 
 def look(asker: Asker, hosts: list[Host]) -> list[Seen]:
     """Asks all hosts for their master, and then those that answered for their clock, some times and one after the other, so that the asking
-    itself doesn't make the measurements worse."""
+    itself doesn't make the measurements worse. If this machine's wall clock was set meanwhile they are asked again, since all are told by that."""
     seen = ask_masters(asker, hosts)
-    for each in seen:
-        if each.reached:
-            each.clock = asker.best_clock(each.host.address)
+    for _ in range(LOOKS):
+        before = wall_ahead()
+        for each in seen:
+            if each.reached:
+                each.clock = asker.best_clock(each.host.address)
+        if abs(wall_ahead() - before) <= MOVED:
+            break
     return seen
+
+
+def wall_ahead():
+    """By how many microseconds this machine's wall clock is ahead of the one that nobody sets."""
+    return (time.time_ns() - time.monotonic_ns()) // 1000
 
 
 def spread_of(seen: list[Seen]) -> Spread | None:

@@ -2,6 +2,7 @@
 from __future__ import annotations
 
 import subprocess
+import time
 from collections import namedtuple
 
 from tsp_daemon.usage import NO_PROGRAM, number
@@ -12,6 +13,8 @@ from tsp_texts.tool import Fault
 SILENT = (5, 6)
 # Of so many readings of a clock the best one counts.
 READINGS = 4
+# A question that is over so many seconds late was asked while this machine stood still, and is asked again, so often at most.
+LATE, MOST_AGAIN = 0.5, 3
 
 
 def add_words(parser):
@@ -66,9 +69,10 @@ class Asker(namedtuple('Asker', 'program seconds tries', defaults=(2.0, 2))):
             best = min(best or reading, reading, key=lambda each: each.error)
         return best
 
-    def date(self, address, time) -> str | None:
+    def date(self, address, date) -> str | None:
         """Sets the network's date: `set`, `forwarded`, or None where the daemon is silent."""
-        answer = self.ask('date', address, str(time))
+        # (it is asked once, since it is another date later)
+        answer = self.ask_once(('date', address, str(date)))
         return None if answer is None else self.value(answer, 'date', 'date', address)[0]
 
     def election(self, address) -> bool:
@@ -87,11 +91,17 @@ class Asker(namedtuple('Asker', 'program seconds tries', defaults=(2.0, 2))):
         return Fault(f'{self.program} {question} {address} answers \'{" ".join(answer)}\'', NO_PROGRAM)
 
     def ask(self, *words) -> list[str] | None:
-        """The words of the answer to a question, or None where nobody answers it."""
-        for _ in range(self.tries):
+        """The words of the answer to a question, or None if nobody answers it. A try in which this machine stood still doesn't count."""
+        left, again = self.tries, MOST_AGAIN
+        while left:
+            begun = time.monotonic()
             answer = self.ask_once(words)
             if answer is not None:
                 return answer
+            if again and time.monotonic() - begun > self.seconds / self.tries + LATE:
+                again -= 1
+            else:
+                left -= 1
         return None
 
     def ask_once(self, words):
