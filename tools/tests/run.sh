@@ -31,6 +31,41 @@ refuses 125 "there is no $out/none: install libfaketime, or name it by TSP_FAKET
 unset TSP_FAKETIME
 tools/tsp-run --help | grep -q '^usage: tsp-run ' || fail 'there is no help'
 
+# A disk that gets full: the command runs on, and its status is that of tsp-run. (any library will do)
+if unshare -rm true 2>/dev/null && cc -shared -o "$out/any.so" -x c /dev/null 2>"$out/told"; then
+    page 7200000000 15000 2
+    mkdir "$out/small"
+    status=0
+    # shellcheck disable=SC2016  # for the shells that are begun
+    TSP_FAKETIME="$out/any.so" TMPDIR="$out/small" unshare -rm sh -c 'mount -t tmpfs -o size=1m none "$TMPDIR" && exec tools/tsp-run "$@"' sh \
+        sh -c '! cp /dev/zero "$TMPDIR/other" 2>/dev/null; sleep 1; exit 7' >"$out/said" 2>"$out/told" || status=$?
+    [ "$status" -eq 7 ] && [ ! -s "$out/told" ] || fail "on a full disk it ends with $status: $(cat "$out/told")"
+    # (no file may have an octet)
+    status=0
+    told=$(ulimit -f 0 && TSP_FAKETIME="$out/any.so" exec tools/tsp-run true 2>&1) || status=$?
+    case $status:$told in 125:'tsp-run: there is no folder for a small file: '*) ;; *) fail "without room it ends with $status: $told" ;; esac
+else
+    skip 'there are no namespaces, or no cc' 'a disk that gets full'
+fi
+
+# SIGTERM at some moments of the start and later ends it and its command, and nothing is left.
+if cc -shared -o "$out/any.so" -x c /dev/null 2>"$out/told"; then
+    mkdir "$out/files"
+    for moment in 0.05 0.1 0.15 0.2 0.25 0.3 0.4 0.5 0.7 1 2; do
+        rm -f "$out/begun"
+        TSP_FAKETIME="$out/any.so" TMPDIR="$out/files" tools/tsp-run sh -c "echo \$\$ >$out/begun; exec sleep 30" 2>"$out/told" &
+        told=$!
+        sleep "$moment"
+        kill "$told"
+        status=0
+        wait "$told" 2>/dev/null || status=$?
+        [ "$status" -eq 143 ] && [ -z "$(ls "$out/files")" ] || fail "SIGTERM after $moment s ends it with $status, and $(ls "$out/files") is left: $(cat "$out/told")"
+        [ ! -s "$out/begun" ] || ! kill -0 "$(cat "$out/begun")" 2>/dev/null || fail "SIGTERM after $moment s leaves the command"
+    done
+else
+    skip 'there is no cc' 'SIGTERM at a start'
+fi
+
 page 7200000000 0 2
 status=0
 tools/tsp-run --status >"$out/said" 2>"$out/told" || status=$?
