@@ -137,10 +137,10 @@ class Clock:
         with open(self.path, 'rb') as file:
             if os.fstat(file.fileno()).st_size < SIZE:
                 raise OSError(0, 'it is no page of the network\'s time', self.path)
-            self.map = mmap.mmap(file.fileno(), SIZE, access=mmap.ACCESS_READ)
-        self.sequence = memoryview(self.map).cast('Q')
-        if HEAD.unpack_from(self.map)[:3] != (MAGIC, VERSION, LENGTH):
+            found = mmap.mmap(file.fileno(), SIZE, access=mmap.ACCESS_READ)
+        if HEAD.unpack_from(found)[:3] != (MAGIC, VERSION, LENGTH):
             raise OSError(0, 'it is no page of the network\'s time, or one of another version', self.path)
+        self.map, self.sequence = found, memoryview(found).cast('Q')
 
     def read(self):
         """The page, and the nanosecond at which it was read; None where it is written and never done."""

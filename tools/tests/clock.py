@@ -253,7 +253,25 @@ def dead(path):
     wanted(subprocess.run([READER, 'now', path], stdout=subprocess.PIPE, check=True).stdout.split()[0] == b'0', 'in C it has one')
 
 
+def other():
+    """A page of another version takes the place of one that is read: it has no time, however often it is asked."""
+    path = os.path.join(FOLDER, 'other')
+    writer = Writer(path)
+    writer.write(tsp_clock.Page(1, 0, 2, 2, target=7))
+    clock = tsp_clock.Clock(path)
+    wanted(clock.now().status == tsp_clock.SYNCHRONISED, 'a page that was just written isn\'t taken')
+    writer.close()
+    os.rename(path, path + '.old')
+    page = tsp_clock.HEAD.pack(tsp_clock.MAGIC, 2, tsp_clock.LENGTH, 0) + tsp_clock.Page(1, 0, 2, 2, time.monotonic_ns()).packed()
+    with open(path, 'wb') as file:
+        file.write(page.ljust(tsp_clock.SIZE, b'\0'))
+    for _ in range(3):
+        clock.tried = 0
+        wanted(clock.now().status == tsp_clock.STALE, 'a page of another version has a status')
+
+
 def main():
+    other()
     compared, pages = formula(), in_c()
     anchors()
     reckoned()

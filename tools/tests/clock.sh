@@ -48,6 +48,27 @@ Writer('$out/led').write(tsp_clock.Page(1, 0, 2, 2, target=10 ** 15, high=300000
 for longest in 9223372036854775807:1 9223372036854775:1 9223372036854776:1 4611686018427387:1 10000000:1 0:0 -1:0 -9223372036854775808:0; do
     "$out/reader" after "$out/led" "${longest%:*}" >"$out/said" && [ "$(cat "$out/said")" = "${longest#*:}" ] || fail "a wait for ${longest%:*} us says $(cat "$out/said")"
 done
+# If there is no room for a page there is none, and the system ends neither its writer nor its readers.
+cat >"$out/roomless" <<'END'
+import sys
+sys.path.insert(0, 'tools')
+import tsp_clock
+from tsp_daemon.page import Writer
+for made in Writer, tsp_clock.Clock:
+    try:
+        made(sys.argv[1])
+        sys.exit('there is a page where there is no room for one')
+    except OSError:
+        pass
+END
+if unshare -rm true 2>/dev/null; then
+    mkdir "$out/small"
+    # shellcheck disable=SC2016  # for the shell that is begun
+    unshare -rm sh -c 'mount -t tmpfs -o size=16k none "$1" && ! cp /dev/zero "$1/other" 2>/dev/null && exec python3 -B "$2" "$1/page"' sh "$out/small" "$out/roomless" ||
+        fail 'a page without room ends its writer or a reader'
+else
+    skip 'there are no namespaces' 'a page without room'
+fi
 mkdir "$out/pages"
 python3 tools/tests/clock.py "$program" "$out/reader" "$out/pages" "${TSP_MOMENTS:-30000}" "${TSP_SEED:-1}" >"$out/told" || fail 'the page is another one'
 # A short form of dev/read-cost; how much a read may cost is looked at on a machine that has nothing else to do.
