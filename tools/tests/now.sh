@@ -52,6 +52,18 @@ ends 0 --interval --utc alpha
 first=${said%% *} last=${said#* }
 [ $(($(date -d "$last" +%s%6N) - $(date -d "$first" +%s%6N))) -eq 3000 ] || fail "the interval is '$said'"
 
+# A clock that no calendar has: ten thousand years ahead or behind, or as far as 64 bits go.
+for years in 315576000000000000 -315576000000000000 9000000000000000000; do
+    echo "clockdiff $years 1500" >"$ANSWERS/clockdiff-192.0.2.11:525"
+    for form in '' --utc; do
+        # shellcheck disable=SC2086  # a word or none
+        ends 0 $form alpha
+        shown=${said#@} shown=${shown%%.*}
+        [ "${said#* }" = '+/- 0.001500' ] && [ $((shown - years / 1000000 - $(date +%s))) -le 1 ] && [ $((shown - years / 1000000 - $(date +%s))) -ge -10 ] || fail "$form: of a clock that is $years us ahead it says '$said'"
+    done
+done
+echo 'clockdiff 3600000000 1500' >"$ANSWERS/clockdiff-192.0.2.11:525"
+
 # A host that follows: how far its clock may be from its master's, which is asked too. One that knows no master belongs to nobody.
 echo 'clockdiff 3599990000 200' >"$ANSWERS/clockdiff-192.0.2.12:526"
 echo 'master alpha' >"$ANSWERS/msite-192.0.2.12:526"

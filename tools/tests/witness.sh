@@ -240,6 +240,13 @@ limited=''
 bounded 3 "a=$out/hostile" "b=$hand/b-2.trace"
 tells 'there are more than 1000000 acts'
 rm "$out/hostile"
+# What can't be written isn't taken for a trace that can't be read.
+for case in 'standard output=' '/dev/full=--schedule /dev/full'; do
+    status=0
+    # shellcheck disable=SC2086  # words
+    witness loops "$given/loops" ${case#*=} >/dev/full 2>"$out/besides" || status=$?
+    [ "$status" -eq 1 ] && [ "$(cat "$out/besides")" = "tsp-witness: ${case%%=*}: No space left on device" ] || fail "of a full disk it says '$(cat "$out/besides")'"
+done
 # A file that isn't there, in a line without a number; and a trace that comes by a pipe.
 bounded 3 "a=$out/none" "b=$hand/b-2.trace"
 [ "$(cat "$out/besides")" = "tsp-witness: $out/none: No such file or directory" ] || fail "of a file that isn't there it says '$(cat "$out/besides")'"

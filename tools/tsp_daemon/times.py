@@ -25,9 +25,12 @@ def seconds(moment):
 
 
 def rfc_3339(moment, is_utc):
-    """A time as RFC 3339 has it, in UTC or in this machine's zone."""
-    at = EPOCH + timedelta(microseconds=moment)
-    text = at.isoformat(timespec='microseconds') if is_utc else at.astimezone().isoformat(timespec='microseconds')
+    """A time as RFC 3339 has it, in UTC or in this machine's zone; as @SECONDS if no calendar has it."""
+    try:
+        at = EPOCH + timedelta(microseconds=moment)
+        text = at.isoformat(timespec='microseconds') if is_utc else at.astimezone().isoformat(timespec='microseconds')
+    except (OverflowError, ValueError, OSError):
+        return f'@{seconds(moment)}'
     return text.replace('+00:00', 'Z') if is_utc else text
 
 
