@@ -3,17 +3,19 @@ import fcntl
 import os
 import shutil
 import signal
+import subprocess
 import sys
 import time
 
 from tsp_build import attempt, crates
 from tsp_build.forecast import Forecast
-from tsp_build.progress import Progress, in_words, say
+from tsp_build.progress import Progress, be_silent, in_words, put, say
 from tsp_build.proofs import Runs
 from tsp_build.stamp import Stamp
 
 HERE = os.path.dirname(os.path.dirname(os.path.dirname(os.path.realpath(__file__))))
 NOT_BUILT, NO_RT = 126, 127
+ENDING = (signal.SIGINT, signal.SIGTERM, signal.SIGHUP)
 SEEN = 'from nothing the proof took 12 to 31 minutes on the machines that were seen, 36 to 75 of one processor, and longer beside other work'
 
 
@@ -26,6 +28,9 @@ class Stopped(BaseException):
 
 
 def stop(number, _):
+    """Ends the build. (a further signal doesn't keep it from ending what it began)"""
+    for each in ENDING:
+        signal.signal(each, signal.SIG_IGN)
     raise Stopped(number)
 
 
@@ -58,7 +63,7 @@ def prove(name, below, stamp):
                 time.sleep(0.5)
             if not runs.ended():
                 progress.clear()
-                sys.stderr.write(runs.complaints())
+                put(runs.complaints())
                 say(f"{name} isn't proved and built")
                 return False
         put_program(runs, name, stamp)
@@ -122,8 +127,17 @@ def act(words):
     return status
 
 
+def reason(fault):
+    """What failed, and with which file. (a folder that can't be copied has a list of files, each with its names and what failed)"""
+    if isinstance(fault, shutil.Error) and isinstance(fault.args[0], list):
+        return fault.args[0][0][2]
+    return f'{fault.strerror}: {fault.filename}' if fault.filename else fault.strerror
+
+
 def main(words):
-    for number in (signal.SIGINT, signal.SIGTERM, signal.SIGHUP):
+    if sys.stderr is None:
+        be_silent()
+    for number in ENDING:
         # (a signal that is ignored stays ignored, as under nohup)
         if signal.getsignal(number) is not signal.SIG_IGN:
             signal.signal(number, stop)
@@ -132,5 +146,8 @@ def main(words):
     except Stopped as stopped:
         return 128 + stopped.number
     except OSError as fault:
-        say(f"the program can't be built: {fault.strerror}: {fault.filename}")
+        say(f"the program can't be built: {reason(fault)}")
+        return NOT_BUILT
+    except subprocess.CalledProcessError as fault:
+        say(f"the program can't be built: {fault.cmd[0]} ends with status {fault.returncode}")
         return NOT_BUILT

@@ -1,4 +1,5 @@
 """The line that says how far a build is: once in ten seconds, on a terminal in the place of the one before."""
+import os
 import sys
 import time
 
@@ -6,8 +7,22 @@ EVERY = 10
 WIDTH = 78
 
 
+def put(text):
+    """Writes on standard error. If that takes nothing, nothing is written there any more."""
+    try:
+        sys.stderr.write(text)
+        sys.stderr.flush()
+    except OSError:
+        be_silent()
+
+
+def be_silent():
+    """Takes the place of a standard error that is closed, or takes nothing."""
+    sys.stderr = open(os.devnull, 'w', encoding='utf-8')
+
+
 def say(text):
-    print(f'tsp: {text}', file=sys.stderr, flush=True)
+    put(f'tsp: {text}\n')
 
 
 def in_words(seconds):
@@ -47,13 +62,11 @@ class Progress:
         if now:
             line += '; now ' + ' '.join(now)
         if self.terminal:
-            sys.stderr.write(f'\r\033[K{("tsp: " + line)[:WIDTH]}')
-            sys.stderr.flush()
+            put(f'\r\033[K{("tsp: " + line)[:WIDTH]}')
         elif (ended, now) != self.shown or spent - self.said >= 60:
             self.shown, self.said = (ended, now), spent
             say(line)
 
     def clear(self):
         if self.terminal:
-            sys.stderr.write('\r\033[K')
-            sys.stderr.flush()
+            put('\r\033[K')

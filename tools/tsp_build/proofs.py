@@ -8,6 +8,8 @@ import tempfile
 from tsp_build import crates
 
 PROVED = re.compile(r'^rt: (\w+) (proved|is kept)')
+# How many seconds a run that is told to end is given for that.
+PATIENCE = 20
 TEST_MODULE = re.compile(r'#\[cfg\(test\)\]\nmod (\w+);\n')
 
 
@@ -126,5 +128,9 @@ class Runs:
             if each.poll() is None:
                 each.terminate()
         for each in self.running:
-            each.wait()
+            try:
+                each.wait(PATIENCE)
+            except subprocess.TimeoutExpired:
+                each.kill()
+                each.wait()
         shutil.rmtree(self.work, ignore_errors=True)
