@@ -16,20 +16,35 @@ from tsp_build import crates, forecast  # noqa: E402
 RUNS, STEP = 30, 10.0
 
 
+def faster(chance, jobs):
+    """How many times as fast a proof is by so many jobs."""
+    return 1.0 if jobs == 1 else jobs * chance.uniform(0.55, 0.9)
+
+
+def start(chance, takes, lowest, processors):
+    """When each of the lowest crates ends: the dearest gets up to four jobs, and the others are proved beside it."""
+    first, *others = sorted(lowest, key=lambda name: -takes[name])
+    jobs = min(4, processors)
+    both = takes[first] / faster(chance, jobs) + sum(takes[name] for name in others) / processors
+    return {first: both, **{name: both * chance.uniform(0.4, 1) for name in others}}
+
+
 def happen(chance, work, below, processors, slower):
-    """When each crate begins and ends in a run that takes ready crates mostly in their order, and when the program is built."""
+    """When each crate begins and ends in a run that takes ready crates mostly in their order, by several jobs if processors are left, and when the
+    program is built."""
     takes = {name: work[name] * slower * chance.lognormvariate(0, 0.2) for name in work}
-    first = max((name for name in work if not below[name]), key=work.get)
-    begin, end, now = {first: 0.0}, {first: takes[first] / chance.uniform(2, 3.2)}, 0.0
-    now = end[first]
-    while len(end) < len(work):
-        busy = [name for name in end if end[name] > now]
+    end = start(chance, takes, [name for name in work if not below[name]], processors)
+    begin, now, idle, jobs = dict.fromkeys(end, 0.0), max(end.values()), processors, {}
+    while len(end) < len(work) or jobs:
         ready = [name for name in work if name not in end and all(each in end and end[each] <= now for each in below[name])]
-        if ready and len(busy) < processors:
+        if ready and idle:
             name = ready[0] if chance.random() < 0.7 else chance.choice(ready)
-            begin[name], end[name] = now, now + takes[name]
+            jobs[name] = max(1, min(4, idle // len(ready)))
+            idle -= jobs[name]
+            begin[name], end[name] = now, now + takes[name] / faster(chance, jobs[name])
         else:
-            now = min(end[name] for name in busy)
+            soonest = min(jobs, key=end.get)
+            now, idle = end[soonest], idle + jobs.pop(soonest)
     return begin, end, max(end.values()) + slower * chance.uniform(15, 40)
 
 
