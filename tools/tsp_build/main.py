@@ -16,7 +16,7 @@ from tsp_build.stamp import Stamp
 HERE = os.path.dirname(os.path.dirname(os.path.dirname(os.path.realpath(__file__))))
 NOT_BUILT, NO_RT = 126, 127
 ENDING = (signal.SIGINT, signal.SIGTERM, signal.SIGHUP)
-SEEN = 'from nothing the proof took 12 to 31 minutes on the machines that were seen, 36 to 75 of one processor, and longer beside other work'
+SEEN = 'from nothing the proof took 12 to 43 minutes on the machines that were seen, 36 to 75 of one processor, and up to 58 beside other work'
 
 
 class Stopped(BaseException):
