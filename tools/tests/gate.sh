@@ -27,7 +27,7 @@ status=0
 page=$repository/docs/GATE.md
 for line in '| `sh -c exit 3` | 5 | 7 | '"$(nproc)"' |' '| `sh -c exit 3` | 0 | 0 | '"$(nproc)"' |' '| `low` | 60 | 7 | 30 | 97 | 1 |' '| `left` | 120 |  |  | 120 | 2 |' '| `program` |  |  |  | 0 | 9 |' \
     'In all, in minutes of one processor: proof 4, tests 0, edits 0, together 4.' \
-    'No number of processors is faster than the longest chain of proofs, which takes 3 minutes:'; do
+    'If each proof had one processor, no run would be faster than the longest chain of proofs, which takes 3 minutes:'; do
     grep -qxF -- "$line" "$page" || fail "the page lacks: $line"
 done
 ! grep -q gone "$page" || fail 'the page has a crate that is gone'
