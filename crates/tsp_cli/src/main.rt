@@ -51,6 +51,7 @@ use tsp_io::clock::MachineTicker;
 use tsp_io::machine::{Reading, Writing};
 use tsp_io::rate::Rate;
 use tsp_io::udp::UdpLink;
+use tsp_io::unslewed::Unslewed;
 
 /// The words after the program's name; no words if one of them isn't UTF-8. Fails only if out of
 /// memory.
@@ -93,7 +94,7 @@ fn answer_at(rt: HostRuntime, words: &[String], rate: Rate) -> Status {
     let mut source = Reading::new(rt.reader());
     let mut sink = Writing::new(io::writer(&rt));
     let mut link = UdpLink::new(rt, rt.alloc());
-    let mut ticker = MachineTicker::new(rt, rate);
+    let mut ticker = MachineTicker::new(Unslewed::new(rt), rate);
     let status = run(
         rt.alloc(),
         words,

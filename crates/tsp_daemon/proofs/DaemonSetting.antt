@@ -54,16 +54,16 @@ pub daemon-setting : (s : ServeWords) (tick : ℕ) (wall : ℤ) → (setting : S
 daemon-setting s tick wall = (
   record {
     drift = 0;
-    rate = λ n. pos 0;
+    tick = λ n t. t;
     wall = λ n. wall -ℤ pos tick;
     name = λ n. s.name;
     strict = is_strict s.candidacy;
     net = net_of;
     members = members_in (setups_from 0 s.ports);
     small = omega arith;
-    rates = λ n. omega arith;
+    ticks = λ n. record { rises = λ s x. omega arith; fast = λ s x. omega arith; slow = λ s x. omega arith };
     apart = apart;
     own = own s;
   },
-  record { drift_is = refl; wall_is = omega (arith, ints); name_is = refl; strict_is = refl; members_are = λ q lt. port-peers 0 s.ports q.0 lt },
+  record { drift_is = refl; tick_is = λ t. refl; wall_is = omega (arith, ints); name_is = refl; strict_is = refl; members_are = λ q lt. port-peers 0 s.ports q.0 lt },
 )

@@ -100,8 +100,8 @@ record Ran (s : ServeWords) (setting : Setting) (n t : ℕ) (past : NodePast) : 
   pub posts : posted (dids past.lines) ≤ n * 3000000
 
 module _ {s : ServeWords} {setting : Setting} {tick : ℕ} {wall : ℤ} (is : IsServe s) (set : SetByWords s tick wall setting) where
-  tick-is : (x : ℕ) → x ≡ tick_at (setting.rate 0) x
-  tick-is x = let near = setting.rates 0 in let none = set.drift_is in flat (setting.rate 0) x (omega (arith, near, none))
+  tick-is : (x : ℕ) → x ≡ setting.tick 0 x
+  tick-is x = sym (set.tick_is x)
 
   -- what a port is set up with is what the words say
   set-up : (past : NodePast) (q : Port) → past.name ≡ s.name → past.strict ≡ is_strict s.candidacy → past.ports ≡ setups_from 0 s.ports → q.0 < length past.ports → setup_in (on_port q past) ≡ setup_of setting 0 q

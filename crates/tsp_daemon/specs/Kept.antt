@@ -10,6 +10,7 @@ use Rattle.tsp_daemon.specs.Nodes.{is_strict, setups_from}
 -- node 0, and each of its ports is on a network of its own, with the peers that its words name
 pub record SetByWords (s : ServeWords) (tick : ℕ) (wall : ℤ) (setting : Setting) : Type 0 where
   pub drift_is : setting.drift ≡ 0
+  pub tick_is : (t : ℕ) → setting.tick 0 t ≡ t
   pub wall_is : setting.wall 0 +ℤ pos tick ≡ wall
   pub name_is : setting.name 0 ≡ s.name
   pub strict_is : setting.strict ≡ is_strict s.candidacy

@@ -1,5 +1,15 @@
 -- What a socket waits for, and what it throws away.
-use Rattle.std.specs.Prelude.{ℕ, ◌+◌, ◌-◌, ◌<◌, ◌≤◌, max, Bool, false, nat_lt, None, Some, Option}
+use Rattle.std.specs.Prelude.{ℕ, ℤ, pos, List, ◌++◌, ◌+◌, ◌-◌, ◌<◌, ◌≤◌, max, Bool, false, nat_lt, None, Some, Option}
+use Rattle.std.specs.Net.SockAddr.{family_and_port, in_storage}
+use Rattle.tsp_io.specs.declared.addr.Addr.{Addr}
+
+-- an address as the system gets it: the octets of C's `sockaddr_in` for IPv4, and zeros behind them
+abbrev pub sockaddr_of : Addr → List ℕ
+sockaddr_of addr = in_storage (family_and_port 2 addr.port ++ addr.ip)
+
+-- the flags of a send that fails at once if there is no room, and raises no signal: MSG_DONTWAIT and MSG_NOSIGNAL
+abbrev pub at_once : ℤ
+at_once = pos 16448
 
 -- a wait that is set for a receive of at most `wait` microseconds: at least one, not more than that, and less than a
 -- millisecond below it

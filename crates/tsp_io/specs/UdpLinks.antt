@@ -1,7 +1,7 @@
 -- What a link over a UDP socket is bound to, whom it hears, and where it sends.
 use Rattle.std.specs.Prelude.{◌≡◌, ℕ, Bool, true, false, List, [], ◌∷◌, None, Some, Option, MatchOption}
 use Rattle.std.specs.Option.{option_map}
-use Rattle.tsp_io.specs.{Directories.addr_of, Directories.ComesFrom, Links.Binding, Sockets.IsWaitFor, declared.addr.Addr.Addr}
+use Rattle.tsp_io.specs.{Directories.addr_of, Directories.ComesFrom, Links.Binding, Sockets.IsWaitFor, Sockets.sockaddr_of, declared.addr.Addr.Addr}
 use Rattle.tsp_io.specs.declared.link.Recv.{Recv, TheVariants.Datagram, TheVariants.Nothing, TheVariants.Failed}
 use Rattle.tsp_io.specs.declared.socket.Socket.{Socket}
 
@@ -34,4 +34,4 @@ IsAwaited wait socket result = MatchOption socket ⊥ (λ s. IsWaitFor wait s.wa
 
 -- the last send of the socket went to this address
 abbrev pub GoesTo : Option Addr → Option Socket → Type 0
-GoesTo addr socket = MatchOption socket ⊥ (λ s. option_map addr_of s.to ≡ Some addr)
+GoesTo addr socket = MatchOption socket ⊥ (λ s. option_map sockaddr_of addr ≡ Some s.to)

@@ -2,12 +2,13 @@
 ghost use Rattle.std.specs.Prelude.{◌≡◌, ◌⊎◌, ◌≤◌, ◌<ℤ◌, length, false, true, None, Some, pos};
 ghost use Rattle.std.specs.Prelude.{IfOk, IfSome, IsTrue, OnErr, OnOk};
 ghost use Rattle.std.specs.Net.Udp.{udp_raw_fd};
-ghost use Rattle.std.specs.Option.{option_map};
 ghost use Rattle.tsp_io.specs.Directories.{addr_of};
-ghost use Rattle.tsp_io.specs.Sockets.{IsWaitFor, is_late};
+ghost use Rattle.tsp_io.specs.Sockets.{IsWaitFor, is_late, sockaddr_of, at_once};
 
 use crate::addr::Addr;
 use crate::machine_clock::machine_micros;
+use crate::raw_addr::{RAW_LEN, raw_addr};
+use libc::net;
 use std::io;
 use std::io::ErrorKind;
 use std::net::{IpAddr, Ipv4Addr, Net, SocketAddr, UdpSocket};
@@ -25,8 +26,8 @@ const LONGEST_PAUSE: u64 = 1_000_000;
 /// How many datagrams one receive throws away at most.
 const MOST_DISCARDED: u32 = 100_000;
 
-/// So many looks are left out after one that found nothing.
-const LOOKS_LEFT_OUT: u8 = 15;
+/// How a datagram is sent: it fails at once if there is no room, and raises no signal.
+const AT_ONCE: i32 = net::MSG_DONTWAIT | net::MSG_NOSIGNAL;
 
 /// The system reported an error of a receive, and not only that there was no datagram.
 #[derive(Clone, Copy)]
@@ -60,16 +61,14 @@ pub(crate) struct Socket {
     udp: UdpSocket,
     /// The address that the system was asked for.
     pub local: SocketAddr,
-    /// The address of the last send.
-    pub to: Option<SocketAddr>,
+    /// The address of the last send, as the system got it; zeros before the first one.
+    pub to: [u8; 128],
+    /// How the system was asked to send it.
+    pub flags: i32,
     /// How many datagrams were thrown away.
     pub discarded: u64,
     /// The wait in microseconds that was last set; 0 if none was set, so that receives wait for ever.
     wait: u64,
-    /// Whether calls wait: a receive for a datagram, a send for room. No send is tried while they do.
-    waits: bool,
-    /// How many more looks at what is there already are left out.
-    looks_left_out: u8,
     /// When the last receive ended, or the bind; None if the machine's clock gave no reading.
     ended: Option<u64>,
     ghost no_stream: { pos 2 <ℤ udp_raw_fd udp },
@@ -79,16 +78,14 @@ impl Socket {
     /// A socket bound to this address. Fails if the system refuses it, or if it would take the number
     /// of a standard stream that was closed.
     pub(crate) fn bind<R: Net + Clock>(rt: &R, local: Addr) -> io::Result<Socket>
-        ensures { IfOk result (λ s. (addr_of s.local ≡ Some local) × (s.discarded ≡ 0)
-            × (s.to ≡ None)) }
+        ensures { IfOk result (λ s. (addr_of s.local ≡ Some local) × (s.discarded ≡ 0)) }
     {
         Socket::bind_to(rt, socket_addr(local))
     }
 
     /// The same, with the address as the system gets it.
     fn bind_to<R: Net + Clock>(rt: &R, local: SocketAddr) -> io::Result<Socket>
-        ensures { IfOk result (λ s. (s.local ≡ local) × (s.discarded ≡ 0) × (s.to ≡ None)
-            × (s.wait ≡ 0) × (s.waits ≡ true)) }
+        ensures { IfOk result (λ s. (s.local ≡ local) × (s.discarded ≡ 0) × (s.wait ≡ 0)) }
     {
         let udp = UdpSocket::bind(rt, local)?;
         if udp.as_raw_fd() <= LAST_STREAM {
@@ -97,11 +94,10 @@ impl Socket {
         Ok(Socket {
             udp,
             local,
-            to: None,
+            to: [0; 128],
+            flags: AT_ONCE,
             discarded: 0,
             wait: 0,
-            waits: true,
-            looks_left_out: 0,
             ended: machine_micros(rt),
         })
     }
@@ -119,19 +115,7 @@ impl Socket {
         Ok(())
     }
 
-    /// Sets whether calls wait. Fails if the system refuses it.
-    fn set_waits(&mut self, waits: bool) -> io::Result<()>
-        ensures ok { OnOk result (self.new ≡ record self.old { waits = waits }) }
-        ensures err { OnErr result (self.new ≡ self.old) }
-    {
-        if waits != self.waits {
-            self.udp.set_nonblocking(!waits)?;
-            self.waits = waits;
-        }
-        Ok(())
-    }
-
-    /// One call of the system's for a datagram.
+    /// One call of the system's for a datagram, which waits as long as is set.
     fn take(&self, buf: &mut [u8]) -> Result<Came, Untaken>
         requires { length buf.old ≡ 512 }
         ensures { IfOk result (λ came. came.count ≤ 512) }
@@ -145,47 +129,14 @@ impl Socket {
         }
     }
 
-    /// A look at what is there already, after a send. After one that found nothing the next ones are left
-    /// out, and give nothing: so a socket that seldom has something to take is seldom asked in vain.
-    #[inline(always)]
-    fn look(&mut self, buf: &mut [u8]) -> Result<Came, Untaken>
-        requires { length buf.old ≡ 512 }
-        ensures size { IfOk result (λ came. came.count ≤ 512) }
-        ensures same { self.new ≡ record self.old { looks_left_out = self.new.looks_left_out } }
-    {
-        if self.looks_left_out > 0 {
-            self.looks_left_out -= 1;
-            return Err(Untaken::Empty);
+    /// One call of the system's for a datagram that is there already, which is thrown away.
+    fn throw_away(&self, buf: &mut [u8; 512]) -> Result<(), Untaken> {
+        let count = unsafe { net::recv(self.udp.as_raw_fd(), buf, net::MSG_DONTWAIT) };
+        if count >= 0 {
+            Ok(())
+        } else {
+            Err(cause_of(io::Error::from_raw_os_error(os::errno()).kind()))
         }
-        let looked = self.take(buf);
-        if matches!(looked, Err(Untaken::Empty)) {
-            self.looks_left_out = LOOKS_LEFT_OUT;
-        }
-        looked
-    }
-
-    /// The next datagram that comes within the wait that is set. After a send what is there already is
-    /// taken first, and calls wait again once nothing is there: so a socket that always has something
-    /// to take isn't told to wait and not to wait in turn.
-    #[inline(always)]
-    fn next(&mut self, buf: &mut [u8]) -> Result<Came, Untaken>
-        requires { length buf.old ≡ 512 }
-        ensures size { IfOk result (λ came. came.count ≤ 512) }
-        ensures same { self.new ≡ record self.old {
-          waits = self.new.waits;
-          looks_left_out = self.new.looks_left_out;
-        } }
-    {
-        if !self.waits {
-            match self.look(buf) {
-                Err(Untaken::Empty) => {}
-                taken => return taken,
-            }
-            if self.set_waits(true).is_err() {
-                return Err(Untaken::Fault);
-            }
-        }
-        self.take(buf)
     }
 
     /// Throws away the datagrams that are there, at most `MOST_DISCARDED`. Says how many these were,
@@ -194,8 +145,8 @@ impl Socket {
         let mut buf = [0; 512];
         let mut count: u32 = 0;
         for _ in 0..MOST_DISCARDED {
-            match self.take(&mut buf) {
-                Ok(_) => count = count.saturating_add(1),
+            match self.throw_away(&mut buf) {
+                Ok(()) => count = count.saturating_add(1),
                 Err(Untaken::Empty) => return Ok((count, true)),
                 Err(Untaken::Report) => {}
                 Err(Untaken::Fault) => return Err(ReceiveFault),
@@ -208,16 +159,12 @@ impl Socket {
     /// from now on.
     fn begin_anew(&mut self, rt: &impl Clock, came: u64) -> Result<(), ReceiveFault>
         ensures same { self.new ≡ record self.old {
-          waits = self.new.waits;
           discarded = self.new.discarded;
           ended = self.new.ended;
         } }
         ensures counted { self.old.discarded ≤ self.new.discarded }
     {
         self.discarded = self.discarded.saturating_add(came);
-        if self.set_waits(false).is_err() {
-            return Err(ReceiveFault);
-        }
         let (count, emptied) = self.empty()?;
         self.discarded = self.discarded.saturating_add(u64::from(count));
         if emptied {
@@ -246,8 +193,6 @@ impl Socket {
             (λ _. is_late self.old.ended self.new.ended wait ≡ false)) }
         ensures same { self.new ≡ record self.old {
           wait = self.new.wait;
-          waits = self.new.waits;
-          looks_left_out = self.new.looks_left_out;
           discarded = self.new.discarded;
           ended = self.new.ended;
         } }
@@ -256,7 +201,7 @@ impl Socket {
         if self.set_wait(settable(wait)).is_err() {
             return Err(ReceiveFault);
         }
-        let came = match self.next(buf) {
+        let came = match self.take(buf) {
             Ok(came) => Some(came),
             Err(Untaken::Fault) => return Err(ReceiveFault),
             Err(_) => None,
@@ -276,18 +221,15 @@ impl Socket {
     /// once.
     #[inline(always)]
     pub(crate) fn send(&mut self, octets: &[u8], to: Addr) -> bool
-        ensures to { option_map addr_of self.new.to ≡ Some (Some to) }
-        ensures waits { IsTrue result → self.new.waits ≡ false }
-        ensures same { self.new ≡ record self.old { to = self.new.to; waits = self.new.waits } }
+        ensures to { self.new.to ≡ sockaddr_of to }
+        ensures waits { self.new.flags ≡ at_once }
+        ensures same { self.new ≡ record self.old { to = self.new.to; flags = self.new.flags } }
     {
-        self.to = Some(socket_addr(to));
-        if self.set_waits(false).is_err() {
-            return false;
-        }
-        match self.udp.send_to(octets, socket_addr(to)) {
-            Ok(count) => count == octets.len(),
-            Err(_) => false,
-        }
+        self.to = raw_addr(to);
+        self.flags = AT_ONCE;
+        let fd = self.udp.as_raw_fd();
+        let count = unsafe { net::sendto(fd, octets, self.flags, &self.to, RAW_LEN) };
+        usize::try_from(count).is_ok_and(|count| count == octets.len())
     }
 }
 

@@ -1,6 +1,6 @@
 -- A daemon's session and its node in the run are alike, and stay so from turn to turn: what the daemons of a network did is the run of its
 -- events.
-use Rattle.std.proofs.Common.{sym, ap, ap₂, arith, append_assoc, length-append, ◌∙◌, ◌≡◌, ℕ, suc, ◌+◌, ℤ, List, [], ◌∷◌, ◌++◌, length, refl, subst, eq-eqb, ◌-◌}
+use Rattle.std.proofs.Common.{sym, ap, ap₂, arith, append_assoc, length-append, ◌∙◌, ◌≡◌, ℕ, suc, ◌+◌, ℤ, List, [], ◌∷◌, ◌++◌, length, refl, subst, subst₂, eq-eqb, ◌-◌}
 use Rattle.std.proofs.Common.{◌<◌, ◌≤◌, ◌==◌, Bool, true, false, slice_index_or, eqb-true, if◌then◌else◌, map, Option, None, Some}
 use Rattle.std.proofs.lemmas.Bool.{eqb-false, ne_eqb}
 use Rattle.tsp_args.specs.declared.serve.ServeWords.{ServeWords}
@@ -86,9 +86,8 @@ module _ (d : Daemons) (is : IsHeader d.header) where
   pub ticks_rise : (n t at : ℕ) → t ≤ at → daemon_tick d n t ≤ daemon_tick d n at
   ticks_rise n t at later =
       let set = each-is-set d.header is in
-      let same : set.0.rate n ≡ (node_line d.header n).rate = set.1.rate_is n in
       let mono = tick-mono set.0 n t at later in
-      subst (λ r. tick_at r t ≤ tick_at r at) same mono
+      subst₂ (λ x y. x ≤ y) (set.1.tick_is n t) (set.1.tick_is n at) mono
 
   -- a daemon that runs on node n has come to this life; and so has the node in a run that has come to this history at this true time
   pub record Agrees (n : ℕ) (life : Life) (t : ℕ) (h : List Line) : Type 0 where

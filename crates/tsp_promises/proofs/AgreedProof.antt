@@ -33,7 +33,7 @@ moved-by wall moved_h moved_c mean tick e = omega (arith, ints)
 -- the clock of k against m's clock as its Close left it
 pub core : (setting : Setting) (m : ℕ) (cpast : List Line) (mean : ℤ) (c : Line) (past : List Line) (r : Line) (rolder h : List Line) (err : ℤ) (t : ℕ) → Fits setting h → time_of (dids h) ≤ t →
     Unchanged (node_of c) (c ∷ past) h → Met setting m (node_of c) cpast mean c past r rolder err →
-    pos (nat_abs (clock_at setting (node_of c) h t -ℤ (((setting.wall m +ℤ moved (dids (of m cpast))) +ℤ mean) +ℤ pos (tick_at (setting.rate m) t)))) ≤ℤ (err +ℤ pos (2 * width setting.drift (t - r.did.step.at)))
+    pos (nat_abs (clock_at setting (node_of c) h t -ℤ (((setting.wall m +ℤ moved (dids (of m cpast))) +ℤ mean) +ℤ pos (setting.tick m t)))) ≤ℤ (err +ℤ pos (2 * width setting.drift (t - r.did.step.at)))
 core setting m cpast mean c past r rolder h err t f by u x =
     let k = node_of c in
     let moved_h : moved (dids (of k (c ∷ past))) ≡ moved (dids (of k h)) = unmoved setting k (c ∷ past) h f u.within u.since in
@@ -43,9 +43,9 @@ core setting m cpast mean c past r rolder h err t f by u x =
     let r_h : Within (r ∷ rolder) h = Within-through (r ∷ rolder) past h x.reads (Within-tail c past h u.within) in
     let order : r.did.step.at ≤ t = (let p = place-time setting (r ∷ rolder) h f r_h in omega arith) in
     let d = drift_apart setting k m r.did.step.at t order in
-    subst (λ z. pos (nat_abs (clock_at setting k h t -ℤ (((setting.wall m +ℤ z) +ℤ mean) +ℤ pos (tick_at (setting.rate m) t)))) ≤ℤ (err +ℤ pos (2 * width setting.drift (t - r.did.step.at)))) x.moved_m
+    subst (λ z. pos (nat_abs (clock_at setting k h t -ℤ (((setting.wall m +ℤ z) +ℤ mean) +ℤ pos (setting.tick m t)))) ≤ℤ (err +ℤ pos (2 * width setting.drift (t - r.did.step.at)))) x.moved_m
     (sums (setting.wall k) (setting.wall m) (moved (dids (of k (r ∷ rolder)))) (moved (dids (of k h))) (moved (dids (of m (r ∷ rolder)))) mean x.diff x.amount err
-    (tick_at (setting.rate k) r.did.step.at) (tick_at (setting.rate k) t) (tick_at (setting.rate m) r.did.step.at) (tick_at (setting.rate m) t) (2 * width setting.drift (t - r.did.step.at))
+    (setting.tick k r.did.step.at) (setting.tick k t) (setting.tick m r.did.step.at) (setting.tick m t) (2 * width setting.drift (t - r.did.step.at))
     x.amount_is k1 x.error d.0 d.1)
 
 pub agreed_peers : (setting : Setting) (h : List Line) (t : ℕ) → Given setting h → time_of (dids h) ≤ t → PeersAgree setting h t
@@ -53,7 +53,7 @@ agreed_peers setting h t g by m close cpast c d past qast r q rolder qolder e f 
     let one = whole setting m close cpast c past r rolder e (given_at setting (c ∷ past) h g u.within) x in
     let two = whole setting m close cpast d qast q qolder f (given_at setting (d ∷ qast) h g v.within) y in
     let mean : two.mean ≡ one.mean = same-mean one.count two.count one.lo two.lo one.size two.size one.mean two.mean (sym one.deed ∙ two.deed) in
-    triangle (clock_at setting (node_of c) h t) (clock_at setting (node_of d) h t) (((setting.wall m +ℤ moved (dids (of m cpast))) +ℤ one.mean) +ℤ pos (tick_at (setting.rate m) t)) e f
+    triangle (clock_at setting (node_of c) h t) (clock_at setting (node_of d) h t) (((setting.wall m +ℤ moved (dids (of m cpast))) +ℤ one.mean) +ℤ pos (setting.tick m t)) e f
     (2 * width setting.drift (t - r.did.step.at)) (2 * width setting.drift (t - q.did.step.at))
     (core setting m cpast one.mean c past r rolder h e t g.fits by u one.met)
     (core setting m cpast one.mean d qast q qolder h f t g.fits by v (subst (λ z. Met setting m (node_of d) cpast z d qast q qolder f) mean two.met))
@@ -65,7 +65,7 @@ agreed_master setting h t g by m close cpast c past r rolder e x u v =
     let close_in : Within (close ∷ cpast) h = Within-through (close ∷ cpast) past h x.closes past_h in
     let moved_is = master_moved setting m w.port close cpast w.fw h w.count w.lo w.size w.mean g.fits w.deed x.close_node close_in v (Within-through w.fw past h w.fw_in past_h) w.followed in
     subst (λ z. pos (nat_abs (clock_at setting (node_of c) h t -ℤ z)) ≤ℤ (e +ℤ pos (2 * width setting.drift (t - r.did.step.at))))
-    (sym (moved-by (setting.wall m) (moved (dids (of m h))) (moved (dids (of m cpast))) w.mean (tick_at (setting.rate m) t) moved_is)) (core setting m cpast w.mean c past r rolder h e t g.fits by u w.met)
+    (sym (moved-by (setting.wall m) (moved (dids (of m h))) (moved (dids (of m cpast))) w.mean (setting.tick m t) moved_is)) (core setting m cpast w.mean c past r rolder h e t g.fits by u w.met)
 
 clocks_agree : (setting : Setting) (h : List Line) (t : ℕ) → Given setting h → time_of (dids h) ≤ t → ClocksAgree setting h t
 clocks_agree setting h t g by = record { peers = agreed_peers setting h t g by; master = agreed_master setting h t g by }
@@ -102,7 +102,7 @@ bound_at setting h t g by m close cpast mean c past r older err s =
     let met = subst (λ z. Met setting m k cpast z c past r older err) is w.met in
     let o = place-time setting (c ∷ past) h g.fits s.within in
     let left = core setting m cpast mean c past r older (c ∷ past) err t gc.fits (omega arith) (record { within = inl refl; since = record { corrects = refl; lives = refl } }) met in
-    let taken = back (setting.wall k) (setting.wall m) (moved (dids (of k (c ∷ past)))) (moved (dids (of m cpast))) (moved (dids (of k h))) (moved (dids (of m h))) mean err (tick_at (setting.rate k) t) (tick_at (setting.rate m) t) (2 * width setting.drift (t - r.did.step.at)) left in
+    let taken = back (setting.wall k) (setting.wall m) (moved (dids (of k (c ∷ past)))) (moved (dids (of m cpast))) (moved (dids (of k h))) (moved (dids (of m h))) mean err (setting.tick k t) (setting.tick m t) (2 * width setting.drift (t - r.did.step.at)) left in
     record { taken_back = taken; now = besides (clock_at setting k h t) (clock_at setting m h t) (moved (dids (of k h)) -ℤ moved (dids (of k (c ∷ past)))) ((moved (dids (of m h)) -ℤ moved (dids (of m cpast))) -ℤ mean) (err +ℤ pos (2 * width setting.drift (t - r.did.step.at))) taken }
 
 -- a clock with what moved it since a place taken back is as that place left it
@@ -125,9 +125,9 @@ peers_bound setting h t g by m close cpast c d past qast r q rolder qolder e f x
     let near_d = core setting m cpast one.mean d qast q qolder (d ∷ qast) f t gd.fits (omega arith) (record { within = inl refl; since = record { corrects = refl; lives = refl } }) met in
     let v = 2 * width setting.drift (t - r.did.step.at) in
     let w = 2 * width setting.drift (t - q.did.step.at) in
-    let near = triangle (clock_at setting k (c ∷ past) t) (clock_at setting l (d ∷ qast) t) (((setting.wall m +ℤ moved (dids (of m cpast))) +ℤ one.mean) +ℤ pos (tick_at (setting.rate m) t)) e f v w near_c near_d in
-    let back_c = left-as (setting.wall k) (moved (dids (of k h))) (moved (dids (of k (c ∷ past)))) (tick_at (setting.rate k) t) in
-    let back_d = left-as (setting.wall l) (moved (dids (of l h))) (moved (dids (of l (d ∷ qast)))) (tick_at (setting.rate l) t) in
+    let near = triangle (clock_at setting k (c ∷ past) t) (clock_at setting l (d ∷ qast) t) (((setting.wall m +ℤ moved (dids (of m cpast))) +ℤ one.mean) +ℤ pos (setting.tick m t)) e f v w near_c near_d in
+    let back_c = left-as (setting.wall k) (moved (dids (of k h))) (moved (dids (of k (c ∷ past)))) (setting.tick k t) in
+    let back_d = left-as (setting.wall l) (moved (dids (of l h))) (moved (dids (of l (d ∷ qast)))) (setting.tick l t) in
     let taken = subst₂ (λ a b. pos (nat_abs (a -ℤ b)) ≤ℤ ((e +ℤ f) +ℤ pos (v + w))) (sym back_c) (sym back_d) near in
     record { taken_back = taken; now = besides (clock_at setting k h t) (clock_at setting l h t) (moved_since k (c ∷ past) h) (moved_since l (d ∷ qast) h) ((e +ℤ f) +ℤ pos (v + w)) taken }
 

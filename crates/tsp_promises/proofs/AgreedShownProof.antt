@@ -25,7 +25,7 @@ shown-within setting h t f k l b ku lu near =
 
 -- a clock that has met its target shows it
 shows-clock : (setting : Setting) (n : ℕ) (h : List Line) (t : ℕ) → Fits setting h → up (dids (of n h)) ≡ true → HasMet setting n h t → shown_at setting n h t ≡ clock_at setting n h t
-shows-clock setting n h t f u met = (meets_by (dids (of n h)) (tick_at (setting.rate n) t)).met met ∙ sym (clock_target setting n h t f u)
+shows-clock setting n h t f u met = (meets_by (dids (of n h)) (setting.tick n t)).met met ∙ sym (clock_target setting n h t f u)
 
 -- whoever was corrected has booted
 corrected-up : (setting : Setting) (m : ℕ) (close : Line) (cpast : List Line) (c : Line) (past : List Line) (r : Line) (older : List Line) (e : ℤ) (h : List Line) → Fits setting h → FromRound m close cpast c past r older e → Unchanged (node_of c) (c ∷ past) h → up (dids (of (node_of c) h)) ≡ true

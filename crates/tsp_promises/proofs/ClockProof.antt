@@ -52,9 +52,9 @@ pub stays_up : (n : ℕ) (s t : List Line) → Within s t → up (dids (of n s))
 stays_up n s t w e = up-lines (of n s) (of n t) (Within-of n s t w) e
 
 -- its clock is its target
-pub clock_target : (setting : Setting) (n : ℕ) (h : List Line) (t : ℕ) → Fits setting h → up (dids (of n h)) ≡ true → clock_at setting n h t ≡ target (dids (of n h)) (tick_at (setting.rate n) t)
+pub clock_target : (setting : Setting) (n : ℕ) (h : List Line) (t : ℕ) → Fits setting h → up (dids (of n h)) ≡ true → clock_at setting n h t ≡ target (dids (of n h)) (setting.tick n t)
 clock_target setting n h t f u = rw (base_is setting n h f u) refl
 
 -- and it shows that less what is left to slew
 pub shown_is : (setting : Setting) (n : ℕ) (h : List Line) (t : ℕ) → Fits setting h → up (dids (of n h)) ≡ true → shown_at setting n h t ≡ clock_at setting n h t -ℤ left_at setting n h t
-shown_is setting n h t f u = ap (λ z. z -ℤ rest_at (dids (of n h)) (tick_at (setting.rate n) t)) (sym (clock_target setting n h t f u))
+shown_is setting n h t f u = ap (λ z. z -ℤ rest_at (dids (of n h)) (setting.tick n t)) (sym (clock_target setting n h t f u))

@@ -60,8 +60,8 @@ times : (setting : Setting) (n : ℕ) (q r : Port) (s f : Did) (sw fw world : Li
 times setting n q r s f sw fw world w s_node f_node f_in s_in =
     let wf = fits_at setting (line_on r f ∷ fw) world w f_in in
     let order : s.step.at ≤ f.step.at = place-time setting (line_on q s ∷ sw) (line_on r f ∷ fw) wf (inr s_in) in
-    let tick_s : s.tick ≡ tick_at (setting.rate n) s.step.at = tick_in setting n (line_on q s) sw fw wf.1 s_node s_in in
-    let tick_f : f.tick ≡ tick_at (setting.rate n) f.step.at = tick_in setting n (line_on r f) fw world w f_node f_in in
+    let tick_s : s.tick ≡ setting.tick n s.step.at = tick_in setting n (line_on q s) sw fw wf.1 s_node s_in in
+    let tick_f : f.tick ≡ setting.tick n f.step.at = tick_in setting n (line_on r f) fw world w f_node f_in in
     let m = near setting n s.step.at f.step.at order in
     record {
       order = order;

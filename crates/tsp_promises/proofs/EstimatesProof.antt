@@ -36,13 +36,13 @@ off-by wk wm k0 m0 diff e kr kt mr mt w a b c = omega (arith, ints)
 
 -- an estimate holds at a later time, as long as its node is left alone
 holds : (setting : Setting) (m k : ℕ) (cpast : List Line) (x : Sampled) (start : Did) (r : Line) (older h : List Line) (t : ℕ) → Fits setting h → Within (r ∷ older) h → time_of (dids h) ≤ t → ReadAt setting m k cpast x start r older → Undisturbed (dids (of k (r ∷ older))) (dids (of k h)) →
-    pos (nat_abs (x.diff -ℤ (clock_at setting k h t -ℤ ((setting.wall m +ℤ moved (dids (of m cpast))) +ℤ pos (tick_at (setting.rate m) t))))) ≤ℤ (x.err +ℤ pos (2 * width setting.drift (t - r.did.step.at)))
+    pos (nat_abs (x.diff -ℤ (clock_at setting k h t -ℤ ((setting.wall m +ℤ moved (dids (of m cpast))) +ℤ pos (setting.tick m t))))) ≤ℤ (x.err +ℤ pos (2 * width setting.drift (t - r.did.step.at)))
 holds setting m k cpast x start r older h t f r_in by d u =
     let order : r.did.step.at ≤ t = (let p = place-time setting (r ∷ older) h f r_in in omega arith) in
     let a = drift_apart setting k m r.did.step.at t order in
     let still = unmoved setting k (r ∷ older) h f r_in u in
-    subst₂ (λ y z. pos (nat_abs (x.diff -ℤ (((setting.wall k +ℤ y) +ℤ pos (tick_at (setting.rate k) t)) -ℤ ((setting.wall m +ℤ z) +ℤ pos (tick_at (setting.rate m) t))))) ≤ℤ (x.err +ℤ pos (2 * width setting.drift (t - r.did.step.at)))) still d.moved_m
-    (off-by (setting.wall k) (setting.wall m) (moved (dids (of k (r ∷ older)))) (moved (dids (of m (r ∷ older)))) x.diff x.err (tick_at (setting.rate k) r.did.step.at) (tick_at (setting.rate k) t) (tick_at (setting.rate m) r.did.step.at) (tick_at (setting.rate m) t) (2 * width setting.drift (t - r.did.step.at)) d.error a.0 a.1)
+    subst₂ (λ y z. pos (nat_abs (x.diff -ℤ (((setting.wall k +ℤ y) +ℤ pos (setting.tick k t)) -ℤ ((setting.wall m +ℤ z) +ℤ pos (setting.tick m t))))) ≤ℤ (x.err +ℤ pos (2 * width setting.drift (t - r.did.step.at)))) still d.moved_m
+    (off-by (setting.wall k) (setting.wall m) (moved (dids (of k (r ∷ older)))) (moved (dids (of m (r ∷ older)))) x.diff x.err (setting.tick k r.did.step.at) (setting.tick k t) (setting.tick m r.did.step.at) (setting.tick m t) (2 * width setting.drift (t - r.did.step.at)) d.error a.0 a.1)
 
 two-near : (a b c d ref e f : ℤ) (v w : ℕ) → pos (nat_abs (a -ℤ (c -ℤ ref))) ≤ℤ (e +ℤ pos v) → pos (nat_abs (b -ℤ (d -ℤ ref))) ≤ℤ (f +ℤ pos w) → pos (nat_abs (a -ℤ b)) ≤ℤ ((pos (nat_abs (c -ℤ d)) +ℤ (e +ℤ f)) +ℤ pos (v + w))
 two-near a b c d ref e f v w h k = omega (arith, ints)
@@ -58,7 +58,7 @@ estimates-near setting close cpast g m k l count lo size mean x y r q rolder qol
     let f = g.fits in
     let c = close-fits setting m close cpast count lo size mean f deed node in
     let t = close.did.step.at in
-    two-near x.diff y.diff (clock_at setting k cpast t) (clock_at setting l cpast t) ((setting.wall m +ℤ moved (dids (of m cpast))) +ℤ pos (tick_at (setting.rate m) t)) x.err y.err (2 * width setting.drift (t - r.did.step.at)) (2 * width setting.drift (t - q.did.step.at))
+    two-near x.diff y.diff (clock_at setting k cpast t) (clock_at setting l cpast t) ((setting.wall m +ℤ moved (dids (of m cpast))) +ℤ pos (setting.tick m t)) x.err y.err (2 * width setting.drift (t - r.did.step.at)) (2 * width setting.drift (t - q.did.step.at))
     (holds setting m k cpast x c.start r rolder cpast t f.1 (reading-in m k close cpast x r rolder cpast d) f.0.order (reading setting m k close cpast x r rolder (close ∷ cpast) cpast g (inl refl) c d) d.unchanged)
     (holds setting m l cpast y c.start q qolder cpast t f.1 (reading-in m l close cpast y q qolder cpast e) f.0.order (reading setting m l close cpast y q qolder (close ∷ cpast) cpast g (inl refl) c e) e.unchanged)
 
@@ -69,8 +69,8 @@ near-mean setting m k close cpast count lo size mean x r older h t g by close_in
     let c = close-fits setting m close cpast count lo size mean (fits_at setting (close ∷ cpast) h g.fits close_in) deed node in
     let r_in : Within (r ∷ older) h = Within-through (r ∷ older) cpast h (reading-in m k close cpast x r older h e) (Within-tail close cpast h close_in) in
     let near = holds setting m k cpast x c.start r older h t g.fits r_in by (reading setting m k close cpast x r older h h g close_in c e) e.unchanged in
-    one-near x.diff mean (clock_at setting k h t) ((setting.wall m +ℤ moved (dids (of m cpast))) +ℤ pos (tick_at (setting.rate m) t)) (clock_at setting m h t) x.err (2 * width setting.drift (t - r.did.step.at)) near
-    (by-mean (setting.wall m) (moved (dids (of m h))) (moved (dids (of m cpast))) mean (tick_at (setting.rate m) t) moved_is)
+    one-near x.diff mean (clock_at setting k h t) ((setting.wall m +ℤ moved (dids (of m cpast))) +ℤ pos (setting.tick m t)) (clock_at setting m h t) x.err (2 * width setting.drift (t - r.did.step.at)) near
+    (by-mean (setting.wall m) (moved (dids (of m h))) (moved (dids (of m cpast))) mean (setting.tick m t) moved_is)
 
 master-near : (setting : Setting) (h : List Line) (t : ℕ) → Given setting h → time_of (dids h) ≤ t → MasterNear setting h t
 master-near setting h t g by m k close cpast mean f fw x r older f_in b e v =

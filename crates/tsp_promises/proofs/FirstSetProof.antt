@@ -18,10 +18,10 @@ core wm mh time wk mp mk amount tf tm tc tk e f g = omega (arith, ints)
 
 -- where a SETTIME and its Correct stand, and what the clock is behind by then
 record Set (setting : Setting) (m : ℕ) (c : Line) (past h : List Line) (s : SetBy m c past h) : Type 0 where
-  pub gap : (t : ℕ) → behind setting m c h t ≡ (pos (tick_at (setting.rate m) t) -ℤ pos (tick_at (setting.rate m) s.taking.first.step.at)) -ℤ (pos (tick_at (setting.rate (node_of c)) t) -ℤ pos (tick_at (setting.rate (node_of c)) c.did.step.at))
+  pub gap : (t : ℕ) → behind setting m c h t ≡ (pos (setting.tick m t) -ℤ pos (setting.tick m s.taking.first.step.at)) -ℤ (pos (setting.tick (node_of c) t) -ℤ pos (setting.tick (node_of c) c.did.step.at))
   pub order : s.taking.first.step.at ≤ s.taking.post.did.step.at
   pub after : s.taking.post.did.step.at ≤ c.did.step.at
-  pub ticks : tick_at (setting.rate m) s.taking.post.did.step.at ≤ tick_at (setting.rate m) s.taking.first.step.at + LAST
+  pub ticks : setting.tick m s.taking.post.did.step.at ≤ setting.tick m s.taking.first.step.at + LAST
 
 set : (setting : Setting) (m : ℕ) (c : Line) (past h : List Line) → Fits setting h → (s : SetBy m c past h) → Set setting m c past h s
 set setting m c past h f s =
@@ -45,24 +45,24 @@ set setting m c past h f s =
     let m_left : Undisturbed (dids (of m fw)) (dids (of m h)) = subst (λ b. Undisturbed b (dids (of m h))) begun s.unchanged_master in
     let m_moved = unmoved setting m fw h f fw_h m_left in
     let f_at : d.begins.first.step.at ≡ t.first.step.at = ap (λ (z : Did). z.step.at) d.first_is in
-    let f_tick : t.first.tick ≡ tick_at (setting.rate m) t.first.step.at = subst (λ (z : Did). z.tick ≡ tick_at (setting.rate m) z.step.at) d.first_is (tick_in setting m line fw h f node line_h) in
-    let time : time_in t.acts.brings.message.body ≡ (setting.wall m +ℤ moved (dids (of m h))) +ℤ pos (tick_at (setting.rate m) t.first.step.at) =
+    let f_tick : t.first.tick ≡ setting.tick m t.first.step.at = subst (λ (z : Did). z.tick ≡ setting.tick m z.step.at) d.first_is (tick_in setting m line fw h f node line_h) in
+    let time : time_in t.acts.brings.message.body ≡ (setting.wall m +ℤ moved (dids (of m h))) +ℤ pos (setting.tick m t.first.step.at) =
     ((d.fits.sets s.sets).time ∙ subst₂ (λ b x. target (plain t.begun) t.first.tick ≡ target b x) begun f_tick refl)
-    ∙ (sym (clock_target setting m fw t.first.step.at (fits_at setting fw h f fw_h) m_up) ∙ ap (λ z. (setting.wall m +ℤ z) +ℤ pos (tick_at (setting.rate m) t.first.step.at)) m_moved) in
+    ∙ (sym (clock_target setting m fw t.first.step.at (fits_at setting fw h f fw_h) m_up) ∙ ap (λ z. (setting.wall m +ℤ z) +ℤ pos (setting.tick m t.first.step.at)) m_moved) in
     -- the node that is set
     let k_up : up (dids (of k past)) ≡ true = subst (λ z. Alive setting z c.did (up (dids (of k past)))) t.acts.correct fc.0.alive in
     let seen : plain (view c.port (of k past)) ≡ dids (of k past) = plain_view c.port (of k past) in
-    let amount : t.acts.amount ≡ time_in t.acts.brings.message.body -ℤ ((setting.wall k +ℤ moved (dids (of k past))) +ℤ pos (tick_at (setting.rate k) c.did.step.at)) =
+    let amount : t.acts.amount ≡ time_in t.acts.brings.message.body -ℤ ((setting.wall k +ℤ moved (dids (of k past))) +ℤ pos (setting.tick k c.did.step.at)) =
     d.acting.takes.amount_is ∙ (ap (λ z. amount_of z (time_in t.acts.brings.message.body) (target (plain (view c.port (of k past))) c.did.tick)) s.sets
     ∙ ap (λ z. time_in t.acts.brings.message.body -ℤ z) (subst₂ (λ b x. target (plain (view c.port (of k past))) c.did.tick ≡ target b x) seen fc.0.tick refl ∙ sym (clock_target setting k past c.did.step.at fc.1 k_up))) in
     let moves = correct-moves c.did (dids (of k past)) t.acts.amount t.acts.stepped t.acts.shown t.acts.correct in
     let k_moved : moved (dids (of k h)) ≡ moved (dids (of k past)) +ℤ t.acts.amount =
     sym (unmoved setting k (c ∷ past) h f s.unchanged.within s.unchanged.since) ∙ (ap (λ w. moved (dids w)) (of-own k c past refl) ∙ moves.moved_is) in
-    let post_tick : t.post.did.tick ≡ tick_at (setting.rate m) t.post.did.step.at = tick_in setting m t.post t.before past fc.1 t.node post_in in
+    let post_tick : t.post.did.tick ≡ setting.tick m t.post.did.step.at = tick_in setting m t.post t.before past fc.1 t.node post_in in
     let after = place-time setting (t.post ∷ t.before) past fc.1 post_in in
     record {
       gap = λ at. core (setting.wall m) (moved (dids (of m h))) (time_in t.acts.brings.message.body) (setting.wall k) (moved (dids (of k past))) (moved (dids (of k h))) t.acts.amount
-          (tick_at (setting.rate m) t.first.step.at) (tick_at (setting.rate m) at) (tick_at (setting.rate k) c.did.step.at) (tick_at (setting.rate k) at) time amount k_moved;
+          (setting.tick m t.first.step.at) (setting.tick m at) (setting.tick k c.did.step.at) (setting.tick k at) time amount k_moved;
       order = (let o = d.begins.after in omega (arith, f_at));
       after = omega (arith, fc.0.order, after);
       ticks = (let o = d.begins.ticks in let e = ap (λ (z : Did). z.tick) d.first_is in omega (arith, e, f_tick, post_tick));
@@ -89,13 +89,13 @@ later setting m c past h f s t by =
     let order : a ≤ b = (let o = d.order in let p = d.after in omega arith) in
     let one = ticks_over setting m a t (omega arith) in
     let two = ticks_over setting k b t by in
-    let rm = setting.rate m in
-    let rk = setting.rate k in
+    let rm = setting.tick m in
+    let rk = setting.tick k in
     let v = width setting.drift (t - a) in
     let w = width setting.drift (t - b) in
     record {
-      low = low-sum (behind setting m c h t) (tick_at rm t) (tick_at rm a) (tick_at rk t) (tick_at rk b) t a b v w (d.gap t) order by one.1 two.0;
-      high = high-sum (behind setting m c h t) (tick_at rm t) (tick_at rm a) (tick_at rk t) (tick_at rk b) t a b v w (d.gap t) order by one.0 two.1;
+      low = low-sum (behind setting m c h t) (rm t) (rm a) (rk t) (rk b) t a b v w (d.gap t) order by one.1 two.0;
+      high = high-sum (behind setting m c h t) (rm t) (rm a) (rk t) (rk b) t a b v w (d.gap t) order by one.0 two.1;
     }
 
 at-once : (setting : Setting) (m : ℕ) (c : Line) (past h : List Line) → Fits setting h → (s : SetBy m c past h) → BehindAtOnce setting m c past h s
@@ -105,11 +105,11 @@ at-once setting m c past h f s =
     let b = c.did.step.at in
     let order : a ≤ b = (let o = d.order in let p = d.after in omega arith) in
     let one = ticks_over setting m a b order in
-    let rm = setting.rate m in
-    let tk = tick_at (setting.rate (node_of c)) b in
+    let rm = setting.tick m in
+    let tk = setting.tick (node_of c) b in
     record {
-      low = not-ahead (behind setting m c h b) (tick_at rm b) (tick_at rm a) tk (d.gap b) (tick-mono setting m a b order);
-      high = at-most (behind setting m c h b) (tick_at rm b) (tick_at rm a) tk (b - a + width setting.drift (b - a)) (d.gap b) (omega (arith, one.0));
+      low = not-ahead (behind setting m c h b) (rm b) (rm a) tk (d.gap b) (tick-mono setting m a b order);
+      high = at-most (behind setting m c h b) (rm b) (rm a) tk (b - a + width setting.drift (b - a)) (d.gap b) (omega (arith, one.0));
     }
 
 pub first_set : (setting : Setting) (world : List Line) → Fits setting world → FirstSet setting world
@@ -132,8 +132,8 @@ soon setting m c past h f life s =
     let lived : b ≤ p + LIFE = (Everywhere-within (TakenWithinAt LIFE) (c ∷ past) h life s.unchanged.within).0 t.post t.before (Peer (peer_of (node_of c))) (Message brings.message) brings.place brings.deed brings.cause in
     let one = ticks_over setting m p b d.after in
     let wide = width-mono setting.drift (b - p) LIFE (omega arith) in
-    let rm = setting.rate m in
-    at-most (behind setting m c h b) (tick_at rm b) (tick_at rm a) (tick_at (setting.rate (node_of c)) b) (LAST + LIFE + width setting.drift LIFE) (d.gap b) (let q = d.ticks in omega (arith, one.0))
+    let rm = setting.tick m in
+    at-most (behind setting m c h b) (rm b) (rm a) (setting.tick (node_of c) b) (LAST + LIFE + width setting.drift LIFE) (d.gap b) (let q = d.ticks in omega (arith, one.0))
 
 pub first_set_soon : (setting : Setting) (world : List Line) → Fits setting world → Life world → FirstSetSoon setting world
 first_set_soon setting world f life = Everywhere-from (λ (l : Line) (before : List Line). (m : ℕ) (c : Line) (past : List Line) (s : SetBy m c past (l ∷ before)) → behind setting m c (l ∷ before) c.did.step.at ≤ℤ pos (LAST + LIFE + width setting.drift LIFE)) world

@@ -58,14 +58,14 @@ in-own n q = (back n q).1
 abbrev pub still : Bool → Setting
 still strict = record {
   drift = 0;
-  rate = λ n. pos 0;
+  tick = λ n t. t;
   wall = λ n. pos 0;
   name = λ n. n ∷ [];
   strict = strict;
   net = λ n q. net_of n q.0;
   members = members_of;
   small = omega arith;
-  rates = λ n. omega arith;
+  ticks = λ n. record { rises = λ s x. omega arith; fast = λ s x. omega arith; slow = λ s x. omega arith };
   apart = nets-apart;
   own = λ n q. in-own n q.0;
 }

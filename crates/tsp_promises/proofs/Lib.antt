@@ -86,3 +86,4 @@ pub mod WitnessRounds
 pub mod WitnessUse
 pub mod WitnessWords
 pub mod WordsProof
+pub mod Rates

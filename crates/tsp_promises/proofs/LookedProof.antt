@@ -9,24 +9,12 @@ use Rattle.tsp_promises.{proofs.Clocks.tick-mono, proofs.MasterMoved.unmoved, sp
 abbrev part : ℕ → ℕ → ℕ
 part p x = (p * x + 999999) / 1000000
 
--- over a span a tick advances by it, give or take its drift rounded up
-sharp : (r : ℤ) (p s x : ℕ) → nat_abs r ≤ p → p ≤ 1000 →
-    (tick_at r (s + x) ≤ tick_at r s + x + part p x) × (tick_at r s + x ≤ tick_at r (s + x) + part p x)
-sharp (pos r) p s x small most =
-    let m : x * r ≤ x * p = mul-le-mul_left x small in
-    (omega arith, omega arith)
-sharp (negsuc r) p s x small most =
-    let m : x * (r + 1) ≤ x * p = mul-le-mul_left x (omega arith) in
-    let n : (s + x) * (r + 1) ≤ (s + x) * 1000 = mul-le-mul_left (s + x) (omega arith) in
-    let o : s * (r + 1) ≤ s * 1000 = mul-le-mul_left s (omega arith) in
-    (omega arith, omega arith)
-
 sharp_over : (setting : Setting) (n a b : ℕ) → a ≤ b →
-    (tick_at (setting.rate n) b ≤ tick_at (setting.rate n) a + (b - a) + part setting.drift (b - a)) × (tick_at (setting.rate n) a + (b - a) ≤ tick_at (setting.rate n) b + part setting.drift (b - a))
+    (setting.tick n b ≤ setting.tick n a + (b - a) + part setting.drift (b - a)) × (setting.tick n a + (b - a) ≤ setting.tick n b + part setting.drift (b - a))
 sharp_over setting n a b o =
     let e : a + (b - a) ≡ b = omega arith in
-    subst (λ w. (tick_at (setting.rate n) w ≤ tick_at (setting.rate n) a + (b - a) + part setting.drift (b - a)) × (tick_at (setting.rate n) a + (b - a) ≤ tick_at (setting.rate n) w + part setting.drift (b - a))) e
-    (sharp (setting.rate n) setting.drift a (b - a) (setting.rates n) setting.small)
+    subst (λ w. (setting.tick n w ≤ setting.tick n a + (b - a) + part setting.drift (b - a)) × (setting.tick n a + (b - a) ≤ setting.tick n w + part setting.drift (b - a))) e
+    (let k = setting.ticks n in (k.fast a (b - a), k.slow a (b - a)))
 
 -- the drift of a span is no more than that of a longer one
 part-mono : (p x y : ℕ) → x ≤ y → part p x ≤ part p y
@@ -67,12 +55,12 @@ looked-from setting h fits k m t look b le =
     let first = tick-mono setting k look.first look.middle look.begins in
     let second = tick-mono setting k look.middle look.last look.ends in
     let third = tick-mono setting k look.last t look.passed in
-    let kup : tick_at (setting.rate k) t ≤ tick_at (setting.rate k) look.last + span + e = let j = look.ends in omega (arith, late.0, less) in
-    let kdown : tick_at (setting.rate k) look.first + span ≤ tick_at (setting.rate k) t + e = omega (arith, mid.1, first) in
+    let kup : setting.tick k t ≤ setting.tick k look.last + span + e = let j = look.ends in omega (arith, late.0, less) in
+    let kdown : setting.tick k look.first + span ≤ setting.tick k t + e = omega (arith, mid.1, first) in
     rw kb (rw ka (rw mt (
     apart (setting.wall k +ℤ moved (dids (of k h))) (setting.wall m +ℤ moved (dids (of m h)))
-    (tick_at (setting.rate k) look.first) (tick_at (setting.rate k) look.last) (tick_at (setting.rate k) t)
-    (tick_at (setting.rate m) look.middle) (tick_at (setting.rate m) t) span e b
+    (setting.tick k look.first) (setting.tick k look.last) (setting.tick k t)
+    (setting.tick m look.middle) (setting.tick m t) span e b
     (omega (arith, first, second)) third mine.0 mine.1 kup kdown le)))
 
 pub looked : (setting : Setting) (h : List Line) → Fits setting h → Looked setting h

@@ -41,8 +41,8 @@ pub first_after : (setting : Setting) (k : ℕ) (c r : Line) (past rolder : List
     boot_tick (dids (of k past)) + QUIET ≤ c.did.tick → ticket (dids (of k rolder)) ≡ ticket (dids (of k past)) → c.did.step.at ≤ r.did.step.at + 65000000 → Kept (dids (of k (r ∷ rolder))) (dids (of k past))
 first_after setting k c r past rolder to datagram f c_node r_node deed place rested same soon =
     let order : r.did.step.at ≤ c.did.step.at = (let p = place-time setting (r ∷ rolder) past f.1 place in omega (arith, f.0.order)) in
-    let tick_c : c.did.tick ≡ tick_at (setting.rate k) c.did.step.at = subst (λ x. c.did.tick ≡ tick_at (setting.rate x) c.did.step.at) c_node f.0.tick in
-    let tick_r : r.did.tick ≡ tick_at (setting.rate k) r.did.step.at = tick_in setting k r rolder past f.1 r_node place in
+    let tick_c : c.did.tick ≡ setting.tick k c.did.step.at = subst (λ x. c.did.tick ≡ setting.tick x c.did.step.at) c_node f.0.tick in
+    let tick_r : r.did.tick ≡ setting.tick k r.did.step.at = tick_in setting k r rolder past f.1 r_node place in
     let own : dids (of k (r ∷ rolder)) ≡ r.did ∷ dids (of k rolder) = ap dids (of-own k r rolder r_node) in
     let by : tick_of (dids (of k past)) ≤ c.did.tick = subst (λ x. tick_of (dids (of x past)) ≤ c.did.tick) c_node (own_tick setting c past f) in
     let t : ticket (dids (of k (r ∷ rolder))) ≡ ticket (dids (of k past)) = ap ticket own ∙ rw deed same in

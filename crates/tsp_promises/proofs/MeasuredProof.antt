@@ -108,7 +108,7 @@ reading-t setting l r t world older tw p k counter number diff err w f s l_up r_
     let d_is : target (plain (view l.port (of n world))) l.did.tick ≡ target (dids (of n world)) l.did.tick = ap (λ x. target x l.did.tick) now_is in
     let t_at : t.did.step.at ≤ r.did.step.at = place-time setting (t ∷ tw) (r ∷ older) fr (inr t_in) in
     let r_at : r.did.step.at ≤ l.did.step.at = (let q = place-time setting (r ∷ older) world f.1 r_in in omega (arith, f.0.order)) in
-    let tick_t : t.did.tick ≡ tick_at (setting.rate n) t.did.step.at = tick_in setting n t tw older fr.1 asks.node t_in in
+    let tick_t : t.did.tick ≡ setting.tick n t.did.step.at = tick_in setting n t tw older fr.1 asks.node t_in in
     let m1 = tick-mono setting n t.did.step.at r.did.step.at t_at in
     let m2 = tick-mono setting n r.did.step.at l.did.step.at r_at in
     let clock_k : clock setting k (r ∷ older) ≡ s.reply.reading =
@@ -122,7 +122,7 @@ reading-t setting l r t world older tw p k counter number diff err w f s l_up r_
       takes = takes;
       number = g.ticket_is ∙ ap ticket (plain_view r.port (of k older));
       error = exchange (setting.wall n) (wall (dids (of n tw))) (wall (dids (of n world))) (moved (dids (of n tw))) (moved (dids (of n (r ∷ older)))) (moved (dids (of n world))) s.reply.reading diff err (clock setting k (r ∷ older)) (clock setting n (r ∷ older))
-          (target (plain s.older) s.post.tick) (target (plain (view l.port (of n world))) l.did.tick) (boot_tick (dids (of n tw))) (boot_tick (dids (of n world))) t.did.tick (tick_at (setting.rate n) r.did.step.at) l.did.tick
+          (target (plain s.older) s.post.tick) (target (plain (view l.port (of n world))) l.did.tick) (boot_tick (dids (of n tw))) (boot_tick (dids (of n world))) t.did.tick (setting.tick n r.did.step.at) l.did.tick
           base_t wall_t boot_t st.moved_mid moved_t (omega arith) (omega (arith, f.0.tick)) clock_k refl a_is d_is s.diff_is s.err_is;
       undisturbed = record { corrects = st.all_mid; lives = st.lives_mid };
       moved_is = st.moved_mid;

@@ -59,8 +59,8 @@ passed-close setting m r p q mf mg f g fw gw h w g_in f_in x y soon =
     let apart = passed-apart setting m r p q mf mg f g fw gw wg f_in x y in
     let order : f.step.at ≤ g.step.at = place-time setting (line_on r f ∷ fw) (line_on r g ∷ gw) wg (inr f_in) in
     let n = near setting m f.step.at g.step.at order in
-    let tick_f : f.tick ≡ tick_at (setting.rate m) f.step.at = tick_in setting m (line_on r f) fw gw wg.1 x.node f_in in
-    let tick_g : g.tick ≡ tick_at (setting.rate m) g.step.at = tick_in setting m (line_on r g) gw h w y.node g_in in
+    let tick_f : f.tick ≡ setting.tick m f.step.at = tick_in setting m (line_on r f) fw gw wg.1 x.node f_in in
+    let tick_g : g.tick ≡ setting.tick m g.step.at = tick_in setting m (line_on r g) gw h w y.node g_in in
     (let most = n.most in omega arith)
 
 -- soon after the date that port r of m began to pass on at f, port q of n takes no other of it

@@ -208,8 +208,8 @@ twice setting l world post older c past other rest first begun f life a w b s t 
     let node : node_of c ≡ n = sym same.0 in
     let order : c.did.step.at ≤ l.did.step.at = (let t = place-time setting (c ∷ past) world f.1 w in omega (arith, f.0.order)) in
     let law = near setting n c.did.step.at l.did.step.at order in
-    let tick_c : c.did.tick ≡ tick_at (setting.rate n) c.did.step.at = tick_in setting n c past world f.1 node w in
-    let tick_l : l.did.tick ≡ tick_at (setting.rate n) l.did.step.at = f.0.tick in
+    let tick_c : c.did.tick ≡ setting.tick n c.did.step.at = tick_in setting n c past world f.1 node w in
+    let tick_l : l.did.tick ≡ setting.tick n l.did.step.at = f.0.tick in
     record {
       late = x;
       early = y;

@@ -155,7 +155,7 @@ apart setting c a b net r s t u world f differ x y = elim (Within-comparable (x.
 won-soon : (setting : Setting) (a : ℕ) (q : Port) (l : Line) (world : List Line) → Polled setting (l ∷ world) → (v : Won setting a q l world) → l.did.step.at ≤ v.win.start.step.at + 6006010
 won-soon setting a q l world w v =
     let s_tick = tick_in setting a (line_on q v.win.start) v.so world w.fits.1 v.start_node v.place in
-    let l_tick : l.did.tick ≡ tick_at (setting.rate a) l.did.step.at = subst (λ n. l.did.tick ≡ tick_at (setting.rate n) l.did.step.at) v.node w.fits.0.tick in
+    let l_tick : l.did.tick ≡ setting.tick a l.did.step.at = subst (λ n. l.did.tick ≡ setting.tick n l.did.step.at) v.node w.fits.0.tick in
     let by = place-time setting (line_on q v.win.start ∷ v.so) world w.fits.1 v.place in
     let order = w.fits.0.order in
     let n = near setting a v.win.start.step.at l.did.step.at (omega (arith, by, order)) in

@@ -13,8 +13,8 @@ use Rattle.tsp_promises.specs.{OwnFits.OwnFits, OwnFits.OwnLineFits, PortFits.Po
 use Rattle.tsp_promises.proofs.{Clocks.tick-mono, EverywhereLemmas.Everywhere-at, EverywhereLemmas.Everywhere-within}
 
 -- a line's tick, by its node's number
-pub tick_is : (setting : Setting) (n : ℕ) (l : Line) (world : List Line) → node_of l ≡ n → LineFits setting l world → l.did.tick ≡ tick_at (setting.rate n) l.did.step.at
-tick_is setting n l world same f = subst (λ k. l.did.tick ≡ tick_at (setting.rate k) l.did.step.at) same f.tick
+pub tick_is : (setting : Setting) (n : ℕ) (l : Line) (world : List Line) → node_of l ≡ n → LineFits setting l world → l.did.tick ≡ setting.tick n l.did.step.at
+tick_is setting n l world same f = subst (λ k. l.did.tick ≡ setting.tick k l.did.step.at) same f.tick
 
 -- the line before in the history is the line before of the node
 pub own-step : (deed : Deed) (step : Step) (n : ℕ) (world : List Line) → step.node ≡ n → SameStep deed step (dids world) → SameStep deed step (dids (of n world))
@@ -25,7 +25,7 @@ own-step (Acts a) step n (x ∷ world) same e =
     rw (of-own n x world node) e
 
 own-line-fits : (setting : Setting) (n : ℕ) (l : Line) (world : List Line) → node_of l ≡ n → LineFits setting l world →
-    time_of (dids (of n world)) ≤ time_of (dids world) → tick_of (dids (of n world)) ≤ tick_at (setting.rate n) (time_of (dids world)) → OwnLineFits setting l (of n world)
+    time_of (dids (of n world)) ≤ time_of (dids world) → tick_of (dids (of n world)) ≤ setting.tick n (time_of (dids world)) → OwnLineFits setting l (of n world)
 own-line-fits setting n l world same f time tick = record {
   time = omega (arith, f.order);
   tick = omega (arith, tick-mono setting n (time_of (dids world)) l.did.step.at f.order, tick_is setting n l world same f);
@@ -51,8 +51,8 @@ of-time setting n =
     node_walk setting n (λ world own. time_of (dids own) ≤ time_of (dids world)) (omega arith) (λ l world f node h. omega arith)
     (λ l world f h. omega (arith, f.0.order, h))
 
-pub of-tick : (setting : Setting) (n : ℕ) (world : List Line) → Fits setting world → tick_of (dids (of n world)) ≤ tick_at (setting.rate n) (time_of (dids world))
-of-tick setting n = node_walk setting n (λ world own. tick_of (dids own) ≤ tick_at (setting.rate n) (time_of (dids world))) (omega arith)
+pub of-tick : (setting : Setting) (n : ℕ) (world : List Line) → Fits setting world → tick_of (dids (of n world)) ≤ setting.tick n (time_of (dids world))
+of-tick setting n = node_walk setting n (λ world own. tick_of (dids own) ≤ setting.tick n (time_of (dids world))) (omega arith)
     (λ l world f node h. omega (arith, tick_is setting n l world node f.0))
     (λ l world f h. omega (arith, tick-mono setting n (time_of (dids world)) l.did.step.at f.0.order, h))
 
@@ -152,7 +152,7 @@ seen_in n l older world node w =
 pub fits_in : (setting : Setting) (l : Line) (older world : List Line) → Fits setting world → Within (l ∷ older) world → LineFits setting l older
 fits_in setting l older world f w = Everywhere-at (LineFits setting) l older world f w
 
-pub tick_in : (setting : Setting) (n : ℕ) (l : Line) (older world : List Line) → Fits setting world → node_of l ≡ n → Within (l ∷ older) world → l.did.tick ≡ tick_at (setting.rate n) l.did.step.at
+pub tick_in : (setting : Setting) (n : ℕ) (l : Line) (older world : List Line) → Fits setting world → node_of l ≡ n → Within (l ∷ older) world → l.did.tick ≡ setting.tick n l.did.step.at
 tick_in setting n l older world f node w = tick_is setting n l older node (fits_in setting l older world f w)
 
 -- order of what a port sees is order in the history

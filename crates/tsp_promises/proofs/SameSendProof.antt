@@ -34,7 +34,7 @@ spaced-deed low s t d (Acts (Correct amount stepped shown)) by last f h = record
 }
 spaced-deed low s t d _ by last f h = record { all = h.all; spaced = h.spaced }
 
-spaced-more : (setting : Setting) (low k : ℕ) (s : List Did) (l : Line) (h : List Line) (b : Bool) → (node_of l == k) ≡ b → Fits setting (l ∷ h) → low ≤ tick_at (setting.rate k) l.did.step.at → SpacedFrom low s (dids (of k h)) → SpacedFrom low s (dids (of k (l ∷ h)))
+spaced-more : (setting : Setting) (low k : ℕ) (s : List Did) (l : Line) (h : List Line) (b : Bool) → (node_of l == k) ≡ b → Fits setting (l ∷ h) → low ≤ setting.tick k l.did.step.at → SpacedFrom low s (dids (of k h)) → SpacedFrom low s (dids (of k (l ∷ h)))
 spaced-more setting low k s l h true e f by i =
     let tick = tick_is setting k l h (eqb-true (node_of l) k e) f.0 in
     let own : OwnFits setting (l ∷ of k h) = rw e at (own_fits setting k (l ∷ h) f) in
@@ -42,11 +42,11 @@ spaced-more setting low k s l h true e f by i =
     rw e (spaced-deed low s (dids (of k h)) l.did l.did.deed (omega arith) (omega (arith, own.0.tick)) (apart_if setting l (of k h) own.0) i)
 spaced-more setting low k s l h false e f by i = rw e i
 
-pub spaced_from : (setting : Setting) (k : ℕ) (s h : List Line) → Fits setting h → Within s h → SpacedFrom (tick_at (setting.rate k) (time_of (dids s))) (dids (of k s)) (dids (of k h))
-spaced_from setting k s [] f e = subst (λ w. SpacedFrom (tick_at (setting.rate k) (time_of (dids w))) (dids (of k w)) []) (sym e) (record { all = omega arith; spaced = λ q. omega arith })
-spaced_from setting k s (l ∷ h) f (inl e) = subst (λ w. SpacedFrom (tick_at (setting.rate k) (time_of (dids w))) (dids (of k w)) (dids (of k (l ∷ h)))) (sym e) (record { all = omega arith; spaced = λ q. omega arith })
+pub spaced_from : (setting : Setting) (k : ℕ) (s h : List Line) → Fits setting h → Within s h → SpacedFrom (setting.tick k (time_of (dids s))) (dids (of k s)) (dids (of k h))
+spaced_from setting k s [] f e = subst (λ w. SpacedFrom (setting.tick k (time_of (dids w))) (dids (of k w)) []) (sym e) (record { all = omega arith; spaced = λ q. omega arith })
+spaced_from setting k s (l ∷ h) f (inl e) = subst (λ w. SpacedFrom (setting.tick k (time_of (dids w))) (dids (of k w)) (dids (of k (l ∷ h)))) (sym e) (record { all = omega arith; spaced = λ q. omega arith })
 spaced_from setting k s (l ∷ h) f (inr w) =
-    spaced-more setting (tick_at (setting.rate k) (time_of (dids s))) k (dids (of k s)) l h (node_of l == k) refl f
+    spaced-more setting (setting.tick k (time_of (dids s))) k (dids (of k s)) l h (node_of l == k) refl f
     (tick-mono setting k (time_of (dids s)) l.did.step.at (omega (arith, place-time setting s h f.1 w, f.0.order))) (spaced_from setting k s h f.1 w)
 
 last-of-post : (peer number correct begins : Bool) (d : Did) (before now last : List Seen) → (correct ≡ true → number ≡ true) → (corrects_by (message_at (Here d ∷ before)) ≡ correct) →
@@ -214,8 +214,8 @@ not-recent setting m k q world f s p fw sw o mf ms w h f_in f_node cf s_in s_nod
     let wf = fits_at setting (line_on q f ∷ fw) world w f_in in
     let p_fw = before_later m k q f s p fw sw o world mf f_node p_node cf f_in p_in is (seen_in m (line_on q s) sw fw s_node s_in) in
     let order : p.step.at ≤ f.step.at = place-time setting (line_on q p ∷ o) (line_on q f ∷ fw) wf (inr p_fw) in
-    let tick_f : f.tick ≡ tick_at (setting.rate m) f.step.at = tick_in setting m (line_on q f) fw world w f_node f_in in
-    let tick_p : p.tick ≡ tick_at (setting.rate m) p.step.at = tick_in setting m (line_on q p) o world w p_node p_in in
+    let tick_f : f.tick ≡ setting.tick m f.step.at = tick_in setting m (line_on q f) fw world w f_node f_in in
+    let tick_p : p.tick ≡ setting.tick m p.step.at = tick_in setting m (line_on q p) o world w p_node p_in in
     let n = near setting m p.step.at f.step.at order in
     elim (fresh setting m k q world w h f s fw sw mf ms f_in f_node cf s_in s_node cs) [
       | inl old ↦ (let z = old p o ms p_fw p_node p_deed cs.kind is in let most = n.most in omega arith)

@@ -134,25 +134,25 @@ over : (early late : ℤ) (x y t w : ℕ) → Near 199 early late x y → x ≤ 
 over early late x y t w n o p q = omega (arith, ints, n)
 
 -- a node's last tick is that of its last time
-own-at : (setting : Setting) (n : ℕ) (s : List Line) → Fits setting s → tick_of (dids (of n s)) ≤ tick_at (setting.rate n) (time_of (dids (of n s)))
-own-at setting n = node_walk setting n (λ world own. tick_of (dids own) ≤ tick_at (setting.rate n) (time_of (dids own))) (omega arith)
+own-at : (setting : Setting) (n : ℕ) (s : List Line) → Fits setting s → tick_of (dids (of n s)) ≤ setting.tick n (time_of (dids (of n s)))
+own-at setting n = node_walk setting n (λ world own. tick_of (dids own) ≤ setting.tick n (time_of (dids own))) (omega arith)
     (λ l s f node h. omega (arith, tick_is setting n l s node f.0)) (λ l s f h. h)
 
 pub runs_over_time : (setting : Setting) (h : List Line) → Fits setting h → RunsOverTime setting h
 runs_over_time setting h f n s a b u r =
-    let rate = setting.rate n in
+    let rate = setting.tick n in
     let from = own-at setting n s (fits_at setting s h f u.within) in
     let from_a = tick-mono setting n (time_of (dids (of n s))) a r.from in
     let to = own-at setting n h f in
     let to_b = tick-mono setting n (time_of (dids (of n h))) b r.to in
     let order = tick-mono setting n a b r.order in
-    let next : NextFrom n (tick_at rate a) s h = λ l before w v node.
+    let next : NextFrom n (rate a) s h = λ l before w v node.
     let t = tick_in setting n l before h f node w in
     let m = tick-mono setting n a l.did.step.at (r.next l before w v node) in
     omega (arith, t, m) in
-    let near = steadily setting n h s (tick_at rate a) (tick_at rate b) f u.within u.lives u.none (omega (arith, from, from_a)) next (omega (arith, to, to_b)) order in
+    let near = steadily setting n h s (rate a) (rate b) f u.within u.lives u.none (omega (arith, from, from_a)) next (omega (arith, to, to_b)) order in
     let t = ticks_over setting n a b r.order in
-    over (shown_at setting n s a) (shown_at setting n h b) (tick_at rate a) (tick_at rate b) (b - a) (width setting.drift (b - a)) near order t.0 t.1
+    over (shown_at setting n s a) (shown_at setting n h b) (rate a) (rate b) (b - a) (width setting.drift (b - a)) near order t.0 t.1
 
 pub steady : (setting : Setting) (world : List Line) → Fits setting world → Steady setting world
 steady setting world f = Everywhere-from (λ (l : Line) (s : List Line). SteadyAt setting (l ∷ s)) world

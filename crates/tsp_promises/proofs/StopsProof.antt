@@ -197,8 +197,8 @@ stops_by setting h f end life ring x y past xpast ypast ring_in rings x_in tx y_
     let order : x.did.step.at ≤ time_of (dids h) = place-time setting (x ∷ xpast) h f x_in in
     let now : time_of (dids h) ≡ y.did.step.at = last_time (y.did) (dids ypast) (dids h) (all-stepped setting h f) (Within-dids (y ∷ ypast) h y_in) last in
     let n = near setting r x.did.step.at (time_of (dids h)) order in
-    let tick_x : x.did.tick ≡ tick_at (setting.rate r) x.did.step.at = fx.0.tick in
-    let limit = tick_at (setting.rate r) (time_of (dids h)) in
+    let tick_x : x.did.tick ≡ setting.tick r x.did.step.at = fx.0.tick in
+    let limit = setting.tick r (time_of (dids h)) in
     let soon : limit < x.did.tick + ELECT_MIN = (let k = n.most in let a = one.after in let b = two.soon in omega arith) in
     let o = owing setting x.port (peer_of (node_of ring)) x (of r xpast) (of r h) limit (own_fits setting r h f) tx.quits (sees-own x.port (is_shared x.did.deed)) (own_in r x xpast h refl x_in) (of-tick setting r h f) soon leads in
     let follows : role (view x.port (of r h)) ≡ Follow o.peer = (end r x.port).follows o.peer o.is in

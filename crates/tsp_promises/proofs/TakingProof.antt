@@ -80,8 +80,8 @@ round-soon setting m q close cpast past start idle f close_in node start_is soon
     let ls = locate m q cpast start idle (rw sa.deed refl) sa.place in
     let order : start.step.at ≤ close.did.step.at = (let p = place-time setting (line_on q start ∷ ls.older) cpast fc.1 ls.place in omega (arith, fc.0.order)) in
     let n = near setting m start.step.at close.did.step.at order in
-    let tick_s : start.tick ≡ tick_at (setting.rate m) start.step.at = tick_in setting m (line_on q start) ls.older cpast fc.1 ls.node ls.place in
-    let tick_c : close.did.tick ≡ tick_at (setting.rate m) close.did.step.at = tick_in setting m close cpast past f node close_in in
+    let tick_s : start.tick ≡ setting.tick m start.step.at = tick_in setting m (line_on q start) ls.older cpast fc.1 ls.node ls.place in
+    let tick_c : close.did.tick ≡ setting.tick m close.did.step.at = tick_in setting m close cpast past f node close_in in
     (let k = n.least in omega arith)
 
 -- what the Close that begins a correction owes, from the sample that it had

@@ -262,7 +262,7 @@ asked_late setting a q x xo p number start w node rested v o =
     elim i.life [
       | inr new ↦
           let tick_e = tick_in setting a v.e v.eo xo wx.fits v.asker e_in in
-          let tick_x : x.tick ≡ tick_at (setting.rate a) x.step.at = subst (λ n. x.tick ≡ tick_at (setting.rate n) x.step.at) node w.fits.0.tick in
+          let tick_x : x.tick ≡ setting.tick a x.step.at = subst (λ n. x.tick ≡ setting.tick n x.step.at) node w.fits.0.tick in
           let e_by = place-time setting (v.e ∷ v.eo) xo wx.fits e_in in
           let n = near setting a v.e.did.step.at x.step.at (omega (arith, w.fits.0.order, e_by)) in
           absurd (omega (arith, new.boot, rested, g.soon, v.early, v.soon, tick_e, tick_x, n.most))

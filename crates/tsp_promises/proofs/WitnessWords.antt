@@ -1,5 +1,7 @@
 -- Boots with one word: promises that hold all the same, and a measurement that goes wrong where datagrams live long.
 -- A reply of an earlier life. And looks at clocks.
+use Rattle.tsp_promises.proofs.Rates.{keeps_time}
+use Rattle.tsp_base.specs.Ticks.{tick_at}
 use Rattle.std.proofs.Common.{sym, arith, subst, inl, ℕ, zero, suc, ◌≡◌, ◌-◌, ◌≤◌, ◌≤ℤ◌, ◌-ℤ◌, nat_abs, ℤ, true, false, pos, negsuc, List, [], ◌∷◌, refl}
 use Rattle.tsp_rules.specs.Values.{Post, Arm, Ring, Close, Correct, Round, CloseAlarm, Message, Stamp, AdjTime, SetTime, TimeBody, Peer, Request, Reply}
 use Rattle.tsp_base.specs.Words.{Came, Did, Here, Line, ReplyValue, Seen, dids, peer_of, posted}
@@ -176,7 +178,7 @@ at_once k m = record {
 
 pub looks_use : LooksUse
 looks_use = record {
-  setting = record (still false) { drift = 100; rate = rate_of; small = omega arith; rates = rates-small };
+  setting = record (still false) { drift = 100; tick = λ n. tick_at (rate_of n); small = omega arith; ticks = λ n. keeps_time (rate_of n) 100 (rates-small n) (omega arith) };
   fits = tt;
   drifts = refl;
   fast = at_once 1 0;

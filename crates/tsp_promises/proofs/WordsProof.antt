@@ -186,8 +186,8 @@ request-life : (setting : Setting) (n : ℕ) (q t : Line) (a b : List Line) (p r
 request-life setting n q t a b p r w c v d f x y i why =
     let s = since setting (of n (q ∷ a)) (of n b) (own_fits setting n b f.1) (Within-of n (q ∷ a) b i) in
     let order : q.did.step.at ≤ t.did.step.at = (let o = place-time setting (q ∷ a) b f.1 i in omega (arith, f.0.order)) in
-    let tick_q : q.did.tick ≡ tick_at (setting.rate n) q.did.step.at = tick_in setting n q a b f.1 x.node i in
-    let tick_t : t.did.tick ≡ tick_at (setting.rate n) t.did.step.at = subst (λ k. t.did.tick ≡ tick_at (setting.rate k) t.did.step.at) y.node f.0.tick in
+    let tick_q : q.did.tick ≡ setting.tick n q.did.step.at = tick_in setting n q a b f.1 x.node i in
+    let tick_t : t.did.tick ≡ setting.tick n t.did.step.at = subst (λ k. t.did.tick ≡ setting.tick k t.did.step.at) y.node f.0.tick in
     let at : tick_of (dids (of n (q ∷ a))) ≡ q.did.tick = ap tick_of (ap dids (of-own n q a x.node)) in
     let rested = asks-rested setting n t b r v d y f.0 in
     let m = near setting n q.did.step.at t.did.step.at order in

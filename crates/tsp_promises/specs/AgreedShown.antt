@@ -12,7 +12,7 @@ ShownWithin setting h t k l b = pos (nat_abs (shown_at setting k h t -ℤ shown_
 
 -- nothing is left to slew on node n at true time t: its clock shows its target
 abbrev pub HasMet : Setting → ℕ → List Line → ℕ → Type 0
-HasMet setting n h t = last_correct (dids (of n h)) + 200 * nat_abs (rest (dids (of n h))) ≤ tick_at (setting.rate n) t
+HasMet setting n h t = last_correct (dids (of n h)) + 200 * nat_abs (rest (dids (of n h))) ≤ setting.tick n t
 
 -- the shown values of two nodes differ so, and by at most b alone once both clocks show their targets
 pub record ShownBy (setting : Setting) (h : List Line) (t : ℕ) (k l : ℕ) (b : ℤ) : Type 0 where

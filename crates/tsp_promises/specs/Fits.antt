@@ -1,7 +1,7 @@
 -- Histories that fit: each line has what a schedule gives it, and does what it owes to the lines before it.
 use Rattle.std.specs.Prelude.{◌≡◌, ◌≤◌, ◌<◌, ℕ, ◌^◌, ◌==◌, ◌||◌, pos, ◌+ℤ◌, Bool, true, List, [], ◌∷◌}
 use Rattle.tsp_rules.specs.Values.{Boot, Took, Post, Datagram, Taken, Good, Place, Peer, Port}
-use Rattle.tsp_base.specs.Words.{Cause, Booted, Turned, Came, Handed, Step, Deed, Begins, Acts, Did, Line, of, dids, view, is_shared, time_of, up, Within, peer_of, posted, tick_at}
+use Rattle.tsp_base.specs.Words.{Cause, Booted, Turned, Came, Handed, Step, Deed, Begins, Acts, Did, Line, of, dids, view, is_shared, time_of, up, Within, peer_of, posted}
 use Rattle.tsp_promises.specs.{DeedFits.DeedFits, Everywhere.Everywhere, Setting.Setting, Setting.setup_of, StepFacts.StepEnds}
 
 -- the node of a line
@@ -50,7 +50,7 @@ TookFits Turned setting l world from taken = ⊥
 -- datagrams were posted, and it does what it owes on each port that sees it
 pub record LineFits (setting : Setting) (l : Line) (world : List Line) : Type 0 where
   pub order : time_of (dids world) ≤ l.did.step.at
-  pub tick : l.did.tick ≡ tick_at (setting.rate (node_of l)) l.did.step.at
+  pub tick : l.did.tick ≡ setting.tick (node_of l) l.did.step.at
   pub few : posted (dids world) < 2 ^ 64
   pub step : SameStep l.did.deed l.did.step (dids world)
   pub alive : Alive setting l.did.deed l.did (up (dids (of (node_of l) world)))

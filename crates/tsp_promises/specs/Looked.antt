@@ -29,7 +29,7 @@ high setting {k} {m} look = clock_at setting m look.there look.middle -ℤ clock
 
 -- k's ticks since its first reading
 abbrev pub ticks_since : Setting → {k m : ℕ} {h : List Line} {t : ℕ} → Look k m h t → ℕ
-ticks_since setting {k} {m} {h} {t} look = tick_at (setting.rate k) t - tick_at (setting.rate k) look.first
+ticks_since setting {k} {m} {h} {t} look = setting.tick k t - setting.tick k look.first
 
 -- how far, at most, a clock's advance over so many ticks of another one differs from the true time, at this drift
 abbrev pub width_by_ticks : ℕ → ℕ → ℕ

@@ -1,5 +1,5 @@
 -- What is around the nodes of a history: their clocks, names and networks.
-use Rattle.std.specs.Prelude.{◌≡◌, ◌≤◌, ℕ, ℤ, Bool, true, List, nat_abs}
+use Rattle.std.specs.Prelude.{◌≡◌, ◌≤◌, ℕ, ◌+◌, ◌*◌, ◌/◌, ℤ, Bool, true, List}
 use Rattle.tsp_rules.specs.Values.{PeerId, Port}
 use Rattle.tsp_base.specs.Words.{is_among, Setup, peer_of}
 
@@ -9,19 +9,26 @@ pub data Network : Type 0 where
   Named : (k : ℕ) → Network
   Alone : (n : ℕ) → (q : ℕ) → Network
 
+-- a counter keeps this drift (parts in a million): it never falls, and over x microseconds of true time it advances by x, give or take the
+-- drift, rounded up
+pub record KeepsTime (drift : ℕ) (tick : ℕ → ℕ) : Type 0 where
+  pub rises : (s x : ℕ) → tick s ≤ tick (s + x)
+  pub fast : (s x : ℕ) → tick (s + x) ≤ tick s + x + (drift * x + 999999) / 1000000
+  pub slow : (s x : ℕ) → tick s + x ≤ tick (s + x) + (drift * x + 999999) / 1000000
+
 -- the greatest drift, at most 1,000, and each node's rate, both in parts in a million; its wall clock at tick 0, in
 -- microseconds; its name; the network of each of its ports, and who is on it; and whether elections are strict, so that
 -- a candidate needs a majority
 pub record Setting : Type 0 where
   pub drift : ℕ
-  pub rate : ℕ → ℤ
+  pub tick : ℕ → ℕ → ℕ
   pub wall : ℕ → ℤ
   pub name : ℕ → List ℕ
   pub strict : Bool
   pub net : ℕ → Port → Network
   pub members : Network → List PeerId
   pub small : drift ≤ 1000
-  pub rates : (n : ℕ) → nat_abs (rate n) ≤ drift
+  pub ticks : (n : ℕ) → KeepsTime drift (tick n)
   -- a node is on each network by one port
   pub apart : (n : ℕ) (p q : Port) → net n p ≡ net n q → p ≡ q
   -- a node is a member of its networks

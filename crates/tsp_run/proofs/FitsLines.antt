@@ -118,7 +118,7 @@ some_deed a from t e = ap act_in e where
   act_in (Acts b) = b
 
 -- one act more
-act_line : (setting : Setting) (step : Step) (x : ℕ) (history : List Line) (port : Port) (d : Deed) (before : List Line) (p : Placed) → x ≡ tick_at (setting.rate step.node) step.at → Within history (line_of step x port d ∷ before) →
+act_line : (setting : Setting) (step : Step) (x : ℕ) (history : List Line) (port : Port) (d : Deed) (before : List Line) (p : Placed) → x ≡ setting.tick step.node step.at → Within history (line_of step x port d ∷ before) →
     posted (dids (line_of step x port d ∷ before)) < 2 ^ 64 → Alive setting (Acts p.act) (record { step = step; tick = x; deed = Acts p.act }) (up (dids (of step.node (line_of step x port d ∷ before)))) →
     TakenOk setting step x history p.port p.act → (is_shared (Acts p.act) ≡ false → ActFits (setup_of setting step.node p.port) p.act (record { step = step; tick = x; deed = Acts p.act }) (view p.port (of step.node (line_of step x port d ∷ before)))) →
     LineFits setting (line_of step x p.port (Acts p.act)) (line_of step x port d ∷ before)
@@ -147,7 +147,7 @@ posted-joined step x (p ∷ rest) h =
     omega (arith, posted-mono h (l ∷ h) (inr (Within-all h)), posted-joined step x rest (l ∷ h))
 
 -- all acts of a step
-pub acts_fit : (ports : ℕ) (setting : Setting) (step : Step) (x : ℕ) (history : List Line) (acts : List Placed) (port : Port) (d : Deed) (before : List Line) → x ≡ tick_at (setting.rate step.node) step.at →
+pub acts_fit : (ports : ℕ) (setting : Setting) (step : Step) (x : ℕ) (history : List Line) (acts : List Placed) (port : Port) (d : Deed) (before : List Line) → x ≡ setting.tick step.node step.at →
     ActsOn ports acts → Within history (line_of step x port d ∷ before) → posted (dids (joined step x acts (line_of step x port d ∷ before))) < 2 ^ 64 →
     AllAlive setting step x (up (dids (of step.node (line_of step x port d ∷ before)))) acts → AllTaken setting step x history acts →
     ((q : Port) → q.0 < ports → PortFits (setup_of setting step.node q) (view q (of step.node (joined step x acts (line_of step x port d ∷ before))))) → Fits setting (line_of step x port d ∷ before) →
@@ -165,7 +165,7 @@ acts_fit ports setting step x history (p ∷ rest) port d before tick on w few a
     (line, f)
 
 -- the mark of a step
-pub mark_line : (ports : ℕ) (setting : Setting) (step : Step) (x : ℕ) (history : List Line) → x ≡ tick_at (setting.rate step.node) step.at → AreOn ports (of step.node history) → time_of (dids history) ≤ step.at → posted (dids history) < 2 ^ 64 →
+pub mark_line : (ports : ℕ) (setting : Setting) (step : Step) (x : ℕ) (history : List Line) → x ≡ setting.tick step.node step.at → AreOn ports (of step.node history) → time_of (dids history) ≤ step.at → posted (dids history) < 2 ^ 64 →
     ((q : Port) → q.0 < ports → StepEnds (setup_of setting step.node q) (view q (of step.node history))) → LineFits setting (line_of step x first_port Begins) history
 mark_line ports setting step x history tick on order few ends = record {
   order = order;

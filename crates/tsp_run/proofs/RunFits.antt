@@ -30,7 +30,7 @@ pub record Ran (header : HeaderValue) (setting : Setting) (t : ℕ) (h : List Li
   pub fits : Fits setting h
   pub placed : ArePlaced (networks header) h
   pub time : time_of (dids h) ≤ t
-  pub nodes : (n : ℕ) → AllPorts (λ r. Ended) (tick_at (setting.rate n) t) (past_of header (rests n) h)
+  pub nodes : (n : ℕ) → AllPorts (λ r. Ended) (setting.tick n t) (past_of header (rests n) h)
   pub sound : (n : ℕ) → SoundNode (past_of header (rests n) h)
 
 joined-placed : (nets : List (List ℕ)) (step : Step) (x : ℕ) (acts : List Placed) (h : List Line) → ActsOn (length (ports_on step.node nets)) acts → ArePlaced nets h → ArePlaced nets (joined step x acts h)
@@ -42,20 +42,20 @@ joined-time step x [] h e = e
 joined-time step x (a ∷ rest) h e = joined-time step x rest (line_of step x a.port (Acts a.act) ∷ h) (omega arith)
 
 -- after a step each port of each node is at rest
-node_after : (header : HeaderValue) (setting : Setting) (t : ℕ) (h : List Line) (step : Step) (x : ℕ) (acts : List Placed) → t ≤ step.at → ((n : ℕ) → AllPorts (λ r. Ended) (tick_at (setting.rate n) t) (past_of header (rests n) h)) →
-    AllPorts (λ r. Ended) x (spread x (in_node_step step x (past_of header step h)) acts) → x ≡ tick_at (setting.rate step.node) step.at → (n : ℕ) (b : Bool) → (step.node == n) ≡ b →
-    AllPorts (λ r. Ended) (tick_at (setting.rate n) step.at) (past_of header (rests n) (stepped step x acts h))
+node_after : (header : HeaderValue) (setting : Setting) (t : ℕ) (h : List Line) (step : Step) (x : ℕ) (acts : List Placed) → t ≤ step.at → ((n : ℕ) → AllPorts (λ r. Ended) (setting.tick n t) (past_of header (rests n) h)) →
+    AllPorts (λ r. Ended) x (spread x (in_node_step step x (past_of header step h)) acts) → x ≡ setting.tick step.node step.at → (n : ℕ) (b : Bool) → (step.node == n) ≡ b →
+    AllPorts (λ r. Ended) (setting.tick n step.at) (past_of header (rests n) (stepped step x acts h))
 node_after header setting t h step x acts later nodes after tick_is n true e =
     let now : List Line = stepped step x acts h in
     let same : step.node ≡ n = eqb-true step.node n e in
     let own : (step.node == step.node) ≡ true = eq-eqb step.node step.node refl in
     let here : AllPorts (λ r. Ended) x (past_of header (rests step.node) now) = λ r has.
     ended_seen x (on_port r (spread x (in_node_step step x (past_of header step h)) acts)) (on_port r (past_of header (rests step.node) now)) refl refl (ap (λ l. view r l) (sym (stepped_own step.node step x acts h own))) (after r has) in
-    subst (λ k. AllPorts (λ r. Ended) (tick_at (setting.rate k) step.at) (past_of header (rests k) now)) same (subst (λ k. AllPorts (λ r. Ended) k (past_of header (rests step.node) now)) tick_is here)
+    subst (λ k. AllPorts (λ r. Ended) (setting.tick k step.at) (past_of header (rests k) now)) same (subst (λ k. AllPorts (λ r. Ended) k (past_of header (rests step.node) now)) tick_is here)
 node_after header setting t h step x acts later nodes after tick_is n false e = λ r has.
     let now : List Line = stepped step x acts h in
-    ended_seen (tick_at (setting.rate n) step.at) (on_port r (past_of header (rests n) h)) (on_port r (past_of header (rests n) now)) refl refl (ap (λ l. view r l) (sym (stepped_other n step x acts h e)))
-    (ended_later (tick_at (setting.rate n) t) (tick_at (setting.rate n) step.at) (on_port r (past_of header (rests n) h)) (tick-mono setting n t step.at later) (nodes n r has))
+    ended_seen (setting.tick n step.at) (on_port r (past_of header (rests n) h)) (on_port r (past_of header (rests n) now)) refl refl (ap (λ l. view r l) (sym (stepped_other n step x acts h e)))
+    (ended_later (setting.tick n t) (setting.tick n step.at) (on_port r (past_of header (rests n) h)) (tick-mono setting n t step.at later) (nodes n r has))
 
 -- after a step whose acts are sound all nodes' are
 sound_after : (header : HeaderValue) (h : List Line) (step : Step) (x : ℕ) (acts : List Placed) → ((n : ℕ) → SoundNode (past_of header (rests n) h)) → SoundNode (spread x (in_node_step step x (past_of header step h)) acts) →
@@ -105,11 +105,11 @@ by_row header setting t h step row set r later few leads soundly ok =
     let past : NodePast = in_node_step step x base in
     let acts : List Placed = row x past in
     let mark : Line = line_of step x first_port Begins in
-    let tick_is : x ≡ tick_at (setting.rate step.node) step.at = ap (λ k. tick_at k step.at) (sym (set.rate_is step.node)) in
+    let tick_is : x ≡ setting.tick step.node step.at = sym (set.tick_is step.node step.at) in
     let rested : AllPorts (λ r. Ended) x base = λ q has.
     ended_seen x (on_port q (past_of header (rests step.node) h)) (on_port q base) refl refl refl
     (subst (λ k. Ended k (on_port q (past_of header (rests step.node) h))) (sym tick_is)
-    (ended_later (tick_at (setting.rate step.node) t) (tick_at (setting.rate step.node) step.at) (on_port q (past_of header (rests step.node) h)) (tick-mono setting step.node t step.at later) (r.nodes step.node q has))) in
+    (ended_later (setting.tick step.node t) (setting.tick step.node step.at) (on_port q (past_of header (rests step.node) h)) (tick-mono setting step.node t step.at later) (r.nodes step.node q has))) in
     let after : AllPorts (λ r. Ended) x (spread x past acts) = leads (begins_all step x x base (omega arith) (λ q has. own_is header step h q has) rested) in
     let kept : posted (dids h) ≤ posted (dids (joined step x acts (mark ∷ h))) = posted-joined step x acts (mark ∷ h) in
     let all : posted (dids (joined step x acts (mark ∷ h))) < 2 ^ 64 = few in
@@ -179,7 +179,7 @@ module _ {header : HeaderValue} {setting : Setting} (is : IsHeader header) (set 
     fits = r.fits;
     placed = r.placed;
     time = (let b = r.time in let c = can.time in omega (arith, b, c));
-    nodes = λ n q has. ended_later (tick_at (setting.rate n) (last_at before)) (tick_at (setting.rate n) at) (on_port q (past_of header (rests n) (run header before))) (tick-mono setting n (last_at before) at can.time) (r.nodes n q has);
+    nodes = λ n q has. ended_later (setting.tick n (last_at before)) (setting.tick n at) (on_port q (past_of header (rests n) (run header before))) (tick-mono setting n (last_at before) at can.time) (r.nodes n q has);
     sound = r.sound;
   }
 
@@ -223,7 +223,7 @@ module _ {header : HeaderValue} {setting : Setting} (is : IsHeader header) (set 
     fits = tt;
     placed = tt;
     time = omega arith;
-    nodes = λ n q has. nothing-done (tick_at (setting.rate n) 0) (on_port q (past_of header (rests n) []));
+    nodes = λ n q has. nothing-done (setting.tick n 0) (on_port q (past_of header (rests n) []));
     sound = λ n. record { name = name-node_line header is n; word_fits = omega arith; ports = four n; lines = tt };
   }
   ran (e ∷ before) p =

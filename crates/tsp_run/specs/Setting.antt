@@ -1,7 +1,7 @@
 -- The setting of a schedule's run: what the promises need to know of its header.
 use Rattle.std.specs.Prelude.{◌≡◌, ℕ, List, [], ◌∷◌, Option, None, Some, slice_index_or}
 use Rattle.tsp_rules.specs.Values.{Event, PeerId, Port}
-use Rattle.tsp_base.specs.Words.{HeaderValue, IsHeader, peer_of}
+use Rattle.tsp_base.specs.Words.{HeaderValue, IsHeader, peer_of, tick_at}
 use Rattle.tsp_promises.specs.{Fits.Fits, Fits.Finished, Setting.Alone, Setting.Named, Setting.Network, Setting.Setting}
 use Rattle.tsp_run.specs.{Run.run, Ranges.Accepted}
 use Rattle.tsp_run.specs.{Setup.node_line, Networks.network_at, Networks.networks, Networks.peers_on, Possible.Possible, Promises.Promises}
@@ -23,7 +23,7 @@ members_of nets (Alone n q) = peer_of n ∷ []
 -- a setting has the drift, rates, wall clocks, names and networks of the header, and its elections are strict if the
 -- header says so
 pub record SetBy (header : HeaderValue) (setting : Setting) : Type 0 where
-  pub rate_is : (n : ℕ) → setting.rate n ≡ (node_line header n).rate
+  pub tick_is : (n t : ℕ) → setting.tick n t ≡ tick_at (node_line header n).rate t
   pub wall_is : (n : ℕ) → setting.wall n ≡ (node_line header n).wall
   pub name_is : (n : ℕ) → setting.name n ≡ (node_line header n).name
   pub drift_is : setting.drift ≡ header.drift
