@@ -1,0 +1,4 @@
+pub mod Formula
+pub mod Halves
+pub mod Numbers
+pub mod Ranks

@@ -1,0 +1,9 @@
+//! The page.
+#![tactic(auto)]
+
+pub mod daemon_half;
+pub mod layout;
+pub mod look_half;
+mod numbers;
+pub mod rank;
+pub mod spread;
