@@ -2,3 +2,4 @@ pub mod Formula
 pub mod Halves
 pub mod Numbers
 pub mod Ranks
+pub mod Sound

@@ -2,6 +2,7 @@
 #![tactic(auto)]
 
 pub mod daemon_half;
+mod formula;
 pub mod layout;
 pub mod look_half;
 mod numbers;
