@@ -2,4 +2,5 @@ pub mod Formula
 pub mod Halves
 pub mod Numbers
 pub mod Ranks
+pub mod Readings
 pub mod Sound

@@ -1,5 +1,5 @@
 -- The pages that a daemon and its supervisor can write: their numbers are so far from the ends of 64 bits that no sum of them leaves these.
-use Rattle.std.specs.Prelude.{ℕ, ◌≤◌, ◌<◌, ◌^◌, ℤ, pos, ◌≤ℤ◌, ◌<ℤ◌, nat_abs}
+use Rattle.std.specs.Prelude.{◌≤◌, ◌^◌, pos, ◌≤ℤ◌, ◌<ℤ◌, nat_abs}
 use Rattle.tsp_page.specs.declared.daemon_half.DaemonHalf.{DaemonHalf}
 use Rattle.tsp_page.specs.declared.look_half.LookHalf.{LookHalf}
 

@@ -77,7 +77,11 @@ impl DaemonHalf {
         ensures { result ≡ shown_at self.now tick }
     {
         let shown = self.target_at(tick) - self.rest_at(tick);
-        if shown < self.least { self.least } else { shown }
+        if shown < self.least {
+            self.least
+        } else {
+            shown
+        }
     }
 
     /// What is still to be slewed at a tick.

@@ -7,4 +7,5 @@ pub mod layout;
 pub mod look_half;
 mod numbers;
 pub mod rank;
+pub mod reading;
 pub mod spread;

@@ -1,7 +1,6 @@
-use Rattle.std.proofs.Common.{rules, arith, ◌≡◌, ◌≤◌, ◌+◌, ℤ, pos, ◌+ℤ◌, ◌*ℤ◌, nat_abs, FitsSigned, w64, to_z, of_z, ap, sym, ◌∙◌}
-use Rattle.std.proofs.lemmas.Int.{ints, to_z-of_z}
+use Rattle.std.proofs.Common.{rules, ◌≡◌, ℤ, pos, ◌+ℤ◌, ◌*ℤ◌, FitsSigned, w64, to_z, of_z, ap, sym, ◌∙◌}
+use Rattle.std.proofs.lemmas.Int.{to_z-of_z}
 use Rattle.std.specs.Int.{int_div_euclid, int_rem_euclid}
-use Rattle.tsp_page.specs.Formula.{gained}
 use Rattle.tsp_page.proofs.GainLemmas.{gained-parts, gained-small}
 use Rattle.tsp_page.proofs.formula.gained.Goals as goal
 
@@ -18,7 +17,7 @@ returns-clause-value c =
     let whole = passed-product c.times-whole.result c.div_euclid.result c.args.rate (search rules) c.ranges.rate c.times-whole.ensures.value in
     let part = passed-product c.times-part.result c.rem_euclid.result c.args.rate (search rules) c.ranges.rate c.times-part.ensures.value in
     let quotient : c.div_euclid-2.result ≡ int_div_euclid (c.rem_euclid.result *ℤ c.args.rate) (pos 1000000000) =
-        c.div_euclid-2.ensures ∙ ap (λ z. int_div_euclid z (pos 1000000000)) (to_z-of_z w64 c.times-part.result (search rules) ∙ part) in
+    c.div_euclid-2.ensures ∙ ap (λ z. int_div_euclid z (pos 1000000000)) (to_z-of_z w64 c.times-part.result (search rules) ∙ part) in
     let sum : to_z w64 (of_z w64 (to_z w64 (of_z w64 c.times-whole.result) +ℤ to_z w64 (of_z w64 c.div_euclid-2.result))) ≡ c.times-whole.result +ℤ c.div_euclid-2.result = search rules in
     sum ∙ (ap (λ z. z +ℤ c.div_euclid-2.result) whole ∙ (ap (λ z. (c.div_euclid.result *ℤ c.args.rate) +ℤ z) quotient ∙ sym parts))
 

@@ -1,4 +1,4 @@
-use Rattle.std.proofs.Common.{arith, ◌≤◌, ◌*◌, ◌*ℤ◌, nat_abs, FitsSigned, w64}
+use Rattle.std.proofs.Common.{arith, ◌*ℤ◌, FitsSigned, w64}
 use Rattle.std.proofs.lemmas.Int.{to_z-of_z, fits_signed_mul}
 use Rattle.tsp_page.proofs.GainLemmas.{abs-times-small}
 use Rattle.tsp_page.proofs.formula.times.Goals as goal
