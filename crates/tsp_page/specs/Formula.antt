@@ -24,9 +24,13 @@ target_at h x = h.target +ℤ (pos x -ℤ pos h.tick)
 abbrev pub rest_at : DaemonHalf → ℕ → ℤ
 rest_at h x = eased h.rest ((x - h.tick) / 200)
 
--- what the page shows then: the clock's shown value, and no less than was shown before
+-- what the clock shows then: its target less what is still to be slewed
+abbrev pub clock_shown_at : DaemonHalf → ℕ → ℤ
+clock_shown_at h x = target_at h x -ℤ rest_at h x
+
+-- what the page shows then: what the clock shows, and no less than was shown before
 abbrev pub shown_at : DaemonHalf → ℕ → ℤ
-shown_at h x = int_max h.least (target_at h x -ℤ rest_at h x)
+shown_at h x = int_max h.least (clock_shown_at h x)
 
 -- the error of so many ticks as true time: their width, and past 100 seconds twice that
 abbrev pub tick_error : ℕ → ℕ → ℕ

@@ -1,5 +1,5 @@
 -- The two halves of the page as values, and their octets.
-use Rattle.std.specs.Prelude.{ℕ, ◌==◌, if◌then◌else◌, List, [], ◌∷◌, ◌++◌, take, drop}
+use Rattle.std.specs.Prelude.{◌≡◌, ℕ, ◌^◌, ◌<◌, ◌==◌, if◌then◌else◌, List, [], ◌∷◌, ◌++◌, length, take, drop, FitsSigned}
 use Rattle.std.specs.Int.{w64, cast_signed, cast_unsigned}
 use Rattle.tsp_page.specs.Numbers.{number_at, octets_of_all}
 use Rattle.tsp_page.specs.Ranks.{rank_number, rank_of}
@@ -50,3 +50,31 @@ look_half_of o = record {
   learned = cast_signed w64 (number_at o 64);
   name = take 256 (drop 72 o);
 }
+
+-- the fields of the daemon's half fit 64 bits: so they do in each half that a program can hold
+pub record IsDaemonHalf (h : DaemonHalf) : Type 0 where
+  pub life : h.life < 2 ^ 64
+  pub counter : h.counter < 2 ^ 64
+  pub origin : FitsSigned w64 h.origin
+  pub origin_tick : h.origin_tick < 2 ^ 64
+  pub rate : FitsSigned w64 h.rate
+  pub tick : h.tick < 2 ^ 64
+  pub target : FitsSigned w64 h.target
+  pub rest : FitsSigned w64 h.rest
+  pub least : FitsSigned w64 h.least
+  pub moved : FitsSigned w64 h.moved
+  pub steps : h.steps < 2 ^ 64
+  pub master : h.master < 2 ^ 64
+  pub alive : h.alive < 2 ^ 64
+
+-- the fields of the look's half fit 64 bits, and its name takes 256 octets
+pub record IsLookHalf (h : LookHalf) : Type 0 where
+  pub life : h.life < 2 ^ 64
+  pub moved : FitsSigned w64 h.moved
+  pub looked : h.looked < 2 ^ 64
+  pub low : FitsSigned w64 h.low
+  pub high : FitsSigned w64 h.high
+  pub master : h.master < 2 ^ 64
+  pub drift : h.drift < 2 ^ 64
+  pub learned : FitsSigned w64 h.learned
+  pub name : length h.name ≡ 256
