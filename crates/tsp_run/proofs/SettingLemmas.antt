@@ -10,7 +10,7 @@ each-is-set header is = (
   record {
     drift = header.drift;
     tick = λ n. tick_at (node_line header n).rate;
-    wall = λ n. (node_line header n).wall;
+    wall = λ n life. (node_line header n).wall;
     name = λ n. (node_line header n).name;
     strict = header.strict;
     net = network_of (networks header);
@@ -20,5 +20,5 @@ each-is-set header is = (
     apart = ports_apart (networks header);
     own = own_member (networks header);
   },
-  record { tick_is = λ n t. refl; wall_is = λ n. refl; name_is = λ n. refl; drift_is = refl; strict_is = refl; net_is = λ n q. refl; members_are = λ k. refl },
+  record { tick_is = λ n t. refl; wall_is = λ n life. refl; name_is = λ n. refl; drift_is = refl; strict_is = refl; net_is = λ n q. refl; members_are = λ k. refl },
 )
