@@ -4,7 +4,7 @@ use Rattle.std.proofs.lemmas.List.Elements.{All-head}
 use Rattle.tsp_rules.specs.Values.{Took, Post, Placed, Event, BootAt, Turn, Take, Bytes, Peer, Port}
 use Rattle.tsp_rules.specs.GateRows.{NodeGiven, NodeTurn, GotOn, answers_all, boots_all}
 use Rattle.tsp_rules.specs.NodeRows.{NodePast, NodeRow, PortSetup, in_node_step, on_port, port_setup, spread}
-use Rattle.tsp_base.specs.Words.{first_port, joined, line_of, stepped, HeaderValue, IsHeader, Booted, Turned, Came, Handed, Step, Begins, Acts, Line, of, view, dids, time_of, up, posted, peer_of, tick_at}
+use Rattle.tsp_base.specs.Words.{first_port, joined, line_of, stepped, HeaderValue, IsHeader, Booted, Turned, Came, Handed, Step, Begins, Acts, Line, of, view, dids, lives, time_of, up, posted, peer_of, tick_at}
 use Rattle.tsp_base.proofs.PlaceLemmas.{Within-all}
 use Rattle.tsp_promises.specs.{Fits.Fits, Fits.TookFits, Sound.IsSound, Sound.IsSoundDeed, StepFacts.StepEnds}
 use Rattle.tsp_promises.specs.{PortFits.PortFits, PortFits.setup_in, Setting.Alone, Setting.Named, Setting.Setting, Setting.setup_of}
@@ -20,7 +20,7 @@ use Rattle.tsp_run.specs.Run.{run, joins, steps, step_tick, boot_step, event_at,
 use Rattle.tsp_run.specs.{Setting.PossibleRunsFit, Setting.SetBy, Setting.RunsFit, Setting.named_or, declared.address.Address.Address}
 use Rattle.tsp_run.{specs.declared.posted.Posted.Posted, proofs.PostPlaces.length-posts, proofs.PostPlaces.post_at}
 use Rattle.tsp_run.proofs.AnswersFit.{StepOk, turn_ok, got_ok, boot_ok}
-use Rattle.tsp_run.proofs.FitsLines.{ActsOn, AllAlive, ArePlaced, acts_fit, all_end, mark_line, of_placed, posted-joined}
+use Rattle.tsp_run.proofs.FitsLines.{ActsOn, AllAlive, ArePlaced, acts_fit, all_end, did_in, mark_line, of_placed, posted-joined}
 use Rattle.tsp_run.proofs.{HeaderLines.name-node_line, SoundLemmas.line_sound, SoundLemmas.octets_sound, SoundLemmas.sound_read}
 use Rattle.tsp_run.proofs.{PossibleRun.accepted-possible, PossibleRun.possible_before, RunLemmas.stepped_own, RunLemmas.stepped_other}
 use Rattle.tsp_run.proofs.SoundAll.{SoundNode, IsSoundInput, sound_answers_all, sound_begins, sound_boots_all}
@@ -94,7 +94,7 @@ by_row : (header : HeaderValue) (setting : Setting) (t : ℕ) (h : List Line) (s
     (AllPorts (λ r. Fresh) (step_tick header step) (in_node_step step (step_tick header step) (past_of header step h)) →
     AllPorts (λ r. Ended) (step_tick header step) (spread (step_tick header step) (in_node_step step (step_tick header step) (past_of header step h)) (row (step_tick header step) (in_node_step step (step_tick header step) (past_of header step h))))) →
     (SoundNode (in_node_step step (step_tick header step) (past_of header step h)) → SoundNode (spread (step_tick header step) (in_node_step step (step_tick header step) (past_of header step h)) (row (step_tick header step) (in_node_step step (step_tick header step) (past_of header step h))))) →
-    StepOk (length (ports_on step.node (networks header))) (room (ports_on step.node (networks header))) setting step (step_tick header step) h (up (dids (of step.node h))) (row (step_tick header step) (in_node_step step (step_tick header step) (past_of header step h))) →
+    StepOk (length (ports_on step.node (networks header))) (room (ports_on step.node (networks header))) setting step (step_tick header step) h (did_in step (step_tick header step) Begins ∷ dids (of step.node h)) (row (step_tick header step) (in_node_step step (step_tick header step) (past_of header step h))) →
     Ran header setting step.at (joins (Some (steps header h row step)) h)
 unfolding steps
 by_row header setting t h step row set r later few leads soundly ok =
@@ -115,10 +115,10 @@ by_row header setting t h step row set r later few leads soundly ok =
     let all : posted (dids (joined step x acts (mark ∷ h))) < 2 ^ 64 = few in
     let line = mark_line ports setting step x h tick_is (of_placed nets step.node h r.placed) (let b = r.time in omega (arith, b, later)) (omega (arith, all, kept)) (λ q has. subst (λ s. StepEnds s (view q (of step.node h))) (setup_is header setting step h q set has) (ends_of (rested q has))) in
     let own : (step.node == step.node) ≡ true = eq-eqb step.node step.node refl in
-    let up_is : up (dids (of step.node (mark ∷ h))) ≡ up (dids (of step.node h)) = rw own refl in
+    let own_is : dids (of step.node (mark ∷ h)) ≡ mark.did ∷ dids (of step.node h) = rw own refl in
     record {
       fits = acts_fit ports setting step x h acts first_port Begins h tick_is ok.on (inr (Within-all h)) all
-          (subst (λ b. AllAlive setting step x b acts) (sym up_is) ok.alive) ok.taken
+          (subst (λ ds. AllAlive setting step x ds acts) (sym own_is) ok.alive) ok.taken
           (λ q has. subst (λ l. PortFits (setup_of setting step.node q) (view q l)) (sym (stepped_own step.node step x acts h own)) (subst (λ k. PortFits k (view q (joined step x acts (mark ∷ of step.node h)))) (setup_is header setting step h q set has) (after q has).0.fits))
           (line, r.fits);
       placed = joined-placed nets step x acts (mark ∷ h) ok.on ((λ e. let bad : ⊥ = cc in absurd bad), r.placed);
@@ -132,15 +132,14 @@ up_seen header before n e = up-down (scene header before) n e
 
 module _ {header : HeaderValue} {setting : Setting} (is : IsHeader header) (set : SetBy header setting) where
   by_answers : (before : List Event) (step : Step) (g : NodeGiven) → Ran header setting (last_at before) (run header before) → posted (dids (joins (Some (steps header (run header before) (answers_all g) step)) (run header before))) < 2 ^ 64 →
-      (scene header before).last ≤ step.at → up (dids (of step.node (run header before))) ≡ true → GivenOn g (past_of header step (run header before)) → IsSoundInput g →
-      StepOk (length (ports_on step.node (networks header))) (room (ports_on step.node (networks header))) setting step (step_tick header step) (run header before) true (answers_all g (step_tick header step) (in_node_step step (step_tick header step) (past_of header step (run header before)))) →
+      (scene header before).last ≤ step.at → GivenOn g (past_of header step (run header before)) → IsSoundInput g →
+      StepOk (length (ports_on step.node (networks header))) (room (ports_on step.node (networks header))) setting step (step_tick header step) (run header before) (did_in step (step_tick header step) Begins ∷ dids (of step.node (run header before))) (answers_all g (step_tick header step) (in_node_step step (step_tick header step) (past_of header step (run header before)))) →
       Ran header setting step.at (joins (Some (steps header (run header before) (answers_all g) step)) (run header before))
-  by_answers before step g r few later is_up given sound ok =
+  by_answers before step g r few later given sound ok =
       let x : ℕ = step_tick header step in
       let past : NodePast = in_node_step step x (past_of header step (run header before)) in
       by_row header setting (last_at before) (run header before) step (answers_all g) set r later few
-      (λ fresh. (answers_all_lead g).run x past (given-in g given, fresh)) ((sound_answers_all g sound).run x past)
-      (subst (λ b. StepOk (length (ports_on step.node (networks header))) (room (ports_on step.node (networks header))) setting step x (run header before) b (answers_all g x past)) (sym is_up) ok)
+      (λ fresh. (answers_all_lead g).run x past (given-in g given, fresh)) ((sound_answers_all g sound).run x past) ok
     where
       given-in : (g : NodeGiven) → GivenOn g (past_of header step (run header before)) → GivenOn g (in_node_step step (step_tick header step) (past_of header step (run header before)))
       given-in NodeTurn h = tt
@@ -196,9 +195,10 @@ module _ {header : HeaderValue} {setting : Setting} (is : IsHeader header) (set 
         let goes : node_in (goes_to (networks header) (slice_get (posts (run header before)) k)) ≡ Some a.node = ap (λ q. node_in (goes_to (networks header) q)) there ∙ ap (λ q. node_in q) e in
         let is_up : up (dids (of a.node (run header before))) ≡ true = up_seen header before a.node (ap (λ q. down (scene header before).up q) (sym goes) ∙ can.up) in
         let has = (goes_there (networks header) p.from p.port p.to a e).has in
-        by_answers before step (GotOn a.port (Peer (peer_of p.from)) (taken_of (canon p.datagram))) r few can.time is_up has
+        by_answers before step (GotOn a.port (Peer (peer_of p.from)) (taken_of (canon p.datagram))) r few can.time has
         (rw (sound_read p.datagram sound) sound)
-        (got_ok setting step (step_tick header step) (run header before) (in_node_step step (step_tick header step) (past_of header step (run header before))) a.port (Peer (peer_of p.from)) (taken_of (canon p.datagram)) (four a.node) has (came before at k p a sound there e))
+        (got_ok setting step (step_tick header step) (run header before) (did_in step (step_tick header step) Begins ∷ dids (of a.node (run header before)))
+        (in_node_step step (step_tick header step) (past_of header step (run header before))) a.port (Peer (peer_of p.from)) (taken_of (canon p.datagram)) (four a.node) has is_up (came before at k p a sound there e))
 
   event_ran : (before : List Event) (e : Event) → Ran header setting (last_at before) (run header before) → IsInRange e → CanHappen (scene header before) e → posted (dids (run header (e ∷ before))) < 2 ^ 64 → Ran header setting (event_at e) (run header (e ∷ before))
   event_ran before (BootAt at node word) r range can few =
@@ -207,16 +207,19 @@ module _ {header : HeaderValue} {setting : Setting} (is : IsHeader header) (set 
       let past : NodePast = in_node_step step x (past_of header step (run header before)) in
       by_row header setting (last_at before) (run header before) step boots_all set r can.time few
       (boots_all_lead.run x past) (sound_boots_all x past word _ refl range)
-      (boot_ok setting step x (run header before) (up (dids (of node (run header before)))) past word (four node) (ap (λ w. Booted word (w +ℤ pos (tick_at (node_line header node).rate at))) (sym (set.wall_is node))))
+      (boot_ok setting step x (run header before) (did_in step x Begins ∷ dids (of node (run header before))) past word (four node)
+      (ap (λ w. Booted word (w +ℤ pos (tick_at (node_line header node).rate at))) (sym (set.wall_is node (lives (dids (of node (run header before))) + 1)))))
   event_ran before (Turn at node) r range can few =
       let step : Step = record { at = at; node = node; cause = Turned } in
-      by_answers before step NodeTurn r few can.time (up_seen header before node can.up) tt tt (turn_ok setting step (step_tick header step) (run header before) (in_node_step step (step_tick header step) (past_of header step (run header before))) (four node))
+      by_answers before step NodeTurn r few can.time tt tt
+      (turn_ok setting step (step_tick header step) (run header before) (did_in step (step_tick header step) Begins ∷ dids (of node (run header before))) (in_node_step step (step_tick header step) (past_of header step (run header before))) (four node) (up_seen header before node can.up))
   event_ran before (Take at k) r range can few = taken_step before at k (slice_get (posts (run header before)) k) r can refl few
   event_ran before (Bytes at node port from octets) r range can few =
       let step : Step = record { at = at; node = node; cause = Handed } in
       let has = can.node.1 in
-      by_answers before step (GotOn port from (taken_of octets)) r few can.time (up_seen header before node can.up) has (octets_sound octets range)
-      (got_ok setting step (step_tick header step) (run header before) (in_node_step step (step_tick header step) (past_of header step (run header before))) port from (taken_of octets) (four node) has tt)
+      by_answers before step (GotOn port from (taken_of octets)) r few can.time has (octets_sound octets range)
+      (got_ok setting step (step_tick header step) (run header before) (did_in step (step_tick header step) Begins ∷ dids (of node (run header before)))
+      (in_node_step step (step_tick header step) (past_of header step (run header before))) port from (taken_of octets) (four node) has (up_seen header before node can.up) tt)
 
   pub ran : (events : List Event) → Possible header events → Ran header setting (last_at events) (run header events)
   ran [] p = record {
