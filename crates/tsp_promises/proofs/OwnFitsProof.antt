@@ -30,7 +30,7 @@ own-line-fits setting n l world same f time tick = record {
   time = omega (arith, f.order);
   tick = omega (arith, tick-mono setting n (time_of (dids world)) l.did.step.at f.order, tick_is setting n l world same f);
   step = own-step l.did.deed l.did.step n world same f.step;
-  alive = subst (λ k. Alive setting l.did.deed l.did (up (dids (of k world)))) same f.alive;
+  alive = subst (λ k. Alive setting l.did.deed l.did (dids (of k world))) same f.alive;
   deeds = λ q s. subst (λ k. DeedFits (setup_of setting (node_of l) q) l.did.deed l.did (view q (of k world))) same (f.deeds q s);
 }
 
