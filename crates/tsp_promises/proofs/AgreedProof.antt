@@ -3,7 +3,7 @@
 use Rattle.std.proofs.Common.{arith, ◌≡◌, ◌≤◌, ◌≤ℤ◌, ℤ, pos, ◌+ℤ◌, ◌-ℤ◌, nat_abs, ℕ, ◌+◌, sym, ap, subst, inl, inr, ◌∙◌, ◌-◌, ◌*◌, List, ◌∷◌, is_some, refl}
 use Rattle.std.proofs.Common.{subst₂, []}
 use Rattle.std.proofs.lemmas.Int.{ints}
-use Rattle.tsp_base.specs.Words.{Line, of, dids, lives, view, moved, time_of, Within, tick_at, width}
+use Rattle.tsp_base.specs.Words.{Line, of, dids, lives, view, moved, time_of, Within, width}
 use Rattle.tsp_base.proofs.PlaceLemmas.{Within-through, Within-tail}
 use Rattle.tsp_promises.proofs.OwnFitsProof.{given, Given, given_at, place-time, own_fits, fits_at}
 use Rattle.tsp_promises.specs.Agreed.{Agreed, AgreedAt, ClocksAgree, MasterAgrees, PeersAgree, RestsOnSample, StayAgreed, Unchanged, FromRound, UnchangedBut}

@@ -11,7 +11,7 @@ use Rattle.tsp_promises.proofs.AgreedProof.{agreed_master, agreed_peers, chained
 use Rattle.tsp_promises.proofs.{HistoryPlaces.of-own, HistoryPlaces.Within-of, Printed.after_slew, Printed.shows_target}
 use Rattle.std.proofs.Common.{sym, arith, subst, ◌∙◌, ◌≡◌, ◌≤◌, ◌≤ℤ◌, ℕ, ◌+◌, ◌-◌, ℤ, pos, ◌+ℤ◌, ◌-ℤ◌, nat_abs, true, List, [], ◌∷◌, ap, subst₂, inl, ◌/◌, Bool, false, refl}
 use Rattle.std.proofs.lemmas.Int.{ints}
-use Rattle.tsp_base.specs.Words.{Line, of, dids, time_of, up, Within, tick_at, Acts, Did, last_correct, last_correct_after, shown, target, tick_of, heard}
+use Rattle.tsp_base.specs.Words.{Line, of, dids, time_of, up, Within, Acts, Did, last_correct, last_correct_after, shown, target, tick_of, heard}
 use Rattle.tsp_base.proofs.{PlaceLemmas.Within-through, PlaceLemmas.Within-tail, Views.plain_view}
 use Rattle.tsp_rules.specs.Values.{Correct}
 

@@ -2,7 +2,7 @@
 use Rattle.std.proofs.Common.{sym, ap, arith, subst, subst₂, true≢false, ◌∙◌, ◌≡◌, true, ℕ, ℤ, pos, ◌+ℤ◌, ◌-ℤ◌, List, [], ◌∷◌, refl, inl, inr}
 use Rattle.std.proofs.lemmas.Int.{ints}
 use Rattle.tsp_rules.specs.Values.{Boot, Post, Datagram, Place}
-use Rattle.tsp_base.specs.Words.{Deed, Begins, Acts, Did, Line, of, dids, base, boot_after, boot_tick, lives, lives_after, moved, target, up, up_after, wall, wall_after, rest_at, Within, tick_at}
+use Rattle.tsp_base.specs.Words.{Deed, Begins, Acts, Did, Line, of, dids, base, boot_after, boot_tick, lives, lives_after, moved, target, up, up_after, wall, wall_after, rest_at, Within}
 use Rattle.tsp_promises.specs.{Fits.Fits, Fits.LineFits, Fits.Alive, Fits.node_of, Setting.Setting, ClockAt.left_at, ClockAt.shown_at}
 use Rattle.tsp_promises.proofs.OwnFitsProof.{node_walk}
 use Rattle.tsp_promises.{proofs.HistoryPlaces.of-own, proofs.HistoryPlaces.Within-of, specs.ClockAt.clock, specs.ClockAt.clock_at}

@@ -2,7 +2,7 @@
 use Rattle.std.proofs.Common.{sym, ap, arith, subst, subst₂, inl, inr, ◌∙◌, ◌≡◌, ◌≤◌, ◌≤ℤ◌, ◌⊎◌, ℕ, ◌+◌, ◌-◌, ◌*◌, ℤ, pos, ◌+ℤ◌, ◌-ℤ◌, nat_abs, List, ◌∷◌, refl}
 use Rattle.std.proofs.lemmas.Int.{ints}
 use Rattle.tsp_rules.specs.Values.{Close}
-use Rattle.tsp_base.specs.Words.{Acts, Did, Line, dids, of, view, lives, time_of, Within, Sampled, Undisturbed, tick_at, width}
+use Rattle.tsp_base.specs.Words.{Acts, Did, Line, dids, of, view, lives, time_of, Within, Sampled, Undisturbed, width}
 use Rattle.tsp_promises.specs.{Agreed.Unchanged, ClockAt.clock_at, Fits.Fits, Fits.node_of, RoundFits.CloseFits, Setting.Setting}
 use Rattle.tsp_promises.specs.CorrectionFits.{FollowedBy}
 use Rattle.tsp_promises.specs.Estimates.{EndedNear, Estimate, EstimatesHold, EstimatesNear, MasterNear, Moves, NearMean}

@@ -2,7 +2,7 @@
 use Rattle.std.proofs.Common.{sym, ap, arith, subst, subst₂, mul-le-mul_left, ◌∙◌, ◌≡◌, ◌≤◌, ◌≤ℤ◌, ℕ, ◌+◌, ◌-◌, ◌*◌, ℤ, pos, ◌+ℤ◌, ◌-ℤ◌, true, List, ◌∷◌, refl}
 use Rattle.std.proofs.lemmas.Int.{ints}
 use Rattle.tsp_rules.specs.Values.{Message, Peer, LAST, LIFE}
-use Rattle.tsp_base.specs.Words.{Did, Line, of, dids, plain, view, target, up, Within, Undisturbed, peer_of, time_in, tick_at, width}
+use Rattle.tsp_base.specs.Words.{Did, Line, of, dids, plain, view, target, up, Within, Undisturbed, peer_of, time_in, width}
 use Rattle.tsp_promises.specs.{CorrectFits.amount_of, Fits.Alive, Fits.Fits, Fits.node_of, Premises.Life, Premises.TakenWithinAt}
 use Rattle.tsp_promises.specs.FirstSet.{BehindAtOnce, BehindBy, FirstSet, FirstSetAt, FirstSetSoon, SetBy, behind}
 use Rattle.tsp_base.proofs.{PlaceLemmas.Within-through, PlaceLemmas.Within-tail, Views.plain_view}

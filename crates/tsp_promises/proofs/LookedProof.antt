@@ -1,5 +1,5 @@
 -- Why a look at a clock bounds how far that clock is ahead later.
-use Rattle.std.proofs.Common.{arith, subst, mul-le-mul_left, ◌≡◌, ℕ, ◌+◌, ◌-◌, ◌*◌, ◌/◌, ◌≤◌, ℤ, pos, negsuc, ◌-ℤ◌, ◌+ℤ◌, ◌≤ℤ◌, nat_abs, List}
+use Rattle.std.proofs.Common.{arith, subst, mul-le-mul_left, ◌≡◌, ℕ, ◌+◌, ◌-◌, ◌*◌, ◌/◌, ◌≤◌, ℤ, pos, ◌-ℤ◌, ◌+ℤ◌, ◌≤ℤ◌, List}
 use Rattle.std.proofs.lemmas.Int.{ints}
 use Rattle.tsp_base.specs.Words.{Line, width}
 use Rattle.tsp_promises.specs.Looked.{Look, ticks_since, width_by_ticks, IsAhead, Looked}

@@ -3,7 +3,7 @@
 use Rattle.std.proofs.Common.{ap, arith, subst, inl, inr, ◌∙◌, ◌≡◌, ℕ, ◌+◌, ◌<◌, ◌≤◌, List, ◌∷◌, sym, subst₂, ◌==◌, ◌||◌, ◌⊎◌, Bool, ℤ, pos, ◌+ℤ◌, refl}
 use Rattle.std.proofs.{lemmas.Bool.cases_lt, lemmas.Int.ints}
 use Rattle.tsp_rules.specs.Values.{Post, Datagram, Place, QUIET, Close, Correct, Port}
-use Rattle.tsp_base.specs.Words.{Acts, Did, Line, of, dids, all_corrects, boot_tick, moved, tick_of, ticket, Within, Undisturbed, tick_at, Seen, Here, view, plain, seen_as, is_shared, lives, Setup}
+use Rattle.tsp_base.specs.Words.{Acts, Did, Line, of, dids, all_corrects, boot_tick, moved, tick_of, ticket, Within, Undisturbed, Seen, Here, view, plain, seen_as, is_shared, lives, Setup}
 use Rattle.tsp_base.proofs.{PlaceLemmas.Within-through, Views.plain_view}
 use Rattle.tsp_promises.proofs.OwnFitsProof.{own_tick, own_fits, place-time, fits_at, deed_fits, tick_in, locate, fits_in}
 use Rattle.tsp_promises.proofs.{SendPlaces.Closes, SendPlaces.after-close, SendPlaces.right_after, SinceProof.since, Clocks.near}

@@ -2,7 +2,7 @@
 use Rattle.std.proofs.Common.{sym, ap, arith, subst, subst₂, inl, inr, ◌∙◌, ◌≡◌, true, ℤ, pos, ◌+ℤ◌, ◌-ℤ◌, ◌≤ℤ◌, nat_abs, ℕ, zero, suc, ◌+◌, ◌-◌, ◌/◌, ◌≤◌, ◌⊎◌, List, ◌∷◌, refl}
 use Rattle.std.proofs.lemmas.Int.{ints}
 use Rattle.tsp_rules.specs.Values.{Post, Sample, Datagram, Stamp, PeerId, Place, Peer, Port, Request, Reply, LIFE}
-use Rattle.tsp_base.specs.Words.{Came, Acts, Did, Line, Seen, Here, of, dids, view, plain, all_corrects, base, boot_tick, lives, moved, target, up, word, wall, ticket, Within, half_down, half_up, sample_diff, sample_err, ReplyValue, Undisturbed, peer_of, posted, tick_at}
+use Rattle.tsp_base.specs.Words.{Came, Acts, Did, Line, Seen, Here, of, dids, view, plain, all_corrects, base, boot_tick, lives, moved, target, up, word, wall, ticket, Within, half_down, half_up, sample_diff, sample_err, ReplyValue, Undisturbed, peer_of, posted}
 use Rattle.tsp_base.proofs.{PlaceLemmas.Within-through, PlaceLemmas.Within-tail, Views.plain_view}
 use Rattle.tsp_promises.specs.Premises.{Honest, HonestAt, Life, OwnWords, OwnWordsAt, TakenWithinAt}
 use Rattle.tsp_promises.proofs.OwnFitsProof.{Located, locate, fits_in, tick_in, deed_fits, own_fits, fits_at, place-time}

@@ -2,7 +2,7 @@
 -- a Close used, where it takes the Close's ADJTIME.
 use Rattle.std.proofs.Common.{sym, ap, subst, subst₂, inl, ◌∙◌, ◌≡◌, ◌≤◌, ◌≤ℤ◌, ℕ, pos, ◌-ℤ◌, nat_abs, List, ◌∷◌, Some, refl, arith, inr, ◌⊎◌, ◌+◌, ℤ, None, Bool, true}
 use Rattle.tsp_rules.specs.Values.{Post, Sample, Datagram, PeerId, Place, Port, Message, AdjTime, Peer, CLOSE, SLACK, Close, Correct, Kind}
-use Rattle.tsp_base.specs.Words.{Came, Acts, Did, Line, Seen, Here, of, dids, view, plain, lives, moved, ticket, Within, Sampled, best, started, ReplyValue, Undisturbed, peer_of, posted, MessageValue, taken, tick_at, target, is_correction, time_in}
+use Rattle.tsp_base.specs.Words.{Came, Acts, Did, Line, Seen, Here, of, dids, view, plain, lives, moved, ticket, Within, Sampled, best, started, ReplyValue, Undisturbed, peer_of, posted, MessageValue, taken, target, is_correction, time_in}
 use Rattle.tsp_base.proofs.{PlaceLemmas.Within-tail, PlaceLemmas.Within-through, Views.plain_view}
 use Rattle.tsp_promises.proofs.RoundPlaces.{BestAt, best_at, started_at, same-start, some-is}
 use Rattle.tsp_promises.proofs.OwnFitsProof.{own_fits, fits_at, Given, given_at, place-time, locate, tick_in}

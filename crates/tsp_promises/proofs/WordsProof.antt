@@ -4,7 +4,7 @@ use Rattle.std.proofs.Common.{sym, ap, arith, subst, subst₂, inl, inr, true≢
 use Rattle.std.proofs.Common.{refl, ◌||◌, ◌≤◌, ◌+◌, ◌%◌, ◌^◌, ◌⊎◌}
 use Rattle.tsp_rules.specs.Values.{Boot, Post, Stamp, Port, Request, PeerId, Peer, QUIET}
 use Rattle.tsp_base.specs.Words.{Booted, Deed, Begins, Acts, Line, of, dids, lives, lives_after, up, up_after, word, word_after, Within, Did, Seen, view}
-use Rattle.tsp_base.specs.Words.{seen_as, is_shared, asked, asked_after, posted, posted_after, plain, boot_tick, tick_of, tick_at}
+use Rattle.tsp_base.specs.Words.{seen_as, is_shared, asked, asked_after, posted, posted_after, plain, boot_tick, tick_of}
 use Rattle.tsp_base.proofs.PlaceLemmas.{Within-all, Within-through, Within-comparable, Within-tail}
 use Rattle.tsp_base.proofs.Views.{plain_view}
 use Rattle.tsp_promises.proofs.OwnFitsProof.{node_walk, own_fits, own_fits_at, tick_in, view-line, fits_at, place-time, deed_fits}

@@ -5,7 +5,7 @@ use Rattle.tsp_promises.proofs.{StepChecks.Empty, StepChecks.far-deed, StepCheck
 use Rattle.tsp_promises.specs.{DeedFits.ActFits, StepFacts.StepEnds}
 use Rattle.tsp_promises.specs.{PortFits.PortFits, Setting.Setting, Setting.setup_of, Fits.Alive, Fits.TookFits, Fits.LineFits, Fits.Fits}
 use Rattle.tsp_rules.specs.Values.{Act, Boot, Took, Post, Placed, Taken, Place, Port}
-use Rattle.tsp_base.specs.Words.{first_port, joined, line_of, Cause, Came, Step, Deed, Begins, Acts, Did, Line, Seen, of, view, seen_as, is_shared, dids, time_of, up, up_after, Within, Setup, posted, posted_after, tick_at}
+use Rattle.tsp_base.specs.Words.{first_port, joined, line_of, Cause, Came, Step, Deed, Begins, Acts, Did, Line, Seen, of, view, seen_as, is_shared, dids, time_of, Within, Setup, posted, posted_after}
 use Rattle.tsp_base.proofs.{PlaceLemmas.Within-all, PlaceLemmas.Within-through, ViewPlaces.port-same, ViewPlaces.sees-own}
 use Rattle.tsp_run.specs.Networks.{ports_on}
 
