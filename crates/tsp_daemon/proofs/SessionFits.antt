@@ -11,7 +11,7 @@ use Rattle.tsp_promises.specs.{Dated.SetsAt, Fits.Fits, Fits.Finished, PortFits.
 use Rattle.tsp_promises.specs.Setting.{Setting, setup_of}
 use Rattle.tsp_promises.proofs.{ChainProof.looped_in, EverywhereLemmas.Everywhere-from, GateSteps.AllPorts, GateLeads.GivenOn}
 use Rattle.tsp_promises.proofs.{GateLeads.answers_all_lead, Known.Ended, Known.Fresh, NodeLeads.begins_all, NodeLeads.boots_all_lead}
-use Rattle.tsp_promises.proofs.{OwnFitsProof.fits_at, SafeProof.safe, OnceObeyedProof.sets_at}
+use Rattle.tsp_promises.proofs.{LookedProof.looked, OwnFitsProof.fits_at, SafeProof.safe, OnceObeyedProof.sets_at}
 use Rattle.tsp_promises.proofs.RunLeads.{ended_later, ends_of, nothing-done, nothing-ends}
 use Rattle.tsp_query.specs.{Arrivals.next_arrival, Ends.Outside}
 use Rattle.tsp_rules.specs.GateRows.{NodeGiven, NodeTurn, GotOn, answers_all, boots_all}
@@ -259,4 +259,5 @@ session_kept s o wall word written is setting set i few rises =
       safe = safe setting lines fits ends;
       dates = Everywhere-from (SetsAt setting) lines (λ l older w. sets_at setting l older (fits_at setting (l ∷ older) lines fits w));
       hops = (looped_in setting lines fits).hops;
+      looked = looked setting lines fits;
     }

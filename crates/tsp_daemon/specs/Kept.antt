@@ -2,7 +2,7 @@
 use Rattle.std.specs.Prelude.{◌≡◌, ◌<◌, ℕ, ℤ, pos, ◌+ℤ◌, List, length, slice_index_or}
 use Rattle.tsp_args.specs.declared.serve.ServeWords.{ServeWords}
 use Rattle.tsp_base.specs.Words.{Line}
-use Rattle.tsp_promises.specs.{Dated.SetsAt, Everywhere.Everywhere, Fits.Fits, Fits.Finished, Looped.HopsAt, Safe.Safe, Setting.Setting}
+use Rattle.tsp_promises.specs.{Dated.SetsAt, Everywhere.Everywhere, Fits.Fits, Fits.Finished, Looked.Looked, Looped.HopsAt, Safe.Safe, Setting.Setting}
 use Rattle.tsp_rules.specs.{NodeRows.no_port, Values.Port}
 use Rattle.tsp_daemon.specs.Nodes.{is_strict, setups_from}
 
@@ -24,3 +24,4 @@ pub record HistoryKept (setting : Setting) (lines : List Line) : Type 0 where
   pub safe : Safe setting lines
   pub dates : Everywhere (SetsAt setting) lines
   pub hops : Everywhere HopsAt lines
+  pub looked : Looked setting lines

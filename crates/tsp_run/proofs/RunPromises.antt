@@ -8,7 +8,7 @@ use Rattle.tsp_promises.specs.{Premises.FewAt, Premises.HonestAt, Premises.Taken
 use Rattle.tsp_promises.{specs.Answered.AnswersWith, specs.Answered.StrangersAt, proofs.ConfirmedDate.date_confirmed, proofs.SafeProof.safe}
 use Rattle.tsp_promises.{proofs.OneWinnerProof.one_winner, specs.Setting.Setting, specs.Setting.setup_of, proofs.OnceObeyedProof.sets_at}
 use Rattle.tsp_promises.{specs.Everywhere.Everywhere, proofs.ChainProof.looped_in, proofs.OwnFitsProof.fits_at, specs.DeedFits.answer_name}
-use Rattle.tsp_promises.specs.Fits.{Fits, node_of}
+use Rattle.tsp_promises.{proofs.LookedProof.looked, specs.Fits.Fits, specs.Fits.node_of}
 use Rattle.tsp_codec.specs.{Canon.canon, Canon.written_size, Taken.taken_of}
 use Rattle.tsp_run.specs.{declared.posted.Posted.Posted, AnswerOctets.AnswerOctets, AnswerOctets.AnswerOctetsAt, AnswerOctets.SizeFits}
 use Rattle.tsp_run.specs.{Ranges.Accepted, Run.last_at, Run.posts, Run.run}
@@ -53,6 +53,7 @@ possible-runs-keep-promises header setting events set p =
       one_winner = λ strict h l w. one_winner setting (run header events) strict f.0 h l w;
       dated = dated setting (run header events) f.0;
       looped = looped_in setting (run header events) f.0;
+      looked = looked setting (run header events) f.0;
       answer_octets = answer_octets setting (run header events) all.answered.strangers;
     }
 
