@@ -44,9 +44,10 @@ on-calm strange n (p ∷ acts) rest c k = ((λ e. c.0), on-calm strange n acts r
 alive-all : (setting : Setting) (step : Step) (x : ℕ) (strange : Bool) (n : ℕ) (acts : List Placed) (before : List Did) →
     AreCalm strange n acts → up before ≡ true → AllAlive setting step x before acts
 alive-all setting step x strange n [] before c u = tt
-alive-all setting step x strange n (p ∷ acts) before c u =
-    (alive-one setting step x [] strange p p.act before refl c.1 u,
-    alive-all setting step x strange n acts (did_in step x (Acts p.act) ∷ before) c.2 (stays-up p.act (up before) u))
+alive-all setting step x strange n (p ∷ acts) before c u = (
+  alive-one setting step x [] strange p p.act before refl c.1 u,
+  alive-all setting step x strange n acts (did_in step x (Acts p.act) ∷ before) c.2 (stays-up p.act (up before) u),
+)
 
 taken-all : (setting : Setting) (step : Step) (x : ℕ) (history : List Line) (strange : Bool) (n : ℕ) (acts : List Placed) → AreCalm strange n acts → AllTaken setting step x history acts
 taken-all setting step x history strange n [] c = tt
@@ -78,7 +79,8 @@ turn_ok setting step x history before past four is_up =
       on = on-all false n (answers_all NodeTurn x past) c.calm;
     }
 
-pub got_ok : (setting : Setting) (step : Step) (x : ℕ) (history : List Line) (before : List Did) (past : NodePast) (q : Port) (from : Place) (t : Taken) → length past.ports ≤ 4 → q.0 < length past.ports →
+pub got_ok : (setting : Setting) (step : Step) (x : ℕ) (history : List Line) (before : List Did) (past : NodePast) (q : Port) (from : Place)
+    (t : Taken) → length past.ports ≤ 4 → q.0 < length past.ports →
     up before ≡ true → TookFits step.cause setting (line_of step x q (Acts (Took from t))) history from t →
     StepOk (length past.ports) (room past.ports) setting step x history before (answers_all (GotOn q from t) x past)
 got_ok setting step x history before past q from t four has is_up f =
@@ -88,7 +90,8 @@ got_ok setting step x history before past q from t four has is_up f =
     let took : Placed = record { port = q; act = Took from t } in
     record {
       few = o.few;
-      alive = subst (λ acts. AllAlive setting step x before acts) (sym o.is) (alive-calm setting step x history strange n o.before (took ∷ o.after) before o.calm_before is_up
+      alive = subst (λ acts. AllAlive setting step x before acts) (sym o.is)
+          (alive-calm setting step x history strange n o.before (took ∷ o.after) before o.calm_before is_up
           (λ ds u. (u, alive-all setting step x strange n o.after (did_in step x (Acts (Took from t)) ∷ ds) o.calm_after u)));
       taken = subst (λ acts. AllTaken setting step x history acts) (sym o.is) (taken-calm setting step x history strange n o.before (took ∷ o.after) o.calm_before (f, taken-all setting step x history strange n o.after o.calm_after));
       on = subst (λ acts. ActsOn n acts) (sym o.is) (on-calm strange n o.before (took ∷ o.after) o.calm_before ((λ e. has), on-all strange n o.after o.calm_after));
@@ -96,7 +99,8 @@ got_ok setting step x history before past q from t four has is_up f =
 
 -- the boot of a node
 pub boot_ok : (setting : Setting) (step : Step) (x : ℕ) (history : List Line) (before : List Did) (past : NodePast) (word : ℕ) → length past.ports ≤ 4 →
-    step.cause ≡ Booted word (setting.wall step.node (lives before + 1) +ℤ pos x) → StepOk (length past.ports) (room past.ports) setting step x history before (boots_all x past)
+    step.cause ≡ Booted word (setting.wall step.node (lives before + 1) +ℤ pos x) →
+    StepOk (length past.ports) (room past.ports) setting step x history before (boots_all x past)
 unfolding boots_all on puts ◌and_then◌
 boot_ok setting step x history before past word four cause =
     let n = length past.ports in

@@ -124,7 +124,8 @@ some_deed a from t e = ap act_in e where
 
 -- one act more
 act_line : (setting : Setting) (step : Step) (x : ℕ) (history : List Line) (port : Port) (d : Deed) (before : List Line) (p : Placed) → x ≡ setting.tick step.node step.at → Within history (line_of step x port d ∷ before) →
-    posted (dids (line_of step x port d ∷ before)) < 2 ^ 64 → Alive setting (Acts p.act) (did_in step x (Acts p.act)) (dids (of step.node (line_of step x port d ∷ before))) →
+    posted (dids (line_of step x port d ∷ before)) < 2 ^ 64 →
+    Alive setting (Acts p.act) (did_in step x (Acts p.act)) (dids (of step.node (line_of step x port d ∷ before))) →
     TakenOk setting step x history p.port p.act → (is_shared (Acts p.act) ≡ false → ActFits (setup_of setting step.node p.port) p.act (record { step = step; tick = x; deed = Acts p.act }) (view p.port (of step.node (line_of step x port d ∷ before)))) →
     LineFits setting (line_of step x p.port (Acts p.act)) (line_of step x port d ∷ before)
 act_line setting step x history port d before p tick w few alive took fits = record {
@@ -160,7 +161,8 @@ pub acts_fit : (ports : ℕ) (setting : Setting) (step : Step) (x : ℕ) (histor
 acts_fit ports setting step x history [] port d before tick on w few alive took fits f = f
 acts_fit ports setting step x history (p ∷ rest) port d before tick on w few alive took fits f =
     let h = line_of step x port d ∷ before in
-    let own_is : dids (of step.node (line_of step x p.port (Acts p.act) ∷ h)) ≡ did_in step x (Acts p.act) ∷ dids (of step.node h) = ap dids (one_line step x p.port (Acts p.act) h) in
+    let own_is : dids (of step.node (line_of step x p.port (Acts p.act) ∷ h)) ≡ did_in step x (Acts p.act) ∷ dids (of step.node h) =
+    ap dids (one_line step x p.port (Acts p.act) h) in
     let own = λ (e : is_shared (Acts p.act) ≡ false).
     owes_here (setup_of setting step.node p.port) step x p h (fits_before (setup_of setting step.node p.port) p.port step x rest (line_of step x p.port (Acts p.act) ∷ h) (fits p.port (on.0 e))) in
     let kept = posted-joined step x (p ∷ rest) h in
