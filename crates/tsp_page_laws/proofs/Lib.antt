@@ -1,1 +1,2 @@
+pub mod NamedProof
 pub mod WithinProof

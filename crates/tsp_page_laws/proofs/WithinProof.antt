@@ -2,10 +2,10 @@
 use Rattle.std.proofs.Common.{◌≡◌, ◌≢◌, ℕ, ◌+◌, ◌-◌, ◌*◌, ◌/◌, ◌≤◌, nat_le, if◌then◌else◌, Bool, true, false, ℤ, pos, ◌-ℤ◌, ◌+ℤ◌, ◌≤ℤ◌, List, refl, ap, sym, subst, ◌∙◌, arith, mul-le-mul_left}
 use Rattle.std.proofs.lemmas.{Int.ints, Bool.leb-true}
 use Rattle.tsp_base.proofs.PlaceLemmas.{Within-all}
-use Rattle.tsp_base.specs.Words.{Line, of, dids, lives, moved, target, up, width, Undisturbed}
-use Rattle.tsp_promises.specs.{Agreed.Unchanged, ClockAt.clock_at, Fits.Fits, Setting.Setting, Looked.Look, Looked.IsAhead, Looked.ticks_since, Looked.width_by_ticks}
+use Rattle.tsp_base.specs.Words.{Line, of, dids, lives, moved, width}
+use Rattle.tsp_promises.specs.{ClockAt.clock_at, Fits.Fits, Setting.Setting, Looked.Look, Looked.IsAhead, Looked.ticks_since}
 use Rattle.tsp_promises.proofs.{ClockProof.clock_target, ClockProof.offset, ClockProof.offset_more, Clocks.tick-mono, LookedProof.looked}
-use Rattle.tsp_page.specs.{Formula.spread, Formula.target_at, Formula.tick_error, Pasts.TellsOf, Readings.interval_of, Readings.interval_by, Readings.looked_interval, Readings.leading_interval}
+use Rattle.tsp_page.specs.{Formula.spread, Formula.target_at, Formula.tick_error, Readings.interval_by, Readings.looked_interval, Readings.leading_interval}
 use Rattle.tsp_page.specs.declared.{daemon_half.DaemonHalf.DaemonHalf, look_half.LookHalf.LookHalf}
 use Rattle.tsp_page.specs.declared.rank.Rank.{Rank, TheVariants.Nobody, TheVariants.Follows, TheVariants.Leads}
 use Rattle.tsp_page.proofs.PastLemmas.{target_told}
@@ -26,7 +26,7 @@ reach : (setting : Setting) (k first middle t : ℕ) → first ≤ middle → mi
 reach setting k first middle t b p =
     let e : middle + (t - middle) ≡ t = omega (arith, p) in
     let slow : setting.tick k middle + (t - middle) ≤ setting.tick k t + (setting.drift * (t - middle) + 999999) / 1000000 =
-        subst (λ w. setting.tick k middle + (t - middle) ≤ setting.tick k w + (setting.drift * (t - middle) + 999999) / 1000000) e ((setting.ticks k).slow middle (t - middle)) in
+    subst (λ w. setting.tick k middle + (t - middle) ≤ setting.tick k w + (setting.drift * (t - middle) + 999999) / 1000000) e ((setting.ticks k).slow middle (t - middle)) in
     let early = tick-mono setting k first middle b in
     let late = tick-mono setting k middle t p in
     omega (arith, slow, early, late)
@@ -80,7 +80,7 @@ chosen setting h fits k m t look false short =
     let before_t : look.middle ≤ t = let e = look.ends in let p = look.passed in omega arith in
     let near : span ≤ y + 2 * width setting.drift y = by_all_ticks setting.drift span y setting.small (reach setting k look.first look.middle t look.begins before_t) in
     wider setting k m t h look (width setting.drift span) (width setting.drift (y + 2 * width setting.drift y))
-        (width-mono setting.drift span (y + 2 * width setting.drift y) near) (looked setting h fits k m t look).0
+    (width-mono setting.drift span (y + 2 * width setting.drift y) near) (looked setting h fits k m t look).0
 
 ahead_by : (setting : Setting) (h : List Line) → Fits setting h → (k m t : ℕ) (look : Look k m h t)
     → IsAhead setting look (width setting.drift (ticks_since setting look + tick_error setting.drift (ticks_since setting look)))

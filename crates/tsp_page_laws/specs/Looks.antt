@@ -1,5 +1,5 @@
 -- What the two halves of a page say of a history: the own clock, and a look at the master's.
-use Rattle.std.specs.Prelude.{◌≡◌, ◌≢◌, ℕ, ◌≤◌, ℤ, pos, ◌-ℤ◌, ◌+ℤ◌, ◌≤ℤ◌, List, true}
+use Rattle.std.specs.Prelude.{◌≡◌, ℕ, ◌≤◌, ℤ, ◌-ℤ◌, ◌≤ℤ◌, List, true}
 use Rattle.tsp_base.specs.Words.{Line, of, dids, lives, moved, up, Within}
 use Rattle.tsp_promises.specs.{Agreed.Unchanged, ClockAt.clock_at, Setting.Setting}
 use Rattle.tsp_page.specs.{Pasts.TellsOf, Readings.interval_of}
