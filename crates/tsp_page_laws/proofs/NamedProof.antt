@@ -2,9 +2,41 @@
 use Rattle.std.proofs.Common.{◌≡◌, ◌≢◌, ℕ, ◌+◌, ◌≤◌, ◌==◌, ◌||◌, Bool, true, false, List, [], ◌∷◌, ◌⊎◌, inl, inr, refl, ap, sym, subst, ◌∙◌, arith}
 use Rattle.std.proofs.lemmas.Bool.{false≢true}
 use Rattle.tsp_rules.specs.Values.{Become, Post, Message, Msite, PeerId, Stranger, Boot, Starting, Loose, Follow, Candidate, Master, Port, Role, ELECT_MIN}
-use Rattle.tsp_base.specs.Words.{kept_name, MessageValue, TakesFrom, Acts, Deed, Line, of, dids, view, boot_tick, boot_after, tick_of, time_of, lives, all_corrects, role, role_after, seen_as, is_shared, Within}
+use Rattle.tsp_base.specs.Words.{
+  kept_name,
+  MessageValue,
+  TakesFrom,
+  Acts,
+  Deed,
+  Line,
+  of,
+  dids,
+  view,
+  boot_tick,
+  boot_after,
+  tick_of,
+  time_of,
+  lives,
+  all_corrects,
+  role,
+  role_after,
+  seen_as,
+  is_shared,
+  Within,
+}
 use Rattle.tsp_base.proofs.{Views.plain_view, PlaceLemmas.Within-through}
-use Rattle.tsp_promises.specs.{Agreed.Unchanged, DeedFits.DeedFits, DeedFits.answer_name, Fits.Fits, Fits.node_of, OwnFits.OwnFits, OwnFits.OwnLineFits, Since.NewLife, Setting.Setting, Setting.setup_of}
+use Rattle.tsp_promises.specs.{
+  Agreed.Unchanged,
+  DeedFits.DeedFits,
+  DeedFits.answer_name,
+  Fits.Fits,
+  Fits.node_of,
+  OwnFits.OwnFits,
+  OwnFits.OwnLineFits,
+  Since.NewLife,
+  Setting.Setting,
+  Setting.setup_of,
+}
 use Rattle.tsp_promises.proofs.OwnFitsProof.{deed_fits, fits_at, own_fits, of-tick, tick_in, place-time}
 use Rattle.tsp_promises.proofs.{HistoryPlaces.Within-of, HistoryPlaces.of-own, SinceProof.since, Clocks.near}
 use Rattle.tsp_rules.specs.CommonRows.{master_name_in}
@@ -23,7 +55,8 @@ candidate : Candidate ≡ Master → ⊥
 candidate e = cc
 
 -- a port that leads after a deed that it sees leads by then for ELECT_MIN ticks since the boot
-rested-deed : (setting : Setting) (q : Port) (l : Line) (t : List Line) (deed : Deed) → DeedFits (setup_of setting (node_of l) q) deed l.did (view q t) → tick_of (dids t) ≤ l.did.tick
+rested-deed : (setting : Setting) (q : Port) (l : Line) (t : List Line) (deed : Deed) → DeedFits (setup_of setting (node_of l) q) deed l.did (view q
+    t) → tick_of (dids t) ≤ l.did.tick
     → (role (view q t) ≡ Master → boot_tick (dids t) + ELECT_MIN ≤ tick_of (dids t)) → role_after deed (role (view q t)) ≡ Master
     → boot_after deed l.did.tick (boot_tick (dids t)) + ELECT_MIN ≤ l.did.tick
 rested-deed setting q l t (Acts Boot) f tick h leads = absurd (starting leads)
@@ -43,8 +76,10 @@ unseen : (deed : Deed) (x was : ℕ) → is_shared deed ≡ false → boot_after
 unseen (Acts Boot) x was e = absurd (false≢true (sym e))
 unseen deed x was e = refl
 
-rested-line : (setting : Setting) (q : Port) (l : Line) (t : List Line) → OwnLineFits setting l t → (role (view q t) ≡ Master → boot_tick (dids t) + ELECT_MIN ≤ tick_of (dids t))
-    → (b : Bool) → ((l.port.0 == q.0) || is_shared l.did.deed) ≡ b → role (seen_as b l.did ∷ view q t) ≡ Master → boot_after l.did.deed l.did.tick (boot_tick (dids t)) + ELECT_MIN ≤ l.did.tick
+rested-line : (setting : Setting) (q : Port) (l : Line) (t : List Line) → OwnLineFits setting l t → (role (view q t) ≡ Master
+    → boot_tick (dids t) + ELECT_MIN ≤ tick_of (dids t))
+    → (b : Bool) → ((l.port.0 == q.0) || is_shared l.did.deed) ≡ b → role (seen_as b l.did ∷ view q t) ≡ Master
+    → boot_after l.did.deed l.did.tick (boot_tick (dids t)) + ELECT_MIN ≤ l.did.tick
 rested-line setting q l t f h true e leads = rested-deed setting q l t l.did.deed (f.deeds q e) f.tick h leads
 rested-line setting q l t f h false e leads =
     let same = unseen l.did.deed l.did.tick (boot_tick (dids t)) (neither (l.port.0 == q.0) (is_shared l.did.deed) e) in
@@ -74,7 +109,8 @@ one_life setting m stamp older named fits a =
 
 -- a node that isn't corrected between a stamp and a later moment, and led soon after the stamp, was left alone since the stamp
 pub unchanged_since : (setting : Setting) (m : ℕ) (stamp : Line) (older named h : List Line) → Fits setting h → Within named h → LeadsAfter m stamp older named
-    → lives (dids (of m named)) ≡ lives (dids (of m h)) → all_corrects (dids (of m (stamp ∷ older))) ≡ all_corrects (dids (of m h)) → Unchanged m (stamp ∷ older) h
+    → lives (dids (of m named)) ≡ lives (dids (of m h)) → all_corrects (dids (of m (stamp ∷ older))) ≡ all_corrects (dids (of m h))
+    → Unchanged m (stamp ∷ older) h
 unchanged_since setting m stamp older named h fits w a life corrects =
     let before = fits_at setting named h fits w in record {
       within = Within-through (stamp ∷ older) named h a.place w;
@@ -90,8 +126,10 @@ named_by Starting own kept name e f ne = absurd (ne (sym f ∙ e))
 named_by Loose own kept name e f ne = absurd (ne (sym f ∙ e))
 named_by Candidate own kept name e f ne = absurd (ne (sym f ∙ e))
 
-pub names_itself : (setting : Setting) (l : Line) (world : List Line) (answer asked : MessageValue) → Fits setting (l ∷ world) → l.did.deed ≡ Acts (Post Stranger (Message answer))
-    → TakesFrom (view l.port (of (node_of l) world)) Stranger (Message asked) → asked.kind ≡ Msite → answer.name ≡ setting.name (node_of l) → setting.name (node_of l) ≢ []
+pub names_itself : (setting : Setting) (l : Line) (world : List Line) (answer asked : MessageValue) → Fits setting (l ∷ world)
+    → l.did.deed ≡ Acts (Post Stranger (Message answer))
+    → TakesFrom (view l.port (of (node_of l) world)) Stranger (Message asked) → asked.kind ≡ Msite → answer.name ≡ setting.name (node_of l)
+    → setting.name (node_of l) ≢ []
     → (role (view l.port (of (node_of l) world)) ≡ Master)
     ⊎ ((p : PeerId) × (role (view l.port (of (node_of l) world)) ≡ Follow p) × (kept_name (view l.port (of (node_of l) world)) ≡ setting.name (node_of l)))
 names_itself setting l world answer asked fits deed took kind name ne =

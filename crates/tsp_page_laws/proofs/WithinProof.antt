@@ -1,5 +1,32 @@
 -- Why the master's clock lies in the interval.
-use Rattle.std.proofs.Common.{◌≡◌, ◌≢◌, ℕ, ◌+◌, ◌-◌, ◌*◌, ◌/◌, ◌≤◌, nat_le, if◌then◌else◌, Bool, true, false, ℤ, pos, ◌-ℤ◌, ◌+ℤ◌, ◌≤ℤ◌, List, refl, ap, sym, subst, ◌∙◌, arith, mul-le-mul_left}
+use Rattle.std.proofs.Common.{
+  ◌≡◌,
+  ◌≢◌,
+  ℕ,
+  ◌+◌,
+  ◌-◌,
+  ◌*◌,
+  ◌/◌,
+  ◌≤◌,
+  nat_le,
+  if◌then◌else◌,
+  Bool,
+  true,
+  false,
+  ℤ,
+  pos,
+  ◌-ℤ◌,
+  ◌+ℤ◌,
+  ◌≤ℤ◌,
+  List,
+  refl,
+  ap,
+  sym,
+  subst,
+  ◌∙◌,
+  arith,
+  mul-le-mul_left,
+}
 use Rattle.std.proofs.lemmas.{Int.ints, Bool.leb-true}
 use Rattle.tsp_base.proofs.PlaceLemmas.{Within-all}
 use Rattle.tsp_base.specs.Words.{Line, of, dids, lives, moved, width}
@@ -22,11 +49,13 @@ width-mono : (p x y : ℕ) → x ≤ y → width p x ≤ width p y
 width-mono p x y h = let m : p * x ≤ p * y = mul-le-mul_left p h in omega (arith, m)
 
 -- true time since the master was read, by the own ticks since
-reach : (setting : Setting) (k first middle t : ℕ) → first ≤ middle → middle ≤ t → t - middle ≤ (setting.tick k t - setting.tick k first) + (setting.drift * (t - middle) + 999999) / 1000000
+reach : (setting : Setting) (k first middle t : ℕ) → first ≤ middle → middle ≤ t → t - middle ≤ (setting.tick k t - setting.tick k first) +
+    (setting.drift * (t - middle) + 999999) / 1000000
 reach setting k first middle t b p =
     let e : middle + (t - middle) ≡ t = omega (arith, p) in
     let slow : setting.tick k middle + (t - middle) ≤ setting.tick k t + (setting.drift * (t - middle) + 999999) / 1000000 =
-    subst (λ w. setting.tick k middle + (t - middle) ≤ setting.tick k w + (setting.drift * (t - middle) + 999999) / 1000000) e ((setting.ticks k).slow middle (t - middle)) in
+    subst (λ w. setting.tick k middle + (t - middle) ≤ setting.tick k w + (setting.drift * (t - middle) + 999999) / 1000000) e ((setting.ticks
+    k).slow middle (t - middle)) in
     let early = tick-mono setting k first middle b in
     let late = tick-mono setting k middle t p in
     omega (arith, slow, early, late)
@@ -71,20 +100,24 @@ look_of setting k m t h l s = record {
 }
 
 -- for so many own ticks the spread is twice a width that is as wide as that of the true time
-chosen : (setting : Setting) (h : List Line) → Fits setting h → (k m t : ℕ) (look : Look k m h t) (soon : Bool) → (soon ≡ true → ticks_since setting look ≤ 100000000)
-    → IsAhead setting look (width setting.drift (ticks_since setting look + (if soon then width setting.drift (ticks_since setting look) else 2 * width setting.drift (ticks_since setting look))))
+chosen : (setting : Setting) (h : List Line) → Fits setting h → (k m t : ℕ) (look : Look k m h t) (soon : Bool) → (soon ≡ true
+    → ticks_since setting look ≤ 100000000)
+    → IsAhead setting look (width setting.drift (ticks_since setting look + (if soon then width setting.drift (ticks_since setting look) else 2 *
+    width setting.drift (ticks_since setting look))))
 chosen setting h fits k m t look true short = (looked setting h fits k m t look).1 (short refl)
 chosen setting h fits k m t look false short =
     let y = ticks_since setting look in
     let span = t - look.middle in
     let before_t : look.middle ≤ t = let e = look.ends in let p = look.passed in omega arith in
-    let near : span ≤ y + 2 * width setting.drift y = by_all_ticks setting.drift span y setting.small (reach setting k look.first look.middle t look.begins before_t) in
+    let near : span ≤ y + 2 * width setting.drift y = by_all_ticks setting.drift span y setting.small (reach setting k look.first look.middle t
+    look.begins before_t) in
     wider setting k m t h look (width setting.drift span) (width setting.drift (y + 2 * width setting.drift y))
     (width-mono setting.drift span (y + 2 * width setting.drift y) near) (looked setting h fits k m t look).0
 
 ahead_by : (setting : Setting) (h : List Line) → Fits setting h → (k m t : ℕ) (look : Look k m h t)
     → IsAhead setting look (width setting.drift (ticks_since setting look + tick_error setting.drift (ticks_since setting look)))
-ahead_by setting h fits k m t look = chosen setting h fits k m t look (nat_le (ticks_since setting look) 100000000) (λ e. leb-true (ticks_since setting look) 100000000 e)
+ahead_by setting h fits k m t look = chosen setting h fits k m t look (nat_le (ticks_since setting look) 100000000) (λ e. leb-true (ticks_since
+    setting look) 100000000 e)
 
 -- the interval of a host that doesn't lead is the looked one
 not_leading : (r : Rank) (d : DaemonHalf) (l : LookHalf) (x : ℕ) → r ≢ Leads → interval_by r d l x ≡ looked_interval d l x
@@ -99,12 +132,14 @@ same_spread : (p q a b : ℕ) → p ≡ q → a ≡ b → spread p a ≡ spread 
 same_spread p q a b e f = rw (e, f) refl
 
 -- a correction since the place moves the clock as much
-corrected_since : (setting : Setting) (k : ℕ) (seen h : List Line) (at : ℕ) (am : ℤ) → lives (dids (of k seen)) ≡ lives (dids (of k h)) → moved (dids (of k h)) ≡ moved (dids (of k seen)) +ℤ am
+corrected_since : (setting : Setting) (k : ℕ) (seen h : List Line) (at : ℕ) (am : ℤ) → lives (dids (of k seen)) ≡ lives (dids (of k h))
+    → moved (dids (of k h)) ≡ moved (dids (of k seen)) +ℤ am
     → clock_at setting k h at ≡ clock_at setting k seen at +ℤ am
 corrected_since setting k seen h at am life more =
     plus_last (offset setting k seen) am (setting.tick k at) (offset setting k h) (offset_more setting k seen h am life more)
 
-pub within : (setting : Setting) (k m t : ℕ) (h : List Line) (d : DaemonHalf) (l : LookHalf) → Fits setting h → SaysClock k h d → SaysLook setting k m h t l → d.rank ≢ Leads
+pub within : (setting : Setting) (k m t : ℕ) (h : List Line) (d : DaemonHalf) (l : LookHalf) → Fits setting h → SaysClock k h d
+    → SaysLook setting k m h t l → d.rank ≢ Leads
     → LiesWithin setting k m h t d l
 within setting k m t h d l fits c s ne =
     let x = setting.tick k t in
@@ -115,18 +150,25 @@ within setting k m t h d l fits c s ne =
     let total : d.moved ≡ l.moved +ℤ am = rw (c.moved_is, s.moved_is) more in
     let ahead = ahead_by setting h fits k m t look in
     let w = width setting.drift (ticks_since setting look + tick_error setting.drift (ticks_since setting look)) in
-    let apart : spread l.drift (x - l.looked) ≡ 2 * w = same_spread l.drift setting.drift (x - l.looked) (ticks_since setting look) s.drift_is (ap (λ z. x - z) s.looked_is) in
+    let apart : spread l.drift (x - l.looked) ≡ 2 * w = same_spread l.drift setting.drift (x - l.looked) (ticks_since setting look) s.drift_is (ap (λ
+    z. x - z) s.looked_is) in
     let late = corrected_since setting k s.seen h s.last am s.same_life more in
     let early = corrected_since setting k s.seen h s.first am s.same_life more in
     subst (λ i. Holds i (clock_at setting m h t)) (sym (not_leading d.rank d l x ne)) (record {
-      earliest = rw (own, apart) (lower (clock_at setting m h t) (clock_at setting k h t) l.low (clock_at setting m s.there s.middle) (clock_at setting k h s.last) (clock_at setting k s.seen s.last)
+      earliest = rw (own, apart) (lower (clock_at setting m h t) (clock_at setting k h t) l.low (clock_at setting m s.there s.middle) (clock_at
+          setting k h s.last) (clock_at setting k s.seen s.last)
           d.moved l.moved am w ahead.0 late total s.low_is);
-      latest = rw (own, apart) (upper (clock_at setting m h t) (clock_at setting k h t) l.high (clock_at setting m s.there s.middle) (clock_at setting k h s.first) (clock_at setting k s.seen s.first)
+      latest = rw (own, apart) (upper (clock_at setting m h t) (clock_at setting k h t) l.high (clock_at setting m s.there s.middle) (clock_at
+          setting k h s.first) (clock_at setting k s.seen s.first)
           d.moved l.moved am w ahead.1 early total s.high_is);
     })
 
-pub leads_within : (setting : Setting) (k t : ℕ) (h : List Line) (d : DaemonHalf) (l : LookHalf) → Fits setting h → SaysClock k h d → d.rank ≡ Leads → LiesWithin setting k k h t d l
+pub leads_within : (setting : Setting) (k t : ℕ) (h : List Line) (d : DaemonHalf) (l : LookHalf) → Fits setting h → SaysClock k h d
+    → d.rank ≡ Leads → LiesWithin setting k k h t d l
 leads_within setting k t h d l fits c e =
     let x = setting.tick k t in
     let own : target_at d x ≡ clock_at setting k h t = target_told (dids (of k h)) d x c.clock ∙ sym (clock_target setting k h t fits c.booted) in
-    subst (λ i. Holds i (clock_at setting k h t)) (sym (leading d.rank d l x e)) (record { earliest = rw own (≤ℤ-same (clock_at setting k h t)); latest = rw own (≤ℤ-same (clock_at setting k h t)) })
+    subst (λ i. Holds i (clock_at setting k h t)) (sym (leading d.rank d l x e)) (record {
+      earliest = rw own (≤ℤ-same (clock_at setting k h t));
+      latest = rw own (≤ℤ-same (clock_at setting k h t));
+    })
