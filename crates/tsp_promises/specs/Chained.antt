@@ -48,8 +48,7 @@ IsChain first (x ∷ rest) h = Hops (node_at (last_hop first rest)) x h × Withi
 abbrev pub chain_bound : Setting → ℕ → Hop → List Hop → ℤ
 chain_bound setting t first rest = bound setting t rest +ℤ hop_bound setting t first
 
--- what is to hold of two nodes and a bound holds down a chain: of its last node and m, which is left alone since the first link's Close,
--- and of the sum of the links' bounds
+-- this holds down each chain: of its last node and m, which is left alone since the first link's Close, and of the sum of the links' bounds
 abbrev pub OfChain : (ℕ → ℕ → ℤ → Type 0) → Setting → List Line → ℕ → Type 0
 OfChain Holds setting h t = (m : ℕ) (first : Hop) (rest : List Hop) → Hops m first h → IsChain first rest h → UnchangedBut m first.close first.cpast h →
     Holds (node_at (last_hop first rest)) m (chain_bound setting t first rest)
