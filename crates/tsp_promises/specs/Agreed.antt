@@ -1,7 +1,7 @@
 -- The promise that the clocks that one round corrected agree.
-use Rattle.std.specs.Prelude.{◌≡◌, ◌⊎◌, ◌≤◌, ◌≤ℤ◌, ℕ, ◌+◌, ◌-◌, ◌*◌, ℤ, pos, ◌+ℤ◌, ◌-ℤ◌, nat_abs, Bool, true, List, ◌∷◌, Some, is_some}
+use Rattle.std.specs.Prelude.{◌≡◌, ◌⊎◌, ℕ, ◌+◌, ℤ, pos, ◌+ℤ◌, Bool, true, List, ◌∷◌, Some, is_some}
 use Rattle.tsp_rules.specs.Values.{Act, Post, Correct, Datagram, Message, AdjTime, PeerId, Place, Peer, Port}
-use Rattle.tsp_base.specs.Words.{Came, Acts, Did, Seen, Here, Line, from_act, of, dids, view, MessageValue, all_corrects, lives, Within, acting, Sampled, best, Undisturbed, peer_of, posted, width}
+use Rattle.tsp_base.specs.Words.{Came, Acts, Did, Seen, Here, Line, from_act, of, dids, view, MessageValue, all_corrects, lives, Within, acting, Sampled, best, Undisturbed, peer_of, posted}
 use Rattle.tsp_promises.specs.{ClockAt.ClocksWithin, ClockAt.drifted, Everywhere.Everywhere, Everywhere.Lasting, Fits.node_of, Once.ActsOn, Once.OfSend, Setting.Setting}
 use Rattle.tsp_promises.specs.StepFacts.{closed}
 

@@ -1,9 +1,9 @@
 -- The promise that clocks along chains of corrected masters agree, as one does that a corrected master corrects with
 -- the first master's.
-use Rattle.std.specs.Prelude.{◌≡◌, ◌≤◌, ◌≤ℤ◌, ℕ, ◌+◌, ◌-◌, ◌*◌, ℤ, pos, ◌+ℤ◌, ◌-ℤ◌, nat_abs, List, [], ◌∷◌}
+use Rattle.std.specs.Prelude.{◌≡◌, ℕ, ◌+◌, ℤ, pos, ◌+ℤ◌, List, [], ◌∷◌}
 use Rattle.tsp_promises.specs.{Agreed.FromRound, Agreed.Unchanged, Agreed.UnchangedBut, ClockAt.ClocksWithin, ClockAt.drifted, Everywhere.Lasting}
 use Rattle.tsp_promises.specs.{Fits.node_of, Setting.Setting}
-use Rattle.tsp_base.specs.Words.{Line, Within, width}
+use Rattle.tsp_base.specs.Words.{Line, Within}
 
 -- one link of a chain: a Close, the Correct that takes its ADJTIME, the reading on which that rests, and its error in
 -- microseconds
