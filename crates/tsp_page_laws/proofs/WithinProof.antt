@@ -30,7 +30,7 @@ use Rattle.std.proofs.Common.{
 use Rattle.std.proofs.lemmas.{Int.ints, Bool.leb-true}
 use Rattle.tsp_base.proofs.PlaceLemmas.{Within-all}
 use Rattle.tsp_base.specs.Words.{Line, of, dids, lives, moved, width}
-use Rattle.tsp_promises.specs.{ClockAt.clock_at, Fits.Fits, Setting.Setting, Looked.Look, Looked.IsAhead, Looked.ticks_since}
+use Rattle.tsp_promises.specs.{ClockAt.clock_at, Fits.Fits, Setting.Setting, Looked.Look, Looked.IsAhead}
 use Rattle.tsp_promises.proofs.{ClockProof.clock_target, ClockProof.offset, ClockProof.offset_more, Clocks.tick-mono, LookedProof.looked}
 use Rattle.tsp_page.specs.{Formula.spread, Formula.target_at, Formula.tick_error, Readings.interval_by, Readings.looked_interval, Readings.leading_interval}
 use Rattle.tsp_page.specs.declared.{daemon_half.DaemonHalf.DaemonHalf, look_half.LookHalf.LookHalf}
@@ -69,6 +69,10 @@ difference a b = omega (arith, ints)
 plus_last : (z am : ℤ) (x : ℕ) (y : ℤ) → y ≡ z +ℤ am → y +ℤ pos x ≡ (z +ℤ pos x) +ℤ am
 plus_last z am x y e = omega (arith, ints, e)
 
+-- k's ticks since its first reading
+abbrev ticks_since : Setting → {k m : ℕ} {h : List Line} {t : ℕ} → Look k m h t → ℕ
+ticks_since setting {k} {m} {h} {t} look = setting.tick k t - setting.tick k look.first
+
 -- an interval around a target, by what a look bounds
 lower : (cm ck low s kl ks dm lm am : ℤ) (b : ℕ) → ((s -ℤ kl) -ℤ pos (2 * b)) ≤ℤ (cm -ℤ ck) → kl ≡ ks +ℤ am → dm ≡ lm +ℤ am → low ≤ℤ (s -ℤ ks)
     → (((ck -ℤ (dm -ℤ lm)) +ℤ low) -ℤ pos (2 * b)) ≤ℤ cm
@@ -104,7 +108,7 @@ chosen : (setting : Setting) (h : List Line) → Fits setting h → (k m t : ℕ
     → ticks_since setting look ≤ 100000000)
     → IsAhead setting look (width setting.drift (ticks_since setting look + (if soon then width setting.drift (ticks_since setting look) else 2 *
     width setting.drift (ticks_since setting look))))
-chosen setting h fits k m t look true short = (looked setting h fits k m t look).1 (short refl)
+chosen setting h fits k m t look true short = (looked setting h fits k m t look).1 (ticks_since setting look) refl (short refl)
 chosen setting h fits k m t look false short =
     let y = ticks_since setting look in
     let span = t - look.middle in
