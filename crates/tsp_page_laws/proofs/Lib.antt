@@ -1,2 +1,3 @@
 pub mod NamedProof
+pub mod PageProof
 pub mod WithinProof

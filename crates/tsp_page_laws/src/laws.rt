@@ -1,21 +1,21 @@
 //! Theorems about the interval. Nothing here runs.
-ghost use Rattle.std.specs.Prelude.{◌≡◌, ◌≢◌, ◌⊎◌, ℕ, List, [], ◌∷◌};
+ghost use Rattle.std.specs.Prelude.{◌≡◌, ◌≢◌, ◌⊎◌, ℕ, true, List, [], ◌∷◌};
 ghost use Rattle.tsp_base.specs.History.{Acts, Line, dids, of, view};
 ghost use Rattle.tsp_base.specs.Messages.{MessageValue};
-ghost use Rattle.tsp_base.specs.NodeFacts.{all_corrects, lives};
+ghost use Rattle.tsp_base.specs.NodeFacts.{all_corrects, lives, up};
 ghost use Rattle.tsp_base.specs.Places.{Within};
 ghost use Rattle.tsp_base.specs.PortFacts.{kept_name, role};
 ghost use Rattle.tsp_base.specs.Takings.{TakesFrom};
-ghost use Rattle.tsp_page_laws.specs.Named.{LeadsAfter};
-ghost use Rattle.tsp_promises.specs.Agreed.{Unchanged};
-ghost use Rattle.tsp_promises.specs.Fits.{node_of};
-ghost use Rattle.tsp_rules.specs.Values.{Post, Message, Msite, PeerId, Stranger, Follow, Master};
 ghost use Rattle.tsp_page.specs.declared.daemon_half.DaemonHalf.{DaemonHalf};
 ghost use Rattle.tsp_page.specs.declared.look_half.LookHalf.{LookHalf};
 ghost use Rattle.tsp_page.specs.declared.rank.Rank.TheVariants.{Leads};
 ghost use Rattle.tsp_page_laws.specs.Looks.{SaysClock, SaysLook, LiesWithin};
-ghost use Rattle.tsp_promises.specs.Fits.{Fits};
+ghost use Rattle.tsp_page_laws.specs.Named.{LeadsAfter};
+ghost use Rattle.tsp_page_laws.specs.Pages.{half_of, glance_of};
+ghost use Rattle.tsp_promises.specs.Agreed.{Unchanged};
+ghost use Rattle.tsp_promises.specs.Fits.{Fits, node_of};
 ghost use Rattle.tsp_promises.specs.Setting.{Setting};
+ghost use Rattle.tsp_rules.specs.Values.{Post, Message, Msite, PeerId, Stranger, Follow, Master};
 
 /// The master's clock lies in the interval that a reader gets, until it is corrected: of a host that has looked at it, and
 /// of one that leads, which is the master. What the own clock was corrected by since the look doesn't matter, nor how long
@@ -26,6 +26,14 @@ pub fn masters_lie_within()
         → LiesWithin setting k m h t d l }
     ensures leads { (setting : Setting) (k t : ℕ) (h : List Line) (d : DaemonHalf) (l : LookHalf)
         → Fits setting h → SaysClock k h d → d.rank ≡ Leads → LiesWithin setting k k h t d l }
+{}
+
+/// Each node that has booted can have such a page after any history, so the law above speaks of all of them.
+pub fn pages_can_say_so()
+    ensures clock { (k : ℕ) (h : List Line) → up (dids (of k h)) ≡ true
+        → SaysClock k h (half_of k h) }
+    ensures look { (setting : Setting) (k m t : ℕ) (h : List Line)
+        → SaysLook setting k m h t (glance_of setting k m h t) }
 {}
 
 /// Stamps of a node that leads at most 299 seconds later are of the life in which it leads, since a node leads no sooner
