@@ -4,5 +4,6 @@ pub mod NetworksKeep
 pub mod RosterLemmas
 pub mod SetUpLemmas
 pub mod ServeUse
+pub mod ToldLemmas
 pub mod UseLemmas
 pub mod WitnessUse
