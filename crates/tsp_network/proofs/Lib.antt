@@ -1,3 +1,4 @@
+pub mod EndLemmas
 pub mod NetworkAgrees
 pub mod NetworkRuns
 pub mod NetworksKeep

@@ -159,7 +159,8 @@ module _ (d : Daemons) (is : IsSetUp d.header) (keeps : (n : ℕ) → KeepsTime 
         by_node m true e = subst (λ n. OneAgrees n (life_until (d.tries k) now) step.at more) (sym (eqb-true m step.node e)) (by_end (d.tries k))
         by_node m false e =
             let off = ne_eqb step.node m (λ same. eqb-false m step.node e (sym same)) in
-            later-one m (w.lives m) t step.at h more (stepped_other m step (tick_by d.clocks step) (named_acts nets step.node now.origin acts) h off) later (a.nodes m)
+            later-one m (w.lives m) t step.at h more
+            (stepped_other m step (tick_by d.clocks step) (named_acts nets step.node now.origin acts) h off) later (a.nodes m)
 
   -- a daemon takes a turn, and its node what comes to it: both act the same, and agree after it
   pub turn_agrees_all : (w : Network) (t : ℕ) (h : List Line) (k : ℕ) (step : Step) (a : Arrival) (life : Life) (g : NodeGiven) → AllAgree w t h → t ≤ step.at → w.lives step.node ≡ Some life →

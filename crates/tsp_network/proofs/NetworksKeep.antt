@@ -45,7 +45,8 @@ send_at d (MoreMatch m a) (suc k) p e = let r = send_at d a k p e in record { se
 abbrev pub IsQuiet : Network → Type 0
 IsQuiet w = (n : ℕ) → w.lives n ≡ None → of n w.history ≡ []
 
-acted-quiet : (d : Daemons) (k : ℕ) (step : Step) (life : Life) (acts : List Placed) (w : Network) → d.tries k ≡ None → IsQuiet w → IsQuiet (acted d k step life acts w)
+acted-quiet : (d : Daemons) (k : ℕ) (step : Step) (life : Life) (acts : List Placed) (w : Network) → d.tries k ≡ None → IsQuiet w →
+    IsQuiet (acted d k step life acts w)
 acted-quiet d k step life acts w going q n e = by_node (n == step.node) refl e where
   by_node : (b : Bool) → (n == step.node) ≡ b → (if b then life_until (d.tries k) life else w.lives n) ≡ None → of n (acted d k step life acts w).history ≡ []
   by_node true same e = let alive : Some life ≡ None = subst (λ o. life_until o life ≡ None) going e in let bad : ⊥ = cc in absurd bad
@@ -84,7 +85,8 @@ went-at [] k s all e = let bad : ⊥ = cc in absurd bad
 went-at (r ∷ ss) zero s all e = ap (λ (z : Sent). z.went) (sym (some_same e)) ∙ all.0
 went-at (r ∷ ss) (suc k) s all e = went-at ss k s all.1 e
 
-acted-went : (d : Daemons) (k : ℕ) (step : Step) (life : Life) (acts : List Placed) (w : Network) → d.tries k ≡ None → AllWent w.sent → AllWent (acted d k step life acts w).sent
+acted-went : (d : Daemons) (k : ℕ) (step : Step) (life : Life) (acts : List Placed) (w : Network) → d.tries k ≡ None → AllWent w.sent →
+    AllWent (acted d k step life acts w).sent
 acted-went d k step life acts w going all = subst (λ o. AllWent (w.sent ++ sent_until o (map (sent_by step.node) (sends_of acts)))) (sym going)
     (went-more w.sent (map (sent_by step.node) (sends_of acts)) all (went-by step.node (sends_of acts)))
 
@@ -134,7 +136,7 @@ module _ (d : Daemons) (header_is : IsSetUp d.header) (keeps : (n : ℕ) → Kee
     | inl c ↦
         let r = send_at d a.sends k c.0 c.2 in
         subst (λ o. RunsFor d w o) (sym r.there)
-            (went-at w.sent k r.send (all-went d going before) r.there, by_address r.send c.0 c.2 r.matches (destination nets r.send.from r.send.tried.0) refl)
+        (went-at w.sent k r.send (all-went d going before) r.there, by_address r.send c.0 c.2 r.matches (destination nets r.send.from r.send.tried.0) refl)
     | inr c ↦ let few = known-datagram d.clocks d.header before at k can in let past = c.0 in let bad : ⊥ = omega (arith, few, past) in absurd bad
   ] where
     w : Network
@@ -197,7 +199,8 @@ module _ (d : Daemons) (header_is : IsSetUp d.header) (keeps : (n : ℕ) → Kee
       let few = p.few in
       record { happen = happen; few = same; agree = run_agrees d header_is keeps started (e ∷ before) happen (omega (arith, same, few)) }
 
-pub run_is_network : (d : Daemons) (events : List Event) → AreStarted d → ((k : ℕ) → d.tries k ≡ None) → AllSuit d events → PossibleBy d.clocks d.header events → IsNetwork d events
+pub run_is_network : (d : Daemons) (events : List Event) → AreStarted d → ((k : ℕ) → d.tries k ≡ None) → AllSuit d events →
+    PossibleBy d.clocks d.header events → IsNetwork d events
 run_is_network d events started going suits p =
     let c = comes d p.header_is p.keeps started going events suits p in
     let same = c.few in
@@ -240,9 +243,14 @@ more-tried n ss ts =
     ∙ map-append (λ (s : Sent). s.tried) (filter (λ (s : Sent). s.went && (s.from == n)) ss) (filter (λ (s : Sent). s.went && (s.from == n)) ts)
 
 -- of one send and more
-one-tried : (m : ℕ) (s : Sent) (rest : List Sent) (b : Bool) → (s.went && (s.from == m)) ≡ b → tried_by m (s ∷ rest) ≡ (if b then s.tried ∷ tried_by m rest else tried_by m rest)
-one-tried m s rest true e = ap (λ b. map (λ (z : Sent). z.tried) (if b then s ∷ filter (λ (z : Sent). z.went && (z.from == m)) rest else filter (λ (z : Sent). z.went && (z.from == m)) rest)) e
-one-tried m s rest false e = ap (λ b. map (λ (z : Sent). z.tried) (if b then s ∷ filter (λ (z : Sent). z.went && (z.from == m)) rest else filter (λ (z : Sent). z.went && (z.from == m)) rest)) e
+one-tried : (m : ℕ) (s : Sent) (rest : List Sent) (b : Bool) → (s.went && (s.from == m)) ≡ b →
+    tried_by m (s ∷ rest) ≡ (if b then s.tried ∷ tried_by m rest else tried_by m rest)
+one-tried m s rest true e = ap
+    (λ b. map (λ (z : Sent). z.tried)
+    (if b then s ∷ filter (λ (z : Sent). z.went && (z.from == m)) rest else filter (λ (z : Sent). z.went && (z.from == m)) rest)) e
+one-tried m s rest false e = ap
+    (λ b. map (λ (z : Sent). z.tried)
+    (if b then s ∷ filter (λ (z : Sent). z.went && (z.from == m)) rest else filter (λ (z : Sent). z.went && (z.from == m)) rest)) e
 
 own-tried : (n : ℕ) (ts : List Tried) → tried_by n (map (sent_by n) ts) ≡ ts
 own-tried n [] = refl
@@ -327,8 +335,8 @@ module _ (d : Daemons) where
       let long = longer w.sent (map (sent_by n) (sends_of acts)) in
       let before : List Tried = tried_by n (drop life.sent_before w.sent) in
       let after : (session_of s now).outside.tried ≡ (session_of s life).outside.tried ++ sends_of acts =
-          ap (λ (z : Session). z.outside.tried) (session_told s own.reached a (d.early k) y)
-          ∙ ap (λ l. (session_of s life).outside.tried ++ sends_of l) (sym (acts_told s own.reached a (d.early k) y)) in
+      ap (λ (z : Session). z.outside.tried) (session_told s own.reached a (d.early k) y)
+      ∙ ap (λ l. (session_of s life).outside.tried ++ sends_of l) (sym (acts_told s own.reached a (d.early k) y)) in
       acted-tried k step now acts w all (record {
         reached = Went own.reached a (d.early k) y;
         few = omega (arith, few, long);
@@ -352,7 +360,8 @@ module _ (d : Daemons) where
   all-tried (e ∷ before) = event-tried (all-tried before) (outcome d (length before) (network d before) e)
 
   -- a daemon that ends in a turn has tried the first of that turn's sends
-  pub ends-after : (before : List Event) (step : Step) (life now : Life) (m : ℕ) → (network d before).lives step.node ≡ Some life → d.tries (length before) ≡ Some m →
+  pub ends-after : (before : List Event) (step : Step) (life now : Life) (m : ℕ) → (network d before).lives step.node ≡ Some life →
+      d.tries (length before) ≡ Some m →
       TriesFirst d before step life now m
   ends-after before step life now m there ends =
       let n : ℕ = step.node in

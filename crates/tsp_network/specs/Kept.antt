@@ -85,5 +85,6 @@ AllSuit d (e ∷ before) = Suits d (length before) (network d before) e × AllSu
 -- all possible events that suit daemons which are started as their header says and don't end in a turn are a network's, and no events are
 -- that are impossible or don't suit
 pub record RunsAreNetworks : Type 0 where
-  pub all : (d : Daemons) (events : List Event) → AreStarted d → ((k : ℕ) → d.tries k ≡ None) → AllSuit d events → PossibleBy d.clocks d.header events → IsNetwork d events
+  pub all : (d : Daemons) (events : List Event) → AreStarted d → ((k : ℕ) → d.tries k ≡ None) → AllSuit d events → PossibleBy d.clocks d.header events →
+      IsNetwork d events
   pub only : (d : Daemons) (events : List Event) → IsNetwork d events → AllSuit d events × PossibleBy d.clocks d.header events

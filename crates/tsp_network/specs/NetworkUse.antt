@@ -44,7 +44,16 @@ two_words (suc n) = words_for (networks two_nodes) (codes "b") Never 1
 -- their daemons. Both nodes' ticks begin 1 second before the daemons do, whose counters begin with 0
 abbrev pub two_daemons : Daemons
 two_daemons =
-    record { header = two_nodes; clocks = clocks_of two_nodes; words = two_words; address = network_address; origin = λ k. 1000000; early = λ k. 0; tries = λ k. None }
+    record {
+      header = two_nodes;
+      clocks = clocks_of two_nodes;
+      words = two_words;
+      address = network_address;
+      origin = λ k. 1000000;
+      early =
+          λ k. 0;
+      tries = λ k. None;
+    }
 
 -- the events, the newest first. In the order of time: both start; they search a master; a stands for election, b backs it, and a is
 -- master; b follows it, is set by a SETTIME and acknowledges it; a round asks b for its clock four times and takes one answer, and its ADJTIME
@@ -187,7 +196,16 @@ three_words (suc (suc n)) = words_for (networks three_nodes) (codes "c") Never 2
 -- their daemons, whose counters are their nodes' ticks
 abbrev pub three_daemons : Daemons
 three_daemons =
-    record { header = three_nodes; clocks = clocks_of three_nodes; words = three_words; address = network_address; origin = λ k. 0; early = λ k. 0; tries = λ k. None }
+    record {
+      header = three_nodes;
+      clocks = clocks_of three_nodes;
+      words = three_words;
+      address = network_address;
+      origin = λ k. 0;
+      early =
+          λ k. 0;
+      tries = λ k. None;
+    }
 
 -- the events, the newest first. In the order of time: all start, b and c with one word; b and c back a, which is elected; they follow it; and
 -- it answers b's SLAVEUP by a SETTIME, which is datagram 14

@@ -1,11 +1,15 @@
 -- That a session may be told a step at a time: what `serve` promises of a daemon whose outside is told to its end is what a network says of it
 -- in the life that it has been told so far.
-use Rattle.std.specs.Prelude.{◌≡◌, ℕ, ◌+◌, ◌*◌, ℤ, List, ◌++◌, length}
+use Rattle.std.specs.Prelude.{◌≡◌, ◌⊎◌, ℕ, ◌+◌, ◌*◌, ℤ, List, ◌++◌, drop, length, Option, Some}
 use Rattle.tsp_args.specs.declared.serve.ServeWords.{ServeWords}
-use Rattle.tsp_io.specs.Links.{Arrival}
-use Rattle.tsp_query.specs.{Ends.Outside, Outside.after_bind}
-use Rattle.tsp_daemon.specs.{Serving.first_session, Sessions.Session, Sessions.acts_in_turn, Sessions.after_turns}
-use Rattle.tsp_network.specs.Lives.{Life, session_of, turn_acts, turn_told}
+use Rattle.tsp_base.specs.Words.{Step}
+use Rattle.tsp_io.specs.Links.{Arrival, Tried}
+use Rattle.tsp_rules.specs.Values.{Event}
+use Rattle.tsp_query.specs.{Ends.Outside, Outside.Observed, Outside.after_bind}
+use Rattle.tsp_daemon.specs.{Serving.IsServed, Serving.first_session, Sessions.Session, Sessions.acts_in_turn, Sessions.after_turns}
+use Rattle.tsp_daemon.specs.declared.exit.DaemonExit.{DaemonExit}
+use Rattle.tsp_network.specs.{Kept.tried_by, Lives.Daemons, Lives.Life, Lives.session_of, Lives.turn_acts, Lives.turn_told}
+use Rattle.tsp_network.specs.Networks.{network, turned_to}
 
 -- what a daemon has been told in this life is the beginning of its outside: an arrival for each turn, and two readings, after one at its start
 pub record IsTold (o : Outside) (wall : ℤ) (word : ℕ) (life : Life) : Type 0 where
@@ -37,3 +41,21 @@ pub record SessionsAreTold : Type 0 where
   pub acts : (s : ServeWords) (o : Outside) (wall : ℤ) (word : ℕ) (written : List ℕ) (life : Life) (arrival : Arrival) (early tick : ℕ) →
       IsTold o wall word life → IsTold o wall word (turn_told arrival early tick life) →
       acts_in_turn (told_session s o wall word written life) ≡ turn_acts s life (turn_told arrival early tick life)
+
+-- what the link of a daemon was asked to send when `serve` ended, if the daemon is one of a network that has come to this life of it. It is
+-- what the link was asked before the start, and what the network has of the daemon since: if nothing was sent after the turns of this life, up
+-- to here; and else with one turn more, in which the daemon ends after so many sends
+abbrev pub IsTriedSo : Daemons → List Event → Step → Outside → Life → Option (List Tried) → Type 0
+IsTriedSo d events step o life tried =
+    (tried ≡ Some (o.tried ++ tried_by step.node (drop life.sent_before (network d events).sent)))
+    ⊎ ((m : ℕ) × ((arrival : Arrival) (early tick : ℕ) → IsTold o life.wall life.word (turn_told arrival early tick life) → d.tries (length events) ≡ Some m →
+    tried ≡ Some (o.tried ++ tried_by step.node
+    (drop life.sent_before (turned_to d (length events) step life (turn_told arrival early tick life) (network d events)).sent))))
+
+-- so it is with every daemon of which `serve` says how it was served, in as many turns as this life has
+abbrev pub ServedIsTried : Type 0
+ServedIsTried =
+    (d : Daemons) (events : List Event) (step : Step) (life : Life) (o : Outside) (written : List ℕ) (waits : Option (List ℕ)) (now : Observed)
+    (served : DaemonExit) → (network d events).lives step.node ≡ Some life → IsTold o life.wall life.word life →
+    (by : IsServed (d.words step.node) (after_bind o) life.wall life.word written waits now served) → by.taken ≡ length life.arrivals →
+    IsTriedSo d events step o life now.tried

@@ -9,7 +9,8 @@
 //! and its wall clock any in each life. There may be as many nodes as one likes, but each daemon is
 //! started with words that `serve` takes, so it has at most 999 peers. The *life* of a daemon is
 //! all that it has been told since its start: its session is that of its life. Its acts are read in
-//! the numbers of the nodes, and in the ticks of its node.
+//! the numbers of the nodes, and in the ticks of its node. A daemon may end at any time, also after
+//! some of a turn's sends: the others are then posts that never come.
 //!
 //! Read `specs/` in this order: `Rosters` (who is whom: the numbers by which daemons know each
 //! other), `Lives` (how daemons are started, and what they are told), `Networks` (what comes of
@@ -34,7 +35,9 @@
 //!   history is the run of a schedule (`schedules_are_kept`).
 //! - A session is told a step at a time: one whose outside is told to its end, as `serve` speaks of
 //!   it, comes turn by turn as far as the session of a life that has been told the beginning, with
-//!   the same acts and sends (`sessions_are_told`).
+//!   the same acts and sends (`sessions_are_told`). What `serve` says that a daemon had tried when
+//!   it ended is what the network has of it, also if it ended in the middle of a turn's sends
+//!   (`served_is_tried`).
 //! - The number by which a daemon knows a peer is the place of the peer's address on their network
 //!   among the addresses to which the daemon binds its link (`numbers_are_addresses`).
 //! - All possible events are a network's, if the daemons are started as its nodes say and each

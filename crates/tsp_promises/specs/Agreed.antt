@@ -1,7 +1,7 @@
 -- The promise that the clocks that one round corrected agree.
-use Rattle.std.specs.Prelude.{◌≡◌, ◌⊎◌, ◌≤◌, ◌≤ℤ◌, ℕ, ◌+◌, ◌-◌, ◌*◌, ℤ, pos, ◌+ℤ◌, ◌-ℤ◌, nat_abs, Bool, true, List, ◌∷◌, Some, is_some}
+use Rattle.std.specs.Prelude.{◌≡◌, ◌⊎◌, ℕ, ◌+◌, ℤ, pos, ◌+ℤ◌, Bool, true, List, ◌∷◌, Some, is_some}
 use Rattle.tsp_rules.specs.Values.{Act, Post, Correct, Datagram, Message, AdjTime, PeerId, Place, Peer, Port}
-use Rattle.tsp_base.specs.Words.{Came, Acts, Did, Seen, Here, Line, from_act, of, dids, view, MessageValue, all_corrects, lives, Within, acting, Sampled, best, Undisturbed, peer_of, posted, width}
+use Rattle.tsp_base.specs.Words.{Came, Acts, Did, Seen, Here, Line, from_act, of, dids, view, MessageValue, all_corrects, lives, Within, acting, Sampled, best, Undisturbed, peer_of, posted}
 use Rattle.tsp_promises.specs.{ClockAt.ClocksWithin, ClockAt.drifted, Everywhere.Everywhere, Everywhere.Lasting, Fits.node_of, Once.ActsOn, Once.OfSend, Setting.Setting}
 use Rattle.tsp_promises.specs.StepFacts.{closed}
 
@@ -66,8 +66,8 @@ pub record UnchangedBut (m : ℕ) (close : Line) (cpast h : List Line) : Type 0 
   pub lives : lives (dids (of m (close ∷ cpast))) ≡ lives (dids (of m h))
   pub corrects : (all_corrects (dids (of m (close ∷ cpast))) ≡ all_corrects (dids (of m h))) ⊎ RightAfter m close cpast h
 
--- after the history h, at true time t: what is to hold of two nodes and a bound holds of two nodes that one Close corrected, and that
--- neither booted nor corrected their clocks since, and of their errors and drift. Drift is twice `width` of the time since each reading
+-- after the history h, at true time t: this holds of any two nodes that one Close corrected, and that neither booted nor corrected their
+-- clocks since, and of their errors and drift. Drift is twice `width` of the time since each reading
 abbrev pub OfPeers : (ℕ → ℕ → ℤ → Type 0) → Setting → List Line → ℕ → Type 0
 OfPeers Holds setting h t = (m : ℕ) (close : Line) (cpast : List Line) (c d : Line) (past qast : List Line) (r q : Line) (rolder qolder : List Line) (e f : ℤ) →
     FromRound m close cpast c past r rolder e → FromRound m close cpast d qast q qolder f → Unchanged (node_of c) (c ∷ past) h → Unchanged (node_of d) (d ∷ qast) h →

@@ -1,9 +1,9 @@
 -- The promise that what clocks show agrees where the clocks do, and what a wait is good for.
-use Rattle.std.specs.Prelude.{◌≡◌, ◌≤◌, ◌≤ℤ◌, ℕ, ◌+◌, ◌-◌, ◌*◌, ℤ, pos, ◌+ℤ◌, ◌-ℤ◌, nat_abs, true, List, ◌∷◌}
+use Rattle.std.specs.Prelude.{◌≡◌, ◌≤◌, ◌≤ℤ◌, ℕ, ◌+◌, ◌*◌, ℤ, pos, ◌+ℤ◌, ◌-ℤ◌, nat_abs, true, List, ◌∷◌}
 use Rattle.tsp_promises.specs.{Agreed.OfMaster, Agreed.OfPeers, Chained.OfChain, Chained.OfChains, Chained.OfTree}
 use Rattle.tsp_promises.specs.ClockAt.{ClocksWithin, left_at, shown_at}
-use Rattle.tsp_promises.specs.{Everywhere.Everywhere, Everywhere.Lasting, Fits.node_of, Setting.Setting, Steady.ReadTimes, Steady.Unstepped, Steady.shown_width}
-use Rattle.tsp_base.specs.Words.{Line, of, dids, last_correct, rest, up, width}
+use Rattle.tsp_promises.specs.{Everywhere.Everywhere, Everywhere.Lasting, Setting.Setting, Steady.ReadTimes, Steady.Unstepped, Steady.shown_width}
+use Rattle.tsp_base.specs.Words.{Line, of, dids, last_correct, rest, up}
 
 -- the shown values of k and l differ by at most b and what is still to be slewed on each; so by at most b, once both
 -- show their targets

@@ -1,9 +1,9 @@
 -- The promise that clocks along chains of corrected masters agree, as one does that a corrected master corrects with
 -- the first master's.
-use Rattle.std.specs.Prelude.{◌≡◌, ◌≤◌, ◌≤ℤ◌, ℕ, ◌+◌, ◌-◌, ◌*◌, ℤ, pos, ◌+ℤ◌, ◌-ℤ◌, nat_abs, List, [], ◌∷◌}
+use Rattle.std.specs.Prelude.{◌≡◌, ℕ, ◌+◌, ℤ, pos, ◌+ℤ◌, List, [], ◌∷◌}
 use Rattle.tsp_promises.specs.{Agreed.FromRound, Agreed.Unchanged, Agreed.UnchangedBut, ClockAt.ClocksWithin, ClockAt.drifted, Everywhere.Lasting}
 use Rattle.tsp_promises.specs.{Fits.node_of, Setting.Setting}
-use Rattle.tsp_base.specs.Words.{Line, Within, width}
+use Rattle.tsp_base.specs.Words.{Line, Within}
 
 -- one link of a chain: a Close, the Correct that takes its ADJTIME, the reading on which that rests, and its error in
 -- microseconds
@@ -48,8 +48,7 @@ IsChain first (x ∷ rest) h = Hops (node_at (last_hop first rest)) x h × Withi
 abbrev pub chain_bound : Setting → ℕ → Hop → List Hop → ℤ
 chain_bound setting t first rest = bound setting t rest +ℤ hop_bound setting t first
 
--- what is to hold of two nodes and a bound holds down a chain: of its last node and m, which is left alone since the first link's Close,
--- and of the sum of the links' bounds
+-- this holds down each chain: of its last node and m, which is left alone since the first link's Close, and of the sum of the links' bounds
 abbrev pub OfChain : (ℕ → ℕ → ℤ → Type 0) → Setting → List Line → ℕ → Type 0
 OfChain Holds setting h t = (m : ℕ) (first : Hop) (rest : List Hop) → Hops m first h → IsChain first rest h → UnchangedBut m first.close first.cpast h →
     Holds (node_at (last_hop first rest)) m (chain_bound setting t first rest)

@@ -1,7 +1,7 @@
 -- What the estimates of a round say of the clocks.
-use Rattle.std.specs.Prelude.{◌≡◌, ◌≤◌, ◌≤ℤ◌, ℕ, ◌+◌, ◌-◌, ◌*◌, ℤ, pos, ◌+ℤ◌, ◌-ℤ◌, nat_abs, Bool, true, List, ◌∷◌, Some}
+use Rattle.std.specs.Prelude.{◌≡◌, ◌≤ℤ◌, ℕ, ◌+◌, ℤ, pos, ◌+ℤ◌, ◌-ℤ◌, nat_abs, Bool, true, List, ◌∷◌, Some}
 use Rattle.tsp_rules.specs.Values.{Post, Close, Correct, Message, AdjTime, PeerId, Peer}
-use Rattle.tsp_base.specs.Words.{Acts, Here, Line, dids, of, view, MessageValue, Within, acting, Sampled, best, Undisturbed, peer_of, width}
+use Rattle.tsp_base.specs.Words.{Acts, Here, Line, dids, of, view, MessageValue, Within, acting, Sampled, best, Undisturbed, peer_of}
 use Rattle.tsp_promises.specs.{Agreed.ReadingOf, Agreed.Unchanged, Agreed.UnchangedBut, ClockAt.ClocksWithin, ClockAt.clock_at, ClockAt.drifted, Everywhere.Everywhere, Everywhere.Lasting}
 use Rattle.tsp_promises.specs.{Fits.node_of, Setting.Setting, StepFacts.closed}
 

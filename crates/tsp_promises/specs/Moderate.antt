@@ -1,11 +1,11 @@
 -- The promise of a round that a Correct ends: whatever a minority of its estimates says, that Correct, and those that take
 -- the ADJTIMEs of the round, move no clock of the majority by much.
-use Rattle.std.specs.Prelude.{◌≡◌, ◌≤◌, ◌<◌, ◌≤ℤ◌, ℕ, ◌+◌, ◌-◌, ◌*◌, ℤ, pos, ◌+ℤ◌, ◌-ℤ◌, nat_abs, Bool, true, false, List, ◌∷◌, length, Some}
+use Rattle.std.specs.Prelude.{◌≡◌, ◌≤◌, ◌<◌, ℕ, ◌+◌, ◌*◌, ℤ, pos, ◌+ℤ◌, ◌-ℤ◌, nat_abs, Bool, true, false, List, ◌∷◌, length, Some}
 use Rattle.std.specs.List.{Contains, count_by}
 use Rattle.tsp_rules.specs.Values.{AdjTime, PeerId, Port, SLEW, SPAN}
-use Rattle.tsp_base.specs.Words.{Here, Line, dids, of, view, rest_at, shown, target, Within, Sampled, best, peer_of, time_in, width}
+use Rattle.tsp_base.specs.Words.{Here, Line, dids, of, view, rest_at, shown, target, Within, Sampled, best, peer_of, time_in}
 use Rattle.tsp_group.specs.Groups.{Agree}
-use Rattle.tsp_promises.specs.{Agreed.Unchanged, ClockAt.ClocksWithin, ClockAt.clock_at, ClockAt.drifted, Estimates.CloseBegins, Estimates.Estimate, Estimates.Moves, Fits.node_of}
+use Rattle.tsp_promises.specs.{Agreed.Unchanged, ClockAt.ClocksWithin, ClockAt.drifted, Estimates.CloseBegins, Estimates.Estimate, Estimates.Moves, Fits.node_of}
 use Rattle.tsp_promises.specs.{Everywhere.Everywhere, Everywhere.Lasting, OneError.Taking, RoundFits.estimates_at, Setting.Setting, Setting.setup_of}
 use Rattle.tsp_promises.specs.StepFacts.{closed}
 

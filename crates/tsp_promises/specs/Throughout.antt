@@ -1,7 +1,7 @@
 -- The promise that a round's bound outlasts later Corrects, if those are taken back, until either node boots.
-use Rattle.std.specs.Prelude.{◌≡◌, ◌≤◌, ◌≤ℤ◌, ℕ, ◌+◌, ◌-◌, ◌*◌, ℤ, pos, ◌+ℤ◌, ◌-ℤ◌, nat_abs, List, ◌∷◌}
+use Rattle.std.specs.Prelude.{◌≡◌, ◌≤ℤ◌, ℕ, ◌+◌, ℤ, pos, ◌+ℤ◌, ◌-ℤ◌, nat_abs, List, ◌∷◌}
 use Rattle.tsp_rules.specs.Values.{Close}
-use Rattle.tsp_base.specs.Words.{Acts, Line, of, dids, lives, moved, Within, width}
+use Rattle.tsp_base.specs.Words.{Acts, Line, of, dids, lives, moved, Within}
 use Rattle.tsp_promises.specs.{Agreed.FromRound, ClockAt.ClocksWithin, ClockAt.clock_at, ClockAt.drifted, Everywhere.Lasting, Fits.node_of, Setting.Setting}
 
 -- by how much the Corrects of node n have moved its clock since the place s, in one life
