@@ -1,12 +1,15 @@
 -- Lists of events without foreign octets, and what a test finds of all of them: that each can happen, that takes are early, that words differ.
-use Rattle.std.proofs.Common.{ap, arith, leb-true, true≢false, ◌∙◌, sym, ◌≡◌, ℕ, ◌+◌, ◌<◌, ◌≤◌, ◌==◌, ◌&&◌, nat_le, nat_lt, not, Bool, true, false, List, [], ◌∷◌, length, Option, None, Some, slice_get, eq-eqb, All, refl}
+use Rattle.std.proofs.Common.{length-append, subst, suc, ◌-◌, if◌then◌else◌, ap, arith, leb-true, true≢false, ◌∙◌, sym, ◌≡◌, ℕ, ◌+◌, ◌<◌, ◌≤◌, ◌==◌, ◌&&◌, nat_le, nat_lt, not, Bool, true, false, List, [], ◌∷◌, length, Option, None, Some, slice_get, eq-eqb, All, refl}
 use Rattle.std.proofs.lemmas.{Bool.and_parts, Bool.ltb-true, List.Elements.All-cons, List.Elements.All-nil}
 use Rattle.tsp_rules.specs.Values.{Event, BootAt, Turn, Take, Bytes, LIFE}
 use Rattle.tsp_base.specs.{Words.HeaderValue, declared.event.EventFault.EventFault}
 use Rattle.tsp_run.specs.Clocked.{Clocks, HappensBy, IsPromptBy, PromptBy, run_by, scene_by}
 use Rattle.tsp_run.specs.{Premised.AllBootOtherwise, Premised.Apart, Premised.Sealed}
 use Rattle.tsp_run.specs.{Ranges.IsInRange, Refusals.impossible, Run.posted_time, Run.posts, declared.posted.Posted.Posted}
-use Rattle.tsp_network.specs.{Kept.AllSuit, Kept.Suits, Lives.Daemons, Networks.network}
+use Rattle.tsp_run.{specs.Clocked.tick_by, proofs.NetworkLemmas.some_same}
+use Rattle.tsp_network.specs.{Kept.AllSuit, Kept.HasTurn, Kept.Suits, Lives.Daemons, Lives.Life, Lives.turn_told, Networks.Network, Networks.network}
+use Rattle.tsp_network.specs.Networks.{life_from, life_until, with_life}
+use Rattle.tsp_network.proofs.NetworkRuns.{Nothing, Outcome, Starts, Turns, outcome}
 
 -- an event hands no octets over, and a boot's word is one
 abbrev pub is_plain : Event → Bool
@@ -37,18 +40,57 @@ plain_sealed (Turn at node ∷ before) p = (tt, plain_sealed before p)
 plain_sealed (Take at k ∷ before) p = (tt, plain_sealed before p)
 plain_sealed (Bytes at node port from octets ∷ before) p = absurd (true≢false (sym p))
 
--- what daemons owe at such events, they owe at boots alone
+-- no daemon has taken more turns than there were events
+abbrev AtMost : ℕ → Network → Type 0
+AtMost m w = (n : ℕ) (life : Life) → w.lives n ≡ Some life → length life.arrivals ≤ m
+
+lives-most : (o : Option ℕ) (m n : ℕ) (now : Life) (w : Network) → length now.arrivals ≤ m → AtMost m w → (x : ℕ) (life : Life) →
+    with_life n (life_until o now) w.lives x ≡ Some life → length life.arrivals ≤ m
+lives-most o m n now w few all x life there = by_node (x == n) there where
+  by_end : (o : Option ℕ) → life_until o now ≡ Some life → length life.arrivals ≤ m
+  by_end None there = subst (λ (l : Life). length l.arrivals ≤ m) (some_same there) few
+  by_end (Some i) there = let bad : ⊥ = cc in absurd bad
+
+  by_node : (b : Bool) → (if b then life_until o now else w.lives x) ≡ Some life → length life.arrivals ≤ m
+  by_node true there = by_end o there
+  by_node false there = all x life there
+
+one-more : (m : ℕ) (w : Network) → AtMost m w → AtMost (suc m) w
+one-more m w all n life there = let few = all n life there in omega (arith, few)
+
+event-most : {d : Daemons} {k m : ℕ} {w v : Network} → AtMost m w → Outcome d k w v → AtMost (suc m) v
+event-most {d} {k} {m} {w} all (Starts at n word) = lives-most (d.tries k) (suc m) n (life_from d k at n word w) w (omega arith) (one-more m w all)
+event-most {d} {k} {m} {w} all (Turns step a life there) =
+    let more = length-append life.arrivals (a ∷ []) in
+    let few = all step.node life there in
+    lives-most (d.tries k) (suc m) step.node (turn_told a (d.early k) (tick_by d.clocks step - life.origin) life) w (omega (arith, more, few))
+    (one-more m w all)
+event-most {m = m} {w = w} all Nothing = one-more m w all
+
+most : (d : Daemons) (events : List Event) → AtMost (length events) (network d events)
+most d [] = λ n life there. (let bad : ⊥ = cc in absurd bad)
+most d (e ∷ before) = event-most (most d before) (outcome d (length before) (network d before) e)
+
+-- so where there are few events, each has a turn left
+turn-left : (d : Daemons) (before : List Event) → ((n : ℕ) → 1000 ≤ (d.words n).turns) → length before < 1000 → (n : ℕ) → HasTurn d (network d before) n
+turn-left d before turns few n life there = let some = turns n in let most = most d before n life there in omega (arith, few, some, most)
+
+-- what daemons owe at such events besides, they owe at boots alone
 abbrev pub BootsSuit : Daemons → List Event → Type 0
 BootsSuit d [] = Unit {0}
 BootsSuit d (BootAt at node word ∷ before) = Suits d (length before) (network d before) (BootAt at node word) × BootsSuit d before
 BootsSuit d (e ∷ before) = BootsSuit d before
 
-pub plain_suit : (d : Daemons) (events : List Event) → are_plain events ≡ true → BootsSuit d events → AllSuit d events
-plain_suit d [] p s = tt
-plain_suit d (BootAt at node word ∷ before) p s = (s.0, plain_suit d before (and_parts (is_plain (BootAt at node word)) (are_plain before) p).1 s.1)
-plain_suit d (Turn at node ∷ before) p s = (tt, plain_suit d before p s)
-plain_suit d (Take at k ∷ before) p s = (tt, plain_suit d before p s)
-plain_suit d (Bytes at node port from octets ∷ before) p s = absurd (true≢false (sym p))
+pub plain_suit : (d : Daemons) (events : List Event) → ((n : ℕ) → 1000 ≤ (d.words n).turns) → length events ≤ 1000 → are_plain events ≡ true →
+    BootsSuit d events → AllSuit d events
+plain_suit d [] turns few p s = tt
+plain_suit d (BootAt at node word ∷ before) turns few p s =
+    (s.0, plain_suit d before turns (omega (arith, few)) (and_parts (is_plain (BootAt at node word)) (are_plain before) p).1 s.1)
+plain_suit d (Turn at node ∷ before) turns few p s =
+    (turn-left d before turns (omega (arith, few)) node, plain_suit d before turns (omega (arith, few)) p s)
+plain_suit d (Take at k ∷ before) turns few p s =
+    ((λ sent to there goes. turn-left d before turns (omega (arith, few)) to.node), plain_suit d before turns (omega (arith, few)) p s)
+plain_suit d (Bytes at node port from octets ∷ before) turns few p s = absurd (true≢false (sym p))
 
 -- no event is a boot with this word
 abbrev pub boots_otherwise : ℕ → List Event → Bool

@@ -11,7 +11,7 @@ use Rattle.tsp_network.specs.ClocksUse.{ClocksUse, IsPace, course, paced_tick, p
 use Rattle.tsp_network.specs.{Events.IsNetwork, Lives.AreStarted, NetworkUse.acts_by_node, NetworkUse.node_a, NetworkUse.node_b, Networks.network}
 use Rattle.tsp_network.proofs.{NetworkRuns.run_agrees, NetworksKeep.run_is_network, PacedClocks.any_paces_keep_time, ServeUse.beside_one, ServeUse.letter_name}
 use Rattle.tsp_network.proofs.EventLists.{can_happen_all, differ_apart, plain_ranges, plain_sealed, plain_suit, soon_prompt_all}
-use Rattle.tsp_network.proofs.WanderLemmas.{is_wandered}
+use Rattle.tsp_network.proofs.{WanderLemmas.is_wandered, WitnessUse.two-turns}
 
 fast-pace : IsPace 80 1000080
 fast-pace = record { fast = omega arith; slow = omega arith }
@@ -73,7 +73,7 @@ wall-of-b at false first later = later
 
 is : IsNetwork wandering_daemons wandered
 is = run_is_network wandering_daemons wandered started (λ k. refl)
-    (plain_suit wandering_daemons wandered refl
+    (plain_suit wandering_daemons wandered two-turns (omega arith) refl
     ((omega arith, wall-of-b 900295724 _ refl refl), ((omega arith, wall-of-b 1812874 _ refl refl), ((omega arith, refl), tt)))) possible
 
 history-is : (network wandering_daemons wandered).history ≡ run_by wandering two_wanderers wandered

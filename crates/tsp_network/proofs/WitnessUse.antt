@@ -17,7 +17,7 @@ use Rattle.tsp_network.proofs.UseLemmas.{history, set_post, set_time, stray_acts
 use Rattle.tsp_network.proofs.NetworksKeep.{run_is_network, SendAt, quiet, runs_up, send_at}
 use Rattle.tsp_network.proofs.NetworkAgrees.{AllAgree, OneAgrees, turn_agrees_all, Agrees}
 use Rattle.tsp_network.specs.{Networks.network, Networks.daemon_tick, Networks.Network, Networks.copy_at}
-use Rattle.tsp_network.proofs.{NetworkRuns.run_agrees, NetworkRuns.running, SetUpLemmas.comes_as, SetUpLemmas.place-of}
+use Rattle.tsp_network.proofs.{NetworkRuns.run_agrees, SetUpLemmas.comes_as, SetUpLemmas.place-of}
 use Rattle.tsp_network.specs.{Events.IsNetwork, Events.MayCome, Events.AllHappen, Lives.AreStarted, Lives.Daemons, Lives.session_of, Rosters.neighbours_on}
 use Rattle.tsp_codec.specs.{Canon.canon, Taken.taken_of}
 
@@ -73,8 +73,19 @@ possible-so {header} {events} is ranges happens n same few = record { header_is 
 used-possible : Possible two_nodes used
 used-possible = possible-so used-header (plain_ranges used refl) computed.used.happens 16 computed.used.count (omega arith)
 
+-- their words give them a thousand turns
+pub two-turns : (n : ℕ) → 1000 ≤ (two_daemons.words n).turns
+two-turns zero = omega arith
+two-turns (suc n) = omega arith
+
+three-turns : (n : ℕ) → 1000 ≤ (three_daemons.words n).turns
+three-turns zero = omega arith
+three-turns (suc zero) = omega arith
+three-turns (suc (suc n)) = omega arith
+
 used-is : IsNetwork two_daemons used
-used-is = run_is_network two_daemons used used-started (λ k. refl) (plain_suit two_daemons used refl ((begun 1 refl, refl), ((begun 0 refl, refl), tt)))
+used-is = run_is_network two_daemons used used-started (λ k. refl)
+    (plain_suit two_daemons used two-turns (omega arith) refl ((begun 1 refl, refl), ((begun 0 refl, refl), tt)))
     (possible_own two_nodes used used-possible)
 
 history-is : (network two_daemons used).history ≡ run two_nodes used
@@ -142,7 +153,8 @@ led-possible = possible-so led-header (plain_ranges led refl) computed.astray.ha
 
 led-is : IsNetwork three_daemons led
 led-is = run_is_network three_daemons led led-started (λ k. refl)
-    (plain_suit three_daemons led refl ((omega arith, refl), ((omega arith, refl), ((omega arith, refl), tt)))) (possible_own three_nodes led led-possible)
+    (plain_suit three_daemons led three-turns (omega arith) refl ((omega arith, refl), ((omega arith, refl), ((omega arith, refl), tt))))
+    (possible_own three_nodes led led-possible)
 
 abbrev now : Network
 now = network three_daemons led
@@ -157,7 +169,7 @@ sent = send_at three_daemons agree.sends 14 set_post computed.astray.posted
 -- what c does with the copy, as a node would
 astray-is : (astray sent.send).history ≡ stepped stray_step 390001400 stray_acts history
 astray-is =
-    let r = running (now.lives 2) (runs_up now history 2 agree.history (quiet three_daemons (λ k. refl) led) computed.astray.is_up) in
+    let r = runs_up now history 2 agree.history (quiet three_daemons (λ k. refl) led) computed.astray.is_up in
     let s = sent.send in
     let a = agree in
     let nets : List (List ℕ) = networks three_nodes in
