@@ -1,0 +1,2 @@
+pub mod SendsEnd
+pub mod Watched

@@ -1,0 +1,22 @@
+//! Theorems about every history that fits. Nothing here runs.
+ghost use Rattle.std.specs.Prelude.{ℕ, List};
+ghost use Rattle.tsp_base.specs.History.{Line};
+ghost use Rattle.tsp_promises.specs.Fits.{Fits};
+ghost use Rattle.tsp_promises.specs.Setting.{Setting};
+ghost use Rattle.tsp_progress.specs.SendsEnd.{SendsEnd, SendsEnded};
+ghost use Rattle.tsp_progress.specs.Watched.{Attended, Told};
+
+/// No send is open longer than `TRIES` times `RETRY`, 3 s, and `late`: by then it was acknowledged,
+/// given up or replaced, or its port changed its role, or its node booted.
+#[tactic(auto, using(crate::proofs::SendsEndProof::sends_end))]
+pub fn sends_end()
+    ensures { (setting : Setting) (late : ℕ) (world : List Line) → Fits setting world
+        → Attended late world → SendsEnd late world }
+{}
+
+/// The same at a node after the whole history, where that is told up to a true time.
+#[tactic(auto, using(crate::proofs::SendsEndProof::sends_ended))]
+pub fn sends_ended()
+    ensures { (setting : Setting) (late t n : ℕ) (world : List Line) → Fits setting world
+        → Told late setting t n world → SendsEnded late setting t n world }
+{}
