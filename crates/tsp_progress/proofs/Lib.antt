@@ -1,1 +1,5 @@
+pub mod NodeWakes
+pub mod PortWakes
+pub mod RunWakes
 pub mod SendsEndProof
+pub mod Waking

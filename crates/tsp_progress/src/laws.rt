@@ -20,3 +20,12 @@ pub fn sends_ended()
     ensures { (setting : Setting) (late t n : ℕ) (world : List Line) → Fits setting world
         → Told late setting t n world → SendsEnded late setting t n world }
 {}
+
+ghost use Rattle.tsp_progress.specs.RunsWake.{RunsWake};
+/// In the history of every schedule each port has an alarm armed that ends its role or lets it go
+/// on, wherever a step of its node begins, and at the end; and each act on an alarm came in its
+/// time.
+#[tactic(auto, using(crate::proofs::RunWakes::runs_wake))]
+pub fn runs_wake()
+    ensures { RunsWake }
+{}
