@@ -1,3 +1,4 @@
+pub mod InTimeProof
 pub mod NodeWakes
 pub mod PortWakes
 pub mod RunWakes

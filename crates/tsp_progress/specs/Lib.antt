@@ -1,4 +1,5 @@
 pub mod AlarmsFit
+pub mod InTime
 pub mod RunsWake
 pub mod SendsEnd
 pub mod Wakes

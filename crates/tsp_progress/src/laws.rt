@@ -29,3 +29,19 @@ ghost use Rattle.tsp_progress.specs.RunsWake.{RunsWake};
 pub fn runs_wake()
     ensures { RunsWake }
 {}
+
+ghost use Rattle.tsp_progress.specs.InTime.{AllInTime, EndsInTime};
+ghost use Rattle.tsp_progress.specs.Wakes.{AllWake, Woken};
+/// A port that is looked at in time does in time what its role asks for: the quiet time ends, a
+/// candidature ends, a round closes, a master begins the next one, resolutions and searches end, a
+/// follower that doesn't hear its master gives it up, and a port that is Loose goes on seeking.
+pub fn all_in_time()
+    ensures { (late : ℕ) (world : List Line) → Woken world → Attended late world
+        → AllInTime late world }
+{}
+
+/// The same at a node after the whole history, where that is told up to a true time.
+pub fn ends_in_time()
+    ensures { (late : ℕ) (setting : Setting) (t n : ℕ) (world : List Line) → AllWake world
+        → Told late setting t n world → EndsInTime late setting t n world }
+{}
