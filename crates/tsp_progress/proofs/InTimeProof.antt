@@ -11,50 +11,50 @@ use Rattle.tsp_progress.specs.{Wakes.AllWake, Wakes.Wakes, Wakes.Woken, Watched.
 
 -- another deadline for one alarm
 
-with-same : (d : Deadlines) (a b : Alarm) (o : Option ℕ) → is_alarm a b ≡ true → deadline (with_deadline d b o) a ≡ o
-with-same d Quiet Quiet o e = refl
-with-same d Search Search o e = refl
-with-same d Elect Elect o e = refl
-with-same d Window Window o e = refl
-with-same d Probe Probe o e = refl
-with-same d CloseAlarm CloseAlarm o e = refl
-with-same d ResolveAlarm ResolveAlarm o e = refl
-with-same d Round Round o e = refl
-with-same d _ _ o e = absurd (true≢false (sym e))
+pub with_same : (d : Deadlines) (a b : Alarm) (o : Option ℕ) → is_alarm a b ≡ true → deadline (with_deadline d b o) a ≡ o
+with_same d Quiet Quiet o e = refl
+with_same d Search Search o e = refl
+with_same d Elect Elect o e = refl
+with_same d Window Window o e = refl
+with_same d Probe Probe o e = refl
+with_same d CloseAlarm CloseAlarm o e = refl
+with_same d ResolveAlarm ResolveAlarm o e = refl
+with_same d Round Round o e = refl
+with_same d _ _ o e = absurd (true≢false (sym e))
 
-with-other : (d : Deadlines) (a b : Alarm) (o : Option ℕ) → is_alarm a b ≡ false → deadline (with_deadline d b o) a ≡ deadline d a
-with-other d Quiet Quiet o e = absurd (true≢false e)
-with-other d Search Search o e = absurd (true≢false e)
-with-other d Elect Elect o e = absurd (true≢false e)
-with-other d Window Window o e = absurd (true≢false e)
-with-other d Probe Probe o e = absurd (true≢false e)
-with-other d CloseAlarm CloseAlarm o e = absurd (true≢false e)
-with-other d ResolveAlarm ResolveAlarm o e = absurd (true≢false e)
-with-other d Round Round o e = absurd (true≢false e)
-with-other d _ _ o e = refl
+pub with_other : (d : Deadlines) (a b : Alarm) (o : Option ℕ) → is_alarm a b ≡ false → deadline (with_deadline d b o) a ≡ deadline d a
+with_other d Quiet Quiet o e = absurd (true≢false e)
+with_other d Search Search o e = absurd (true≢false e)
+with_other d Elect Elect o e = absurd (true≢false e)
+with_other d Window Window o e = absurd (true≢false e)
+with_other d Probe Probe o e = absurd (true≢false e)
+with_other d CloseAlarm CloseAlarm o e = absurd (true≢false e)
+with_other d ResolveAlarm ResolveAlarm o e = absurd (true≢false e)
+with_other d Round Round o e = absurd (true≢false e)
+with_other d _ _ o e = refl
 
-none-is : (a : Alarm) → deadline none_armed a ≡ None
-none-is Quiet = refl
-none-is _ = refl
+pub none_is : (a : Alarm) → deadline none_armed a ≡ None
+none_is Quiet = refl
+none_is _ = refl
 
-same-alarm : (a b : Alarm) → is_alarm a b ≡ true → a ≡ b
-same-alarm Quiet Quiet e = refl
-same-alarm Search Search e = refl
-same-alarm Elect Elect e = refl
-same-alarm Window Window e = refl
-same-alarm Probe Probe e = refl
-same-alarm CloseAlarm CloseAlarm e = refl
-same-alarm ResolveAlarm ResolveAlarm e = refl
-same-alarm Round Round e = refl
-same-alarm _ _ e = absurd (true≢false (sym e))
+pub same_alarm : (a b : Alarm) → is_alarm a b ≡ true → a ≡ b
+same_alarm Quiet Quiet e = refl
+same_alarm Search Search e = refl
+same_alarm Elect Elect e = refl
+same_alarm Window Window e = refl
+same_alarm Probe Probe e = refl
+same_alarm CloseAlarm CloseAlarm e = refl
+same_alarm ResolveAlarm ResolveAlarm e = refl
+same_alarm Round Round e = refl
+same_alarm _ _ e = absurd (true≢false (sym e))
 
-none-some : {A : Type 0} {o : Option ℕ} {at : ℕ} → o ≡ None → o ≡ Some at → A
-none-some n e = let bad : None ≡ Some _ = sym n ∙ e in absurd (no-none bad) where
+pub none_some : {A : Type 0} {o : Option ℕ} {at : ℕ} → o ≡ None → o ≡ Some at → A
+none_some n e = let bad : None ≡ Some _ = sym n ∙ e in absurd (no-none bad) where
   no-none : {at : ℕ} → None ≡ Some at → ⊥
   no-none e = cc
 
-value-of : {a b : ℕ} → Some a ≡ Some b → a ≡ b
-value-of {a} e = ap (λ (o : Option ℕ). value o a) e where
+pub value_of : {a b : ℕ} → Some a ≡ Some b → a ≡ b
+value_of {a} e = ap (λ (o : Option ℕ). value o a) e where
   value : Option ℕ → ℕ → ℕ
   value None other = other
   value (Some n) other = n
@@ -74,21 +74,21 @@ module _ (a : Alarm) (at : ℕ) (d : Did) (before : List Seen) (older : deadline
     arm = d;
     idle = before;
     last = refl;
-    fits = subst (λ c. ArmFits c d before at) (sym (same-alarm a b s)) (subst (λ n. ArmFits b d before n) (value-of (sym (with-same (armed before) a b (Some to) s) ∙ e)) f);
+    fits = subst (λ c. ArmFits c d before at) (sym (same_alarm a b s)) (subst (λ n. ArmFits b d before n) (value_of (sym (with_same (armed before) a b (Some to) s) ∙ e)) f);
   }
-  by-arm b to f e false s = older (sym (with-other (armed before) a b (Some to) s) ∙ e)
+  by-arm b to f e false s = older (sym (with_other (armed before) a b (Some to) s) ∙ e)
 
   by-off : (b : Alarm) → deadline (with_deadline (armed before) b None) a ≡ Some at → (same : Bool) → is_alarm a b ≡ same → PlaceOf a at (last_arm a before)
-  by-off b e true s = none-some (with-same (armed before) a b None s) e
-  by-off b e false s = older (sym (with-other (armed before) a b None s) ∙ e)
+  by-off b e true s = none_some (with_same (armed before) a b None s) e
+  by-off b e false s = older (sym (with_other (armed before) a b None s) ∙ e)
 
   by-abandon : (same : Bool) → is_alarm a CloseAlarm ≡ same → deadline (with_deadline (with_deadline (armed before) Probe None) CloseAlarm None) a ≡ Some at → PlaceOf a at (last_arm a before)
-  by-abandon true s e = none-some (with-same (with_deadline (armed before) Probe None) a CloseAlarm None s) e
-  by-abandon false s e = by-off Probe (sym (with-other (with_deadline (armed before) Probe None) a CloseAlarm None s) ∙ e) (is_alarm a Probe) refl
+  by-abandon true s e = none_some (with_same (with_deadline (armed before) Probe None) a CloseAlarm None s) e
+  by-abandon false s e = by-off Probe (sym (with_other (with_deadline (armed before) Probe None) a CloseAlarm None s) ∙ e) (is_alarm a Probe) refl
 
   by-deed : (deed : Deed) → AlarmFits deed d before → deadline (armed_after deed (armed before)) a ≡ Some at → PlaceOf a at (last_arm_after a deed (Here d ∷ before) (last_arm a before))
-  by-deed (Acts Boot) f e = none-some (none-is a) e
-  by-deed (Acts (Become r)) f e = none-some (none-is a) e
+  by-deed (Acts Boot) f e = none_some (none_is a) e
+  by-deed (Acts (Become r)) f e = none_some (none_is a) e
   by-deed (Acts (Arm b to)) f e = by-arm b to f e (is_alarm a b) refl
   by-deed (Acts (Ring b)) f e = by-off b e (is_alarm a b) refl
   by-deed (Acts (Late b)) f e = by-off b e (is_alarm a b) refl
@@ -96,7 +96,7 @@ module _ (a : Alarm) (at : ℕ) (d : Did) (before : List Seen) (older : deadline
   by-deed _ f e = older e
 
 pub armed_place : (a : Alarm) (at : ℕ) (seen : List Seen) → AlarmsFit seen → deadline (armed seen) a ≡ Some at → PlaceOf a at (last_arm a seen)
-armed_place a at [] f e = none-some (none-is a) e
+armed_place a at [] f e = none_some (none_is a) e
 armed_place a at (Here d ∷ before) f e = by-deed a at d before (armed_place a at before f.1) d.deed f.0 e
 armed_place a at (Elsewhere d ∷ before) f e = armed_place a at before f e
 

@@ -1,4 +1,5 @@
 pub mod InTimeProof
+pub mod NeverLateProof
 pub mod NodeWakes
 pub mod PortWakes
 pub mod RunWakes

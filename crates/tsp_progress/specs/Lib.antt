@@ -1,5 +1,6 @@
 pub mod AlarmsFit
 pub mod InTime
+pub mod NeverLate
 pub mod RunsWake
 pub mod SendsEnd
 pub mod Wakes

@@ -45,3 +45,13 @@ pub fn ends_in_time()
     ensures { (late : ℕ) (setting : Setting) (t n : ℕ) (world : List Line) → AllWake world
         → Told late setting t n world → EndsInTime late setting t n world }
 {}
+
+ghost use Rattle.std.specs.Prelude.{◌≤◌};
+ghost use Rattle.tsp_rules.specs.Values.{SLACK};
+ghost use Rattle.tsp_progress.specs.NeverLate.{NeverLate};
+/// Where each node is looked at at most `SLACK` ticks, 1 s, after its alarms are due, none is handled
+/// late.
+pub fn never_late()
+    ensures { (setting : Setting) (late : ℕ) (world : List Line) → Fits setting world
+        → AllWake world → Attended late world → late ≤ SLACK → NeverLate world }
+{}
