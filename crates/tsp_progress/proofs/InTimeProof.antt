@@ -5,9 +5,9 @@ use Rattle.tsp_rules.specs.Values.{Boot, Become, Arm, Ring, Late, Abandon, Alarm
 use Rattle.tsp_base.specs.Words.{Acts, Deadlines, Deed, Did, Line, Seen, Here, Elsewhere, armed, armed_after, deadline, none_armed, of, plain, started, started_after, view, with_deadline, word}
 use Rattle.tsp_promises.specs.{Fits.node_of, Setting.Setting}
 use Rattle.tsp_promises.proofs.{EverywhereLemmas.Everywhere-at, EverywhereLemmas.Everywhere-from}
-use Rattle.tsp_progress.specs.AlarmsFit.{AlarmFits, AlarmsFit, ArmFits}
+use Rattle.tsp_progress.specs.AlarmsFit.{AlarmFits, AlarmsFit, ArmFits, Manner}
 use Rattle.tsp_progress.specs.InTime.{AlarmEnds, AllInTime, ArmedWithin, CandidatureEnds, EndsInTime, InTime, LooseSeeks, RoundCloses, StartEnds, is_alarm, last_arm, last_arm_after, longest}
-use Rattle.tsp_progress.specs.{Wakes.AllWake, Wakes.Wakes, Wakes.Woken, Watched.Attended, Watched.AttendedAt, Watched.BeginsAt, Watched.Told, Watched.Watched}
+use Rattle.tsp_progress.specs.{Wakes.AllWake, Wakes.Wakes, Wakes.Woken, Wakes.WokenAt, Watched.Attended, Watched.AttendedAt, Watched.BeginsAt, Watched.Told, Watched.Watched}
 
 -- another deadline for one alarm
 
@@ -95,10 +95,10 @@ module _ (a : Alarm) (at : ℕ) (d : Did) (before : List Seen) (older : deadline
   by-deed (Acts Abandon) f e = by-abandon (is_alarm a CloseAlarm) refl e
   by-deed _ f e = older e
 
-pub armed_place : (a : Alarm) (at : ℕ) (seen : List Seen) → AlarmsFit seen → deadline (armed seen) a ≡ Some at → PlaceOf a at (last_arm a seen)
-armed_place a at [] f e = none_some (none_is a) e
-armed_place a at (Here d ∷ before) f e = by-deed a at d before (armed_place a at before f.1) d.deed f.0 e
-armed_place a at (Elsewhere d ∷ before) f e = armed_place a at before f e
+pub armed_place : (m : Manner) (a : Alarm) (at : ℕ) (seen : List Seen) → AlarmsFit m seen → deadline (armed seen) a ≡ Some at → PlaceOf a at (last_arm a seen)
+armed_place m a at [] f e = none_some (none_is a) e
+armed_place m a at (Here d ∷ before) f e = by-deed a at d before (armed_place m a at before f.1.1) d.deed f.0 e
+armed_place m a at (Elsewhere d ∷ before) f e = armed_place m a at before f.1 e
 
 -- a round is what Close was armed for
 started-is : (seen : List Seen) → last_arm CloseAlarm seen ≡ started seen
@@ -125,10 +125,10 @@ ahead-most ResolveAlarm arm idle at f = omega (arith, f)
 
 -- each alarm ends in time
 
-module _ (late x : ℕ) (seen : List Seen) (wakes : Wakes seen) (watched : Watched late x seen) where
+module _ (m : Manner) (late x : ℕ) (seen : List Seen) (wakes : Wakes m seen) (watched : Watched late x seen) where
   alarm-ends : AlarmEnds late x seen
   alarm-ends a at e =
-      let p = armed_place a at seen wakes.acts e in
+      let p = armed_place m a at seen wakes.acts e in
       let ahead = ahead-most a p.arm p.idle at p.fits in
       let due = watched.alarms a at e in
       record { arm = p.arm; idle = p.idle; last = p.last; since = omega (arith, ahead, due) }
@@ -171,10 +171,10 @@ module _ (late x : ℕ) (seen : List Seen) (wakes : Wakes seen) (watched : Watch
     loose = loose-seeks;
   }
 
-pub attended_in_time : (late : ℕ) (world : List Line) → Woken world → Attended late world → AllInTime late world
-attended_in_time late world w a = Everywhere-from (BeginsAt (InTime late)) world (λ l before within begins q.
-    in-time late l.did.tick (view q (of (node_of l) before)) (Everywhere-at (BeginsAt (λ x seen. Wakes seen)) l before world w within begins q)
+pub attended_in_time : (m : ℕ → Manner) (late : ℕ) (world : List Line) → Woken m world → Attended late world → AllInTime late world
+attended_in_time m late world w a = Everywhere-from (BeginsAt (InTime late)) world (λ l before within begins q.
+    in-time (m (node_of l)) late l.did.tick (view q (of (node_of l) before)) (Everywhere-at (WokenAt m) l before world w within begins q)
     (Everywhere-at (AttendedAt late) l before world a within begins q))
 
-pub told_in_time : (late : ℕ) (setting : Setting) (t n : ℕ) (world : List Line) → AllWake world → Told late setting t n world → EndsInTime late setting t n world
-told_in_time late setting t n world w told q = in-time late (setting.tick n t) (view q (of n world)) (w n q) (told q)
+pub told_in_time : (m : ℕ → Manner) (late : ℕ) (setting : Setting) (t n : ℕ) (world : List Line) → AllWake m world → Told late setting t n world → EndsInTime late setting t n world
+told_in_time m late setting t n world w told q = in-time (m n) late (setting.tick n t) (view q (of n world)) (w n q) (told q)

@@ -1,14 +1,13 @@
 -- Where each node is looked at at most SLACK ticks after its alarms are due, none is late.
-use Rattle.std.proofs.Common.{sym, ap, subst, arith, true≢false, ◌∙◌, ◌≡◌, ◌≢◌, ◌≤◌, ◌<◌, ℕ, ◌+◌, ◌==◌, ◌||◌, eq-eqb, eqb-true, Bool, true, false, if◌then◌else◌, List, [], ◌∷◌, Option, None, Some, inl, inr, refl}
-use Rattle.std.proofs.lemmas.Bool.{or_right}
+use Rattle.std.proofs.Common.{sym, ap, subst, arith, ◌∙◌, ◌≡◌, ◌≢◌, ◌≤◌, ℕ, ◌+◌, ◌==◌, ◌||◌, eq-eqb, eqb-true, Bool, true, false, if◌then◌else◌, List, [], ◌∷◌, None, Some, inl, inr, refl}
 use Rattle.tsp_rules.specs.Values.{Act, Boot, Become, Arm, Ring, Late, Abandon, Alarm, Quiet, Search, Elect, Window, Probe, CloseAlarm, ResolveAlarm, Round, Port, SLACK}
-use Rattle.tsp_base.specs.Words.{Acts, Begins, Deadlines, Deed, Did, Line, Seen, Here, Elsewhere, Step, Within, armed, armed_after, deadline, dids, is_shared, none_armed, of, seen_as, view, with_deadline}
+use Rattle.tsp_base.specs.Words.{Acts, Begins, Deed, Did, Line, Seen, Here, Step, Within, armed, armed_after, deadline, dids, is_shared, of, seen_as, view, with_deadline}
 use Rattle.tsp_base.proofs.PlaceLemmas.{Within-all}
 use Rattle.tsp_promises.specs.{Fits.Fits, Fits.LineFits, Fits.node_of, Fits.SameStep, Setting.Setting}
 use Rattle.tsp_promises.proofs.{EverywhereLemmas.Everywhere-from, EverywhereLemmas.Everywhere-within}
-use Rattle.tsp_progress.specs.AlarmsFit.{AlarmFits, AlarmsFit, ArmFits, LateFits}
-use Rattle.tsp_progress.specs.{InTime.is_alarm, NeverLate.NeverLate, Wakes.AllWake, Watched.Attended, Watched.Watched}
-use Rattle.tsp_progress.proofs.InTimeProof.{none_is, none_some, same_alarm, value_of, with_other, with_same}
+use Rattle.tsp_progress.specs.AlarmsFit.{AlarmFits, AlarmsFit, ArmFits, LateFits, Manner}
+use Rattle.tsp_progress.specs.{InTime.is_alarm, NeverLate.NeverLate, Wakes.AllWake, Watched.Attended}
+use Rattle.tsp_progress.proofs.InTimeProof.{none_is, none_some, value_of, with_other, with_same}
 
 -- alarms are armed ahead
 ahead-least : (a : Alarm) (arm : Did) (idle : List Seen) (at : ℕ) → ArmFits a arm idle at → arm.tick ≤ at
@@ -48,18 +47,18 @@ module _ (a : Alarm) (at : ℕ) (d : Did) (before : List Seen) (late x : ℕ) (n
   by-deed (Acts Abandon) f e = by-abandon (is_alarm a CloseAlarm) refl e
   by-deed _ f e = older e
 
-  by-seen : (own : Bool) → AlarmsFit (seen_as own d ∷ before) → deadline (armed (seen_as own d ∷ before)) a ≡ Some at → x ≤ at + late
-  by-seen true f e = by-deed d.deed f.0 e
-  by-seen false f e = older e
+  by-seen : (m : Manner) (own : Bool) → AlarmsFit m (seen_as own d ∷ before) → deadline (armed (seen_as own d ∷ before)) a ≡ Some at → x ≤ at + late
+  by-seen m true f e = by-deed d.deed f.0 e
+  by-seen m false f e = older e
 
 -- the tick of a node's newest line
 abbrev newest : List Line → ℕ
 newest [] = 0
 newest (l ∷ before) = l.did.tick
 
-fit-before : (own : Bool) (d : Did) (before : List Seen) → AlarmsFit (seen_as own d ∷ before) → AlarmsFit before
-fit-before true d before f = f.1
-fit-before false d before f = f
+fit-before : (m : Manner) (own : Bool) (d : Did) (before : List Seen) → AlarmsFit m (seen_as own d ∷ before) → AlarmsFit m before
+fit-before m true d before f = f.1.1
+fit-before m false d before f = f.1
 
 -- an act is done at the tick of the line before it
 same-tick : (setting : Setting) (l : Line) (before : List Line) (act : Act) → l.did.deed ≡ Acts act → LineFits setting l before → Fits setting before → (l.did.tick ≡ newest (of (node_of l) before))
@@ -73,55 +72,55 @@ same-tick setting l before act is line f = by_list before (subst (λ d. SameStep
 
 module _ (setting : Setting) (late : ℕ) where
   -- throughout each step no alarm is overdue by more than `late` ticks
-  on-time : (world : List Line) → Fits setting world → Attended late world → (n : ℕ) (q : Port) → AlarmsFit (view q (of n world)) → (a : Alarm) (at : ℕ) → deadline (armed (view q (of n world))) a ≡ Some at → newest (of n world) ≤ at + late
-  on-time [] f w n q fit a at e = none_some (none_is a) e
-  on-time (l ∷ before) f w n q fit a at e = by_node (node_of l == n) refl fit e (on-time before f.1 w.1 n q) where
-    by_deed : (deed : Deed) → l.did.deed ≡ deed → node_of l ≡ n → AlarmsFit (seen_as ((l.port.0 == q.0) || is_shared l.did.deed) l.did ∷ view q (of n before)) →
+  on-time : (world : List Line) → Fits setting world → Attended late world → (m : Manner) (n : ℕ) (q : Port) → AlarmsFit m (view q (of n world)) → (a : Alarm) (at : ℕ) → deadline (armed (view q (of n world))) a ≡ Some at → newest (of n world) ≤ at + late
+  on-time [] f w m n q fit a at e = none_some (none_is a) e
+  on-time (l ∷ before) f w m n q fit a at e = by_node (node_of l == n) refl fit e (on-time before f.1 w.1 m n q) where
+    by_deed : (deed : Deed) → l.did.deed ≡ deed → node_of l ≡ n → AlarmsFit m (seen_as ((l.port.0 == q.0) || is_shared l.did.deed) l.did ∷ view q (of n before)) →
         deadline (armed (seen_as ((l.port.0 == q.0) || is_shared l.did.deed) l.did ∷ view q (of n before))) a ≡ Some at →
-        (AlarmsFit (view q (of n before)) → (a : Alarm) (at : ℕ) → deadline (armed (view q (of n before))) a ≡ Some at → newest (of n before) ≤ at + late) → l.did.tick ≤ at + late
+        (AlarmsFit m (view q (of n before)) → (a : Alarm) (at : ℕ) → deadline (armed (view q (of n before))) a ≡ Some at → newest (of n before) ≤ at + late) → l.did.tick ≤ at + late
     by_deed Begins is node fit e older =
         by-seen a at l.did (view q (of n before)) late l.did.tick refl
         (λ s. (w.0 is q).alarms a at (subst (λ k. deadline (armed (view q (of k before))) a ≡ Some at) (sym node) s))
-        ((l.port.0 == q.0) || is_shared l.did.deed) fit e
+        m ((l.port.0 == q.0) || is_shared l.did.deed) fit e
     by_deed (Acts act) is node fit e older =
         let same = same-tick setting l before act is f.0 f.1 in
         by-seen a at l.did (view q (of n before)) late l.did.tick refl
-        (λ s. let le = older (fit-before ((l.port.0 == q.0) || is_shared l.did.deed) l.did (view q (of n before)) fit) a at s in
+        (λ s. let le = older (fit-before m ((l.port.0 == q.0) || is_shared l.did.deed) l.did (view q (of n before)) fit) a at s in
         let tick : l.did.tick ≡ newest (of n before) = same ∙ ap (λ k. newest (of k before)) node in omega (arith, le, tick))
-        ((l.port.0 == q.0) || is_shared l.did.deed) fit e
+        m ((l.port.0 == q.0) || is_shared l.did.deed) fit e
 
-    by_node : (b : Bool) → (node_of l == n) ≡ b → AlarmsFit (view q (if b then l ∷ of n before else of n before)) → deadline (armed (view q (if b then l ∷ of n before else of n before))) a ≡ Some at →
-        (AlarmsFit (view q (of n before)) → (a : Alarm) (at : ℕ) → deadline (armed (view q (of n before))) a ≡ Some at → newest (of n before) ≤ at + late) → newest (if b then l ∷ of n before else of n before) ≤ at + late
+    by_node : (b : Bool) → (node_of l == n) ≡ b → AlarmsFit m (view q (if b then l ∷ of n before else of n before)) → deadline (armed (view q (if b then l ∷ of n before else of n before))) a ≡ Some at →
+        (AlarmsFit m (view q (of n before)) → (a : Alarm) (at : ℕ) → deadline (armed (view q (of n before))) a ≡ Some at → newest (of n before) ≤ at + late) → newest (if b then l ∷ of n before else of n before) ≤ at + late
     by_node true same fit e older = by_deed l.did.deed refl (eqb-true (node_of l) n same) fit e older
     by_node false same fit e older = older fit a at e
 
 -- the acts on alarms of an older place came in their time too
-fit-within : (n : ℕ) (q : Port) (world s : List Line) → Within s world → AlarmsFit (view q (of n world)) → AlarmsFit (view q (of n s))
-fit-within n q [] s w f = subst (λ k. AlarmsFit (view q (of n k))) (sym w) f
-fit-within n q (l ∷ before) s (inl e) f = subst (λ k. AlarmsFit (view q (of n k))) (sym e) f
-fit-within n q (l ∷ before) s (inr w) f = fit-within n q before s w (by_node (node_of l == n) f) where
-  by_node : (b : Bool) → AlarmsFit (view q (if b then l ∷ of n before else of n before)) → AlarmsFit (view q (of n before))
-  by_node true f = fit-before ((l.port.0 == q.0) || is_shared l.did.deed) l.did (view q (of n before)) f
+fit-within : (m : Manner) (n : ℕ) (q : Port) (world s : List Line) → Within s world → AlarmsFit m (view q (of n world)) → AlarmsFit m (view q (of n s))
+fit-within m n q [] s w f = subst (λ k. AlarmsFit m (view q (of n k))) (sym w) f
+fit-within m n q (l ∷ before) s (inl e) f = subst (λ k. AlarmsFit m (view q (of n k))) (sym e) f
+fit-within m n q (l ∷ before) s (inr w) f = fit-within m n q before s w (by_node (node_of l == n) f) where
+  by_node : (b : Bool) → AlarmsFit m (view q (if b then l ∷ of n before else of n before)) → AlarmsFit m (view q (of n before))
+  by_node true f = fit-before m ((l.port.0 == q.0) || is_shared l.did.deed) l.did (view q (of n before)) f
   by_node false f = f
 
-late-here : (l : Line) (before : List Line) (a : Alarm) → l.did.deed ≡ Acts (Late a) → AlarmsFit (view l.port (of (node_of l) (l ∷ before))) → LateFits a l.did (view l.port (of (node_of l) before))
-late-here l before a is f =
+late-here : (m : Manner) (l : Line) (before : List Line) (a : Alarm) → l.did.deed ≡ Acts (Late a) → AlarmsFit m (view l.port (of (node_of l) (l ∷ before))) → LateFits a l.did (view l.port (of (node_of l) before))
+late-here m l before a is f =
     let own : (node_of l == node_of l) ≡ true = eq-eqb (node_of l) (node_of l) refl in
     let here : (l.port.0 == l.port.0) ≡ true = eq-eqb l.port.0 l.port.0 refl in
     let seen = view l.port (of (node_of l) before) in
-    let whole : AlarmsFit (seen_as ((l.port.0 == l.port.0) || is_shared l.did.deed) l.did ∷ seen) = subst (λ b. AlarmsFit (view l.port (if b then l ∷ of (node_of l) before else of (node_of l) before))) own f in
-    let first : AlarmsFit (Here l.did ∷ seen) = subst (λ b. AlarmsFit (seen_as (b || is_shared l.did.deed) l.did ∷ seen)) here whole in
+    let whole : AlarmsFit m (seen_as ((l.port.0 == l.port.0) || is_shared l.did.deed) l.did ∷ seen) = subst (λ b. AlarmsFit m (view l.port (if b then l ∷ of (node_of l) before else of (node_of l) before))) own f in
+    let first : AlarmsFit m (Here l.did ∷ seen) = subst (λ b. AlarmsFit m (seen_as (b || is_shared l.did.deed) l.did ∷ seen)) here whole in
     subst (λ d. AlarmFits d l.did seen) is first.0
 
-pub never_late : (setting : Setting) (late : ℕ) (world : List Line) → Fits setting world → AllWake world → Attended late world → late ≤ SLACK → NeverLate world
-never_late setting late world f w a slack = Everywhere-from (λ l before. (a : Alarm) → l.did.deed ≢ Acts (Late a)) world (λ l before within alarm is.
+pub never_late : (m : ℕ → Manner) (setting : Setting) (late : ℕ) (world : List Line) → Fits setting world → AllWake m world → Attended late world → late ≤ SLACK → NeverLate world
+never_late m setting late world f w a slack = Everywhere-from (λ l before. (a : Alarm) → l.did.deed ≢ Acts (Late a)) world (λ l before within alarm is.
     let n = node_of l in
     let fits = Everywhere-within _ (l ∷ before) world f within in
     let attended = Everywhere-within _ (l ∷ before) world a within in
-    let fit = fit-within n l.port world (l ∷ before) within (w n l.port).acts in
-    let here = late-here l before alarm is fit in
-    let older = fit-within n l.port (l ∷ before) before (inr (Within-all before)) fit in
-    let soon = on-time setting late before fits.1 attended.1 n l.port older alarm here.at here.armed_is in
+    let fit = fit-within (m n) n l.port world (l ∷ before) within (w n l.port).acts in
+    let here = late-here (m n) l before alarm is fit in
+    let older = fit-within (m n) n l.port (l ∷ before) before (inr (Within-all before)) fit in
+    let soon = on-time setting late before fits.1 attended.1 (m n) n l.port older alarm here.at here.armed_is in
     let same = same-tick setting l before (Late alarm) is fits.0 fits.1 in
     let over = here.late in
     omega (arith, soon, same, over, slack))

@@ -1,7 +1,7 @@
 -- What a node does in a step over all its ports keeps armed what each port's role asks for.
 use Rattle.std.proofs.Common.{sym, subst, append-nil, ◌≡◌, ℕ, ◌==◌, ◌||◌, Bool, true, false, if◌then◌else◌, List, [], ◌∷◌, ◌++◌, length, map, refl}
 use Rattle.std.proofs.lemmas.Bool.{or_right}
-use Rattle.tsp_rules.specs.Values.{Act, Boot, Took, Become, Abandon, Alarm, Quiet, Round, Probe, CloseAlarm, Message, Stamp, Taken, Good, Bad, Kind, LoopKind, PeerId, Place, Port, Starting, QUIET, ALL}
+use Rattle.tsp_rules.specs.Values.{Act, Boot, Took, Become, Abandon, Alarm, Quiet, Round, Probe, CloseAlarm, Message, Stamp, Taken, Good, Bad, Kind, LoopKind, PeerId, Place, Port, Starting, QUIET, ALL, Loose}
 use Rattle.tsp_base.specs.Words.{Acts, Did, Here, Elsewhere, Begins, Line, MessageValue, Past, Row, Seen, Step, Leads, arms, first_port, grown, held, is_going, is_shared, joined, line_of, nothing, others, placed, puts, seen_as, view, ◌followed_by◌}
 use Rattle.tsp_base.proofs.{LeadsLemmas.Leads_either, LeadsLemmas.Leads_from, LeadsLemmas.Leads_nothing, LeadsLemmas.Leads_puts, LeadsLemmas.Leads_then, ViewPlaces.port-same}
 use Rattle.tsp_rules.specs.GateRows.{GotOn, NodeGiven, NodeTurn, all_ports, alarm_on, alarms_on, answers_all, begins_round_on, boots_all, boots_on, closes_on, each_on, ends_probes, forwards, hears_on, heeds_loop, input_all, is_awake_on, judge, judges, leads_clock, loops_after, loosens_master, other_ports, ports_from, probes_on, repost, reposts, reposts_on, sends_loops, stirred_ports, steers, in_charge, takes_kind, takes_loop, takes_loop_step, takes_message, takes_on, turns_on, waits}
@@ -11,34 +11,39 @@ use Rattle.tsp_rules.specs.{Answers.rings, Answers.takes, CandidateRows.yields, 
 use Rattle.tsp_rules.proofs.{BuiltGate.built_sends_loops, Emits.Posting, NodeRowLemmas.on_own, NodeRowLemmas.spread_append}
 use Rattle.tsp_promises.proofs.GateSteps.{All_after, All_reading, LeadsAll}
 use Rattle.tsp_progress.proofs.{PortWakes.calm, PortWakes.rings_far, PortWakes.sends_far, PortWakes.takes_far, PortWakes.yields_far}
-use Rattle.tsp_progress.proofs.Waking.{Awake, Begun, Waking, becomes, far, keeps, starting_quiets}
+use Rattle.tsp_progress.specs.AlarmsFit.{Manner}
+use Rattle.tsp_progress.proofs.Waking.{Awake, Begun, Settled, becomes, far, free_to, keeps, manner, ready, starting_quiets}
 
 -- what acts of the node on other ports leave alone, at the tick when they are done
-record Family (P : ℕ → List Seen → Type 0) : Type 0 where
-  pub boots : (step : Step) (x : ℕ) (seen : List Seen) → P x seen → P x (Here (record { step = step; tick = x; deed = Acts Boot }) ∷ seen)
-  pub aside : (d : Did) (x : ℕ) (seen : List Seen) → P x seen → P x (Elsewhere d ∷ seen)
+record Family (P : Manner → ℕ → List Seen → Type 0) : Type 0 where
+  pub boots : (m : Manner) (step : Step) (x : ℕ) (seen : List Seen) → P m x seen → P m x (Here (record { step = step; tick = x; deed = Acts Boot }) ∷ seen)
+  pub aside : (m : Manner) (d : Did) (x : ℕ) (seen : List Seen) → P m x seen → P m x (Elsewhere d ∷ seen)
+
+-- a node's manner is that of its ports
+abbrev pub node_manner : NodePast → Manner
+node_manner past = record { may = past.may; strict = past.strict }
 
 -- of each port
-abbrev pub Each : (ℕ → List Seen → Type 0) → ℕ → NodePast → Type 0
-Each P x past = (r : Port) → P x (view r past.lines)
+abbrev pub Each : (Manner → ℕ → List Seen → Type 0) → ℕ → NodePast → Type 0
+Each P x past = (r : Port) → P (node_manner past) x (view r past.lines)
 
-module _ (P : ℕ → List Seen → Type 0) (family : Family P) where
-  one-beside : (q r : Port) → (q.0 == r.0) ≡ false → (step : Step) (x : ℕ) (a : Act) (seen : List Seen) → P x seen → P x (seen_as ((q.0 == r.0) || is_shared (Acts a)) (line_of step x q (Acts a)).did ∷ seen)
-  one-beside q r n step x Boot seen h = subst (λ b. P x (seen_as (b || true) (line_of step x q (Acts Boot)).did ∷ seen)) (sym n) (family.boots step x seen h)
-  one-beside q r n step x a seen h = subst (λ b. P x (seen_as (b || false) (line_of step x q (Acts a)).did ∷ seen)) (sym n) (family.aside (line_of step x q (Acts a)).did x seen h)
+module _ (P : Manner → ℕ → List Seen → Type 0) (family : Family P) where
+  one-beside : (m : Manner) (q r : Port) → (q.0 == r.0) ≡ false → (step : Step) (x : ℕ) (a : Act) (seen : List Seen) → P m x seen → P m x (seen_as ((q.0 == r.0) || is_shared (Acts a)) (line_of step x q (Acts a)).did ∷ seen)
+  one-beside m q r n step x Boot seen h = subst (λ b. P m x (seen_as (b || true) (line_of step x q (Acts Boot)).did ∷ seen)) (sym n) (family.boots m step x seen h)
+  one-beside m q r n step x a seen h = subst (λ b. P m x (seen_as (b || false) (line_of step x q (Acts a)).did ∷ seen)) (sym n) (family.aside m (line_of step x q (Acts a)).did x seen h)
 
-  beside : (q r : Port) → (q.0 == r.0) ≡ false → (step : Step) (x : ℕ) (acts : List Act) (lines : List Line) → P x (view r lines) → P x (view r (joined step x (placed q acts) lines))
-  beside q r n step x [] lines h = h
-  beside q r n step x (a ∷ rest) lines h = beside q r n step x rest (line_of step x q (Acts a) ∷ lines) (one-beside q r n step x a (view r lines) h)
+  beside : (m : Manner) (q r : Port) → (q.0 == r.0) ≡ false → (step : Step) (x : ℕ) (acts : List Act) (lines : List Line) → P m x (view r lines) → P m x (view r (joined step x (placed q acts) lines))
+  beside m q r n step x [] lines h = h
+  beside m q r n step x (a ∷ rest) lines h = beside m q r n step x rest (line_of step x q (Acts a) ∷ lines) (one-beside m q r n step x a (view r lines) h)
 
   -- a port's row
-  on_each : (q : Port) (row : Row) → Leads (λ x past. P x past.seen) row (λ x past. P x past.seen) → LeadsAll (Each P) (on q row) (Each P)
+  on_each : (q : Port) (row : Row) → Leads (λ x past. P (manner past) x past.seen) row (λ x past. P (manner past) x past.seen) → LeadsAll (Each P) (on q row) (Each P)
   unfolding on
   on_each q row d = record { run = λ x past all r. by_case x past all r (q.0 == r.0) refl } where
-    by_case : (x : ℕ) (past : NodePast) → Each P x past → (r : Port) (b : Bool) → (q.0 == r.0) ≡ b → P x (on_port r (spread x past (placed q (row x (on_port q past))))).seen
-    by_case x past all r true e = subst (λ p. P x (on_port p (spread x past (placed q (row x (on_port q past))))).seen) (port-same q r e)
-        (subst (λ (z : Past). P x z.seen) (sym (on_own q x past (row x (on_port q past)))) (d.run x (on_port q past) (all q)))
-    by_case x past all r false e = beside q r e past.step x (row x (on_port q past)) past.lines (all r)
+    by_case : (x : ℕ) (past : NodePast) → Each P x past → (r : Port) (b : Bool) → (q.0 == r.0) ≡ b → P (node_manner past) x (on_port r (spread x past (placed q (row x (on_port q past))))).seen
+    by_case x past all r true e = subst (λ p. P (node_manner past) x (on_port p (spread x past (placed q (row x (on_port q past))))).seen) (port-same q r e)
+        (subst (λ (z : Past). P (node_manner past) x z.seen) (sym (on_own q x past (row x (on_port q past)))) (d.run x (on_port q past) (all q)))
+    by_case x past all r false e = beside (node_manner past) q r e past.step x (row x (on_port q past)) past.lines (all r)
 
   list_each : (r : Port → NodeRow) (ports : List Port) → ((q : Port) → LeadsAll (Each P) (r q) (Each P)) → LeadsAll (Each P) (for_ports r ports) (Each P)
   unfolding for_ports nothing_at_all
@@ -46,31 +51,37 @@ module _ (P : ℕ → List Seen → Type 0) (family : Family P) where
   list_each r (q ∷ rest) k = All_after (r q) (for_ports r rest) (k q) (list_each r rest k)
 
 -- a port has armed what its role asks for
-abbrev pub awake : ℕ → List Seen → Type 0
-awake x seen = Waking true true seen
+abbrev pub awake : Manner → ℕ → List Seen → Type 0
+awake m x seen = Settled m true true seen
 
-after-boot : (step : Step) (x : ℕ) (seen : List Seen) → Waking true true seen → Waking true true (Here (record { step = step; tick = x; deed = Acts Boot }) ∷ seen)
-after-boot step x seen w = record {
-  acts = (tt, w.acts);
-  starting = λ r start before s. let bad : ⊥ = cc in absurd bad;
-  candidate = λ r. let bad : ⊥ = cc in absurd bad;
-  loose = λ i r. let bad : ⊥ = cc in absurd bad;
-  follow = λ i p r. let bad : ⊥ = cc in absurd bad;
-  master = λ l r. let bad : ⊥ = cc in absurd bad;
+after-boot : (m : Manner) (step : Step) (x : ℕ) (seen : List Seen) → Settled m true true seen → Settled m true true (Here (record { step = step; tick = x; deed = Acts Boot }) ∷ seen)
+after-boot m step x seen s = record {
+  waking = record {
+    acts = (tt, (free_to m seen (Acts Boot) s.free, s.waking.acts));
+    starting = λ r start before s. let bad : ⊥ = cc in absurd bad;
+    candidate = λ r. let bad : ⊥ = cc in absurd bad;
+    loose = λ i r. let bad : ⊥ = cc in absurd bad;
+    follow = λ i p r. let bad : ⊥ = cc in absurd bad;
+    master = λ l r. let bad : ⊥ = cc in absurd bad;
+  };
+  free = refl;
 }
 
-after-aside : (d : Did) (seen : List Seen) → Waking true true seen → Waking true true (Elsewhere d ∷ seen)
-after-aside d seen w = record {
-  acts = w.acts;
-  starting = w.starting;
-  candidate = λ r. let c = w.candidate r in record { start = c.start; idle = c.idle; stood_is = c.stood_is; window_is = c.window_is };
-  loose = w.loose;
-  follow = w.follow;
-  master = w.master;
+after-aside : (m : Manner) (d : Did) (seen : List Seen) → Settled m true true seen → Settled m true true (Elsewhere d ∷ seen)
+after-aside m d seen s = let w = s.waking in record {
+  waking = record {
+    acts = (s.free, w.acts);
+    starting = w.starting;
+    candidate = λ r. let c = w.candidate r in record { start = c.start; idle = c.idle; stood_is = c.stood_is; window_is = c.window_is };
+    loose = w.loose;
+    follow = w.follow;
+    master = w.master;
+  };
+  free = refl;
 }
 
 awake-family : Family awake
-awake-family = record { boots = λ step x seen w. after-boot step x seen w; aside = λ d x seen w. after-aside d seen w }
+awake-family = record { boots = λ m step x seen w. after-boot m step x seen w; aside = λ m d x seen w. after-aside m d seen w }
 
 -- a row of port q keeps the node awake
 on_awake : (q : Port) (row : Row) → Leads Awake row Awake → LeadsAll (Each awake) (on q row) (Each awake)
@@ -141,12 +152,12 @@ turns_awake q = All_after (on q due_sends) (each_on q ALL) (on_awake q due_sends
 
 loosens_awake : Leads Awake loosens_master Awake
 unfolding loosens_master
-loosens_awake = Leads_either is_master_at yields nothing (Leads_from (λ x past h. h.0.acts) yields_far) (Leads_from (λ x past h. h.0) Leads_nothing)
+loosens_awake = Leads_either is_master_at yields nothing (Leads_from (λ x past h. ready Loose x past h.0) yields_far) (Leads_from (λ x past h. h.0) Leads_nothing)
 
 reposts_far : (m : MessageValue) → Leads Awake (reposts m) Awake
 unfolding reposts
 reposts_far m = record { run = λ x past h. each x past (others past.own past.peers) h } where
-  each : (x : ℕ) (past : Past) (ps : List PeerId) → Waking true true past.seen → Waking true true (grown x past (map (repost m) ps)).seen
+  each : (x : ℕ) (past : Past) (ps : List PeerId) → Awake x past → Awake x (grown x past (map (repost m) ps))
   each x past [] h = h
   each x past (p ∷ ps) h = each x (grown x past (repost m p ∷ [])) ps (keeps (repost m p) refl x past h)
 
@@ -205,16 +216,16 @@ answers_awake g = All_after (reading_all all_ports (for_ports turns_on)) (input_
 -- a boot
 
 -- and its node booted now
-abbrev booting : ℕ → List Seen → Type 0
-booting x seen = Waking true true seen × ((held seen).boot ≡ x)
+abbrev booting : Manner → ℕ → List Seen → Type 0
+booting m x seen = Settled m true true seen × ((held seen).boot ≡ x)
 
 booting-family : Family booting
-booting-family = record { boots = λ step x seen w. (after-boot step x seen w.0, refl); aside = λ d x seen w. (after-aside d seen w.0, w.1) }
+booting-family = record { boots = λ m step x seen w. (after-boot m step x seen w.0, refl); aside = λ m d x seen w. (after-aside m d seen w.0, w.1) }
 
-starts_far : Leads (λ x past. booting x past.seen) (puts (Become Starting) followed_by arms Quiet QUIET) (λ x past. booting x past.seen)
+starts_far : Leads (λ x past. booting (manner past) x past.seen) (puts (Become Starting) followed_by arms Quiet QUIET) (λ x past. booting (manner past) x past.seen)
 unfolding arms puts
 starts_far = Leads_then {Q = Begun} (puts (Become Starting)) (arms Quiet QUIET)
-    (Leads_puts (Become Starting) (λ x past h. record { became = (becomes Starting).run x past h.0.acts; boot = h.1 }))
+    (Leads_puts (Become Starting) (λ x past h. record { became = (becomes Starting).run x past (ready Starting x past h.0); boot = h.1 }))
     (record { run = λ x past h. (starting_quiets.run x past h, h.boot) })
 
 boots_on_awake : (q : Port) → LeadsAll (Each booting) (boots_on q) (Each booting)
@@ -227,19 +238,22 @@ unfolding boots_all on puts reading_all
 boots_awake = record {
   run = λ x past all r.
       ((All_after {P = Each awake} {Q = Each booting} {R = Each booting} (on first_port (puts Boot)) (reading_all all_ports (for_ports boots_on))
-      (record { run = λ x past all r. subst (λ b. booting x (seen_as b (line_of past.step x first_port (Acts Boot)).did ∷ view r past.lines)) (sym (or_right (first_port.0 == r.0) true refl)) (after-boot past.step x (view r past.lines) (all r), refl) })
+      (record { run = λ x past all r. subst (λ b. booting (node_manner past) x (seen_as b (line_of past.step x first_port (Acts Boot)).did ∷ view r past.lines)) (sym (or_right (first_port.0 == r.0) true refl)) (after-boot (node_manner past) past.step x (view r past.lines) (all r), refl) })
       (record { run = λ x past all. (list_each booting booting-family boots_on (ports_from 0 past.ports) boots_on_awake).run x past all })).run x past all r).0;
 }
 
 -- and so does a step's beginning
 pub begins_awake : (step : Step) (x : ℕ) (past : NodePast) → Each awake x past → Each awake x (in_node_step step x past)
-begins_awake step x past all r = subst (λ b. awake x (seen_as b (line_of step x first_port Begins).did ∷ view r past.lines)) (sym (or_right (first_port.0 == r.0) true refl)) (marked (all r)) where
-  marked : Waking true true (view r past.lines) → Waking true true (Here (line_of step x first_port Begins).did ∷ view r past.lines)
-  marked w = record {
-    acts = (tt, w.acts);
-    starting = w.starting;
-    candidate = λ r. let c = w.candidate r in record { start = c.start; idle = c.idle; stood_is = c.stood_is; window_is = c.window_is };
-    loose = w.loose;
-    follow = w.follow;
-    master = w.master;
+begins_awake step x past all r = subst (λ b. awake (node_manner past) x (seen_as b (line_of step x first_port Begins).did ∷ view r past.lines)) (sym (or_right (first_port.0 == r.0) true refl)) (marked (node_manner past) (view r past.lines) (all r)) where
+  marked : (m : Manner) (seen : List Seen) → Settled m true true seen → Settled m true true (Here (line_of step x first_port Begins).did ∷ seen)
+  marked m seen s = let w = s.waking in record {
+    waking = record {
+      acts = (tt, (free_to m seen Begins s.free, w.acts));
+      starting = w.starting;
+      candidate = λ r. let c = w.candidate r in record { start = c.start; idle = c.idle; stood_is = c.stood_is; window_is = c.window_is };
+      loose = w.loose;
+      follow = w.follow;
+      master = w.master;
+    };
+    free = refl;
   }

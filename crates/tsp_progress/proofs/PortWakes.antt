@@ -1,9 +1,9 @@
 -- Each row of a port keeps what its role asks for armed.
-use Rattle.std.proofs.Common.{sym, ap, subst, true≢false, ◌∙◌, ◌≡◌, ℕ, ◌==◌, ◌||◌, ◌&&◌, not, eqb-true, ℤ, Bool, true, false, if◌then◌else◌, List, [], ◌∷◌, Option, None, Some, refl}
-use Rattle.std.proofs.lemmas.Bool.{and_parts, not-true}
-use Rattle.tsp_rules.specs.Values.{Become, Ring, Late, Back, Quit, Acked, Took, Abandon, Alarm, Quiet, Search, Elect, Window, Probe, CloseAlarm, ResolveAlarm, Round, PeerId, Place, Peer, Stranger, Role, Starting, Loose, Follow, Candidate, Master, Kind, Accept, Ack, AdjTime, Conflict, Date, DateAck, DateReq, Election, LoopKind, MasterAck, MasterReq, MasterUp, Msite, MsiteReq, QuitKind, Refuse, ResolveKind, SetDate, SetDateReq, SetTime, SlaveUp, Test, TraceOff, TraceOn, WINDOW, ROUND, PROBE, CLOSE, SPAN, Message, Stamp, Taken, Good, Bad, Request, Reply}
-use Rattle.tsp_base.specs.Words.{Estimate, Past, MessageValue, Row, Leads, arms, puts, nothing, posts, posts_back, posts_to_others, for_each, grown, reading, either_by, role, time_in, ◌followed_by◌}
-use Rattle.tsp_base.proofs.LeadsLemmas.{Leads_then, Leads_either, Leads_reading, Leads_nothing, Leads_puts, Leads_each, Leads_from}
+use Rattle.std.proofs.Common.{sym, ap, subst, true≢false, ◌∙◌, ◌≡◌, ◌≢◌, ◌+◌, ℕ, ◌==◌, ◌||◌, ◌&&◌, ◌⊎◌, ◌*◌, ◌≤◌, not, nat_le, nat_lt, eqb-true, le-leb, length, inl, inr, ℤ, Bool, true, false, if◌then◌else◌, List, [], ◌∷◌, Option, None, Some, refl}
+use Rattle.std.proofs.lemmas.Bool.{and_parts, not-true, or_right}
+use Rattle.tsp_rules.specs.Values.{Become, Ring, Late, Back, Quit, Acked, Took, Abandon, Alarm, Quiet, Search, Elect, Window, Probe, CloseAlarm, ResolveAlarm, Round, PeerId, Place, Peer, Stranger, Role, Starting, Loose, Follow, Candidate, Master, Kind, Accept, Ack, AdjTime, Conflict, Date, DateAck, DateReq, Election, LoopKind, MasterAck, MasterReq, MasterUp, Msite, MsiteReq, QuitKind, Refuse, ResolveKind, SetDate, SetDateReq, SetTime, SlaveUp, Test, TraceOff, TraceOn, WINDOW, ROUND, PROBE, CLOSE, SPAN, Message, Stamp, Taken, Good, Bad, Request, Reply, Arm, HOLD, ELECT_MIN}
+use Rattle.tsp_base.specs.Words.{Acts, Deed, Estimate, Past, backers, held, may_back_after, MessageValue, Row, Leads, arms, puts, nothing, posts, posts_back, posts_to_others, for_each, grown, reading, either_by, role, time_in, ◌followed_by◌}
+use Rattle.tsp_base.proofs.LeadsLemmas.{Leads_then, Leads_either, Leads_reading, Leads_nothing, Leads_puts, Leads_each, Leads_from, Leads_to}
 use Rattle.tsp_group.specs.{Groups.group_of, declared.group.Group.Group}
 use Rattle.tsp_rules.specs.CandidateRows.{candidate_takes, candidate_takes_kind, has_won, lead_row, refused_by, yields, window_rings}
 use Rattle.tsp_rules.specs.CommonRows.{arms_elect, backs_own, candidature_row, follow_row, follows_unless, is_awake, may_be_asked, own_at, quits, searches, tells_ticket, tests}
@@ -20,8 +20,8 @@ use Rattle.tsp_rules.proofs.BuiltShared.{built_acknowledges, built_begins, built
 use Rattle.tsp_rules.proofs.BuiltAnswers.{date_sorts, built_date_of, built_date_request_of, built_date_acked, built_peer_replies}
 use Rattle.tsp_rules.proofs.{BuiltRoles.built_accepted_by, BuiltRoles.built_joins, BuiltRoles.built_sends_away, BuiltRoles.built_finds_rival, BuiltSends.built_due_sends, BuiltSends.send_sorts}
 use Rattle.tsp_rules.proofs.BuiltRounds.{correct_sorts, built_corrects_by}
-use Rattle.tsp_progress.specs.AlarmsFit.{AlarmsFit}
-use Rattle.tsp_progress.proofs.Waking.{Awake, Became, Due, Idling, Leading_on, Timely, Unled, arms_any_elect, arms_close, arms_probe, arms_resolve, arms_round, arms_search, arms_wait, becomes, candidate_windows, far, far_row, follow_elects, late_off, loose_elects, loose_searches, master_rounds, near_sorts, quiet_off, rings_off}
+use Rattle.tsp_progress.specs.AlarmsFit.{AlarmsFit, Arms, IsFree, NextTo, asks_next}
+use Rattle.tsp_progress.proofs.Waking.{Arming, Awake, Backed, Became, Due, Nearly, Off, Rang, Ready, Unled, arming, arming_by, arms_any_elect, arms_close, arms_probe, arms_resolve, arms_round, arms_search, arms_wait, backs_another, backs_itself, becomes, candidate_windows, far, far_by, far_row, follow_elects, idle_after, is_lasting, late_off, lead_after, loose_elects, loose_searches, manner, master_rounds, near_sorts, quiet_off, ready, ready_by, rings_off, settled_by, window_late, window_off}
 
 -- whether none of these sorts is a change of the role or an act on an alarm
 abbrev pub no_near : List Sort → Bool
@@ -30,7 +30,7 @@ no_near (s ∷ rest) = not (is_in s near_sorts) && no_near rest
 
 -- what is said of a sort is said of its code
 near-code : (s t : Sort) → (code s == code t) ≡ true → is_in t near_sorts ≡ false → is_in s near_sorts ≡ false
-near-code s t e n = subst (λ c. ((c == 0) || ((c == 6) || ((c == 7) || ((c == 8) || ((c == 11) || ((c == 12) || false)))))) ≡ false) (sym (eqb-true (code s) (code t) e)) n
+near-code s t e n = subst (λ c. ((c == 0) || ((c == 6) || ((c == 7) || ((c == 8) || ((c == 9) || ((c == 11) || ((c == 12) || false))))))) ≡ false) (sym (eqb-true (code s) (code t) e)) n
 
 out-of : (sorts : List Sort) → no_near sorts ≡ true → (s : Sort) → is_in s sorts ≡ true → is_in s near_sorts ≡ false
 out-of [] apart s e = absurd (true≢false (sym e))
@@ -64,13 +64,13 @@ unfolding tells_ticket
 tells_far p = Leads_reading ticket_at (posts p SlaveUp) (λ n. Leads_from (λ x past h. h.0) (post_far p SlaveUp n refl))
 
 again_far : (p : PeerId) → Leads Awake (arms_elect followed_by tells_ticket p) Awake
-again_far p = Leads_then {Q = Awake} arms_elect (tells_ticket p) arms_any_elect (tells_far p)
+again_far p = Leads_then {Q = Awake} arms_elect (tells_ticket p) (Leads_from (arming Elect) arms_any_elect) (tells_far p)
 
--- a row that needs nothing to be armed
-pub timely : {r : Row} {Q : ℕ → Past → Type 0} → Leads Timely r Q → Leads Awake r Q
-timely d = Leads_from (λ x past h. h.acts) d
+-- a row that begins with a change of the role
+pub timely : {r : Role} {row : Row} {Q : ℕ → Past → Type 0} → Leads (Ready r) row Q → Leads Awake row Q
+timely {r} d = Leads_from (ready r) d
 
-pub follow_far : (p : PeerId) → Leads Timely (follow_row p) Awake
+pub follow_far : (p : PeerId) → Leads (Ready (Follow p)) (follow_row p) Awake
 unfolding follow_row
 follow_far p = Leads_then {Q = Became (Follow p)} (puts (Become (Follow p))) (arms_elect followed_by tells_ticket p) (becomes (Follow p))
     (Leads_then {Q = Awake} arms_elect (tells_ticket p) (follow_elects p) (tells_far p))
@@ -103,20 +103,20 @@ masterup_far p _ = Leads_nothing
 
 masterack_far : (p : PeerId) (r : Role) → Leads Awake (masterack_in p r) Awake
 unfolding masterack_in
-masterack_far p Loose = Leads_either (is_armed Search) (follow_row p) nothing (Leads_from (λ x past h. h.0.acts) (follow_far p)) (Leads_from (λ x past h. h.0) Leads_nothing)
+masterack_far p Loose = Leads_either (is_armed Search) (follow_row p) nothing (Leads_from (λ x past h. ready (Follow p) x past h.0) (follow_far p)) (Leads_from (λ x past h. h.0) Leads_nothing)
 masterack_far p (Follow q) = Leads_if (q.0 == p.0) _ _ Leads_nothing (conflict_far q)
 masterack_far p _ = Leads_nothing
 
 election_far : (p : PeerId) (number : ℕ) → Leads Awake (election_of p number) Awake
 unfolding election_of
 election_far p number = Leads_either (may_back_at p) (puts (Back p) followed_by (arms_elect followed_by posts p Accept number)) (posts p Refuse number)
-    (Leads_from (λ x past h. h.0) (Leads_then {Q = Awake} (puts (Back p)) (arms_elect followed_by posts p Accept number) (far (Back p) refl)
+    (Leads_from (λ x past h. h.0) (Leads_then {Q = Arming Elect true true} (puts (Back p)) (arms_elect followed_by posts p Accept number) (backs_another p)
     (Leads_then {Q = Awake} arms_elect (posts p Accept number) arms_any_elect (post_far p Accept number refl))))
     (Leads_from (λ x past h. h.0) (post_far p Refuse number refl))
 
 confirms_far : (p : PeerId) (number : ℕ) → Leads Awake (confirms p number) Awake
 unfolding confirms
-confirms_far p number = Leads_then {Q = Awake} arms_elect (posts p Ack number) arms_any_elect (post_far p Ack number refl)
+confirms_far p number = Leads_then {Q = Awake} arms_elect (posts p Ack number) (Leads_from (arming Elect) arms_any_elect) (post_far p Ack number refl)
 
 repeat_far : (p : PeerId) (number : ℕ) → Leads Awake (acks_repeat p number) Awake
 unfolding acks_repeat
@@ -154,7 +154,7 @@ slave_far p m QuitKind = quits_far p m.number
 slave_far p m Ack = acks_far p m.number
 slave_far p m _ = Leads_nothing
 
-pub yields_far : Leads Timely yields Awake
+pub yields_far : Leads (Ready Loose) yields Awake
 unfolding yields
 yields_far = Leads_then {Q = Became Loose} (puts (Become Loose)) arms_elect (becomes Loose) loose_elects
 
@@ -198,78 +198,124 @@ master_far p m _ = Leads_nothing
 
 quiet_far : Leads (Due Quiet) quiet_rings Awake
 unfolding quiet_rings
-quiet_far = Leads_then {Q = Timely} (puts (Ring Quiet)) (puts (Become Loose) followed_by searches) quiet_off
-    (Leads_then {Q = Became Loose} (puts (Become Loose)) searches (becomes Loose) (searches_far loose_searches))
+quiet_far = Leads_then {Q = Rang (Acts (Ring Quiet))} (puts (Ring Quiet)) (puts (Become Loose) followed_by searches) quiet_off
+    (Leads_then {Q = Became Loose} (puts (Become Loose)) searches (Leads_from (ready_by Loose (λ m x older. refl)) (becomes Loose)) (searches_far loose_searches))
 
 search_far : Leads (Due Search) search_rings Awake
 unfolding search_rings rings_or_late
-search_far = Leads_then {Q = Idling} (either_by (is_in_time Search) (puts (Ring Search)) (puts (Late Search))) arms_elect
-    (Leads_either (is_in_time Search) (puts (Ring Search)) (puts (Late Search)) (rings_off Search) (late_off Search (λ e. let bad : ⊥ = cc in bad))) arms_any_elect
+search_far = Leads_then {Q = Arming Elect false true} (either_by (is_in_time Search) (puts (Ring Search)) (puts (Late Search))) arms_elect
+    (Leads_either (is_in_time Search) (puts (Ring Search)) (puts (Late Search))
+    (Leads_to (arming_by Search Elect (λ m x older at. (at, refl))) (rings_off Search refl))
+    (Leads_to (arming_by Search Elect (λ m x older at. (at, refl))) (late_off Search refl (λ e. let bad : ⊥ = cc in bad)))) arms_any_elect
 
-loosened : (x : ℕ) (past : Past) → AlarmsFit past.seen → Unled x (grown x past (Become Loose ∷ []))
-loosened x past h = record {
+-- after Elect rang
+
+-- a port that has given up its master
+loosened : (x : ℕ) (past : Past) → AlarmsFit (manner past) past.seen → NextTo (manner past) past.seen (Acts (Become Loose)) → Unled x (grown x past (Become Loose ∷ []))
+loosened x past h n = record {
   waking = record {
-    acts = (tt, h);
+    acts = (tt, (n, h));
     starting = λ r. let bad : ⊥ = cc in absurd bad;
     candidate = λ r. let bad : ⊥ = cc in absurd bad;
     loose = λ i r. absurd (true≢false (sym i));
     follow = λ i p r. absurd (true≢false (sym i));
     master = λ l r. let bad : ⊥ = cc in absurd bad;
   };
+  next = λ at. tt;
   alone = λ p r. let bad : ⊥ = cc in bad;
 }
 
 unled : (r : Role) → is_follow r ≡ false → (p : PeerId) → r ≡ Follow p → ⊥
 unled r e p is = true≢false (sym (ap is_follow is) ∙ e)
 
-loosens_far : Leads Idling loosens Unled
+-- the hold or the node itself refuses: the port isn't free to stand, or may not
+refused : (past : Past) (x : ℕ) → may_stand_at x past ≡ false → past.may ≡ true → IsFree x (held past.seen) → {A : Type 0} → A
+refused past x fails may free = absurd (true≢false (sym stands ∙ fails)) where
+  holds : (o : Option (ℕ × PeerId)) → ((b : ℕ) (p : PeerId) → o ≡ Some (b, p) → b + HOLD ≤ x) → may_back_after o x past.own ≡ true
+  holds None k = refl
+  holds (Some b) k = or_right (b.1.0 == past.own.0) (nat_le (b.0 + HOLD) x) (le-leb (b.0 + HOLD) x (k b.0 b.1 refl))
+
+  booted : nat_le ((held past.seen).boot + ELECT_MIN) x ≡ true
+  booted = le-leb ((held past.seen).boot + ELECT_MIN) x free.boot
+
+  stands : may_stand_at x past ≡ true
+  stands = rw (may, booted, free.quit, holds (held past.seen).back free.back) refl
+
+-- what may come where the port doesn't stand
+searching : (x : ℕ) (past : Past) (next : Deed) → may_stand_at x past ≡ false → ((next ≡ Acts (Become Loose)) ⊎ Arms Search next) → Rang (Acts (Ring Elect)) x past → NextTo (manner past) past.seen next
+searching x past next fails which h = h.next next (record {
+  stands = λ may free. refused past x fails may (subst (IsFree x) h.held_is free);
+  either = inr which;
+})
+
+loosens_far : Leads (λ x past. Off Elect (Acts (Ring Elect)) x past × (may_stand_at x past ≡ false)) loosens Unled
 unfolding loosens
-loosens_far = Leads_either follows_at (puts (Become Loose)) nothing (Leads_puts (Become Loose) (λ x past h. loosened x past h.0.acts))
-    (Leads_from (λ x past h. record { waking = h.0; alone = unled (role past.seen) h.1 }) Leads_nothing)
+loosens_far = Leads_either follows_at (puts (Become Loose)) nothing
+    (Leads_puts (Become Loose) (λ x past h. loosened x past h.0.0.rang.acts (searching x past (Acts (Become Loose)) h.0.1 (inl refl) h.0.0.rang)))
+    (Leads_from (λ x past h. record { waking = h.0.0.waking; next = λ at. searching x past (Acts (Arm Search at)) h.0.1 (inr (at, refl)) h.0.0.rang; alone = unled (role past.seen) h.1 }) Leads_nothing)
 
 elections_far : Leads Awake (begins_to_others Election) Awake
 unfolding begins_to_others
 elections_far = Leads_reading others_at (for_each (begins Election)) (λ ps. Leads_from (λ x past h. h.0) (Leads_each (begins Election) ps (λ p. calm {sorts = Numbering ∷ []} refl refl (built_begins Election p tt refl refl))))
 
-backs_far : Leads (Became Candidate) backs_own (Became Candidate)
+backs_far : Leads (Became Candidate) backs_own Backed
 unfolding backs_own
-backs_far = Leads_reading own_at (λ own. puts (Back own)) (λ own. Leads_puts (Back own) (λ x past h. record { acts = (tt, h.0.acts); role_is = h.0.role_is; start = h.0.start; before = h.0.before; stood_is = h.0.stood_is; now = h.0.now }))
+backs_far = Leads_reading own_at (λ own. puts (Back own)) (λ own. Leads_from (λ x past h. h.0) (backs_itself own))
 
-candidature_far : Leads Timely candidature_row Awake
+candidature_far : Leads (Ready Candidate) candidature_row Awake
 unfolding candidature_row
 candidature_far = Leads_then {Q = Became Candidate} (puts (Become Candidate)) (backs_own followed_by (arms Window WINDOW followed_by begins_to_others Election)) (becomes Candidate)
-    (Leads_then {Q = Became Candidate} backs_own (arms Window WINDOW followed_by begins_to_others Election) backs_far
+    (Leads_then {Q = Backed} backs_own (arms Window WINDOW followed_by begins_to_others Election) backs_far
     (Leads_then {Q = Awake} (arms Window WINDOW) (begins_to_others Election) candidate_windows elections_far))
 
 elect_rings_far : Leads (Due Elect) elect_rings Awake
 unfolding elect_rings
 elect_rings_far = Leads_either (is_in_time Elect) (puts (Ring Elect) followed_by either_by may_stand_at candidature_row (loosens followed_by searches)) (puts (Late Elect) followed_by arms_elect)
-    (Leads_then {Q = Idling} (puts (Ring Elect)) (either_by may_stand_at candidature_row (loosens followed_by searches)) (rings_off Elect)
-    (Leads_either may_stand_at candidature_row (loosens followed_by searches) (Leads_from (λ x past h. h.0.acts) candidature_far)
-    (Leads_from (λ x past h. h.0) (Leads_then {Q = Unled} loosens searches loosens_far (searches_far arms_search)))))
-    (Leads_then {Q = Idling} (puts (Late Elect)) arms_elect (late_off Elect (λ e. let bad : ⊥ = cc in bad)) arms_any_elect)
+    (Leads_then {Q = Off Elect (Acts (Ring Elect))} (puts (Ring Elect)) (either_by may_stand_at candidature_row (loosens followed_by searches)) (rings_off Elect refl)
+    (Leads_either may_stand_at candidature_row (loosens followed_by searches)
+    (Leads_from (λ x past h. ready_by Candidate (λ m x older. record { stands = λ may free. refl; either = inl refl }) x past h.0.rang) candidature_far)
+    (Leads_then {Q = Unled} loosens searches loosens_far (searches_far arms_search))))
+    (Leads_then {Q = Off Elect (Acts (Late Elect))} (puts (Late Elect)) arms_elect (late_off Elect refl (λ e. let bad : ⊥ = cc in bad)) (Leads_from (arming_by Elect Elect (λ m x older at. (at, refl))) arms_any_elect))
 
-leads_far : Leads Timely lead_row Awake
+leads_far : Leads (Ready Master) lead_row Awake
 unfolding lead_row
 leads_far = Leads_then {Q = Became Master} (puts (Become Master)) (arms Round ROUND followed_by posts_to_others MasterUp 0) (becomes Master)
     (Leads_then {Q = Awake} (arms Round ROUND) (posts_to_others MasterUp 0) master_rounds (to_others_far MasterUp refl))
 
+-- an election that isn't strict is won
+lost : (past : Past) (x : ℕ) → has_won x past ≡ false → past.strict ≡ false → {A : Type 0} → A
+lost past x fails strict = absurd (true≢false (subst (λ b. (not b || nat_lt (length past.peers) (2 * length (backers past.seen) + 2)) ≡ false) strict fails))
+
+yielding : (x : ℕ) (past : Past) → Rang (Acts (Ring Window)) x past → has_won x past ≡ false → Ready Loose x past
+yielding x past h fails = record { acts = h.acts; next = h.next (Acts (Become Loose)) (record { wins = λ strict. lost past x fails strict; either = inr refl }) }
+
 window_far : Leads (Due Window) window_rings Awake
 unfolding window_rings
 window_far = Leads_either (is_in_time Window) (puts (Ring Window) followed_by either_by has_won lead_row yields) (puts (Late Window) followed_by yields)
-    (Leads_then {Q = Timely} (puts (Ring Window)) (either_by has_won lead_row yields) (rings_off Window)
-    (Leads_either has_won lead_row yields (Leads_from (λ x past h. h.0) leads_far) (Leads_from (λ x past h. h.0) yields_far)))
-    (Leads_then {Q = Timely} (puts (Late Window)) yields (late_off Window (λ e. let bad : ⊥ = cc in bad)) yields_far)
+    (Leads_then {Q = Rang (Acts (Ring Window))} (puts (Ring Window)) (either_by has_won lead_row yields) window_off
+    (Leads_either has_won lead_row yields
+    (Leads_from (λ x past h. ready_by Master (λ m x older. record { wins = λ strict. refl; either = inl refl }) x past h.0) leads_far)
+    (Leads_from (λ x past h. yielding x past h.0 h.1) yields_far)))
+    (Leads_then {Q = Rang (Acts (Late Window))} (puts (Late Window)) yields window_late (Leads_from (ready_by Loose (λ m x older. refl)) yields_far))
 
 quit_begins : (p : PeerId) → Leads Awake (begins QuitKind p) Awake
 quit_begins p = calm {sorts = Numbering ∷ []} refl refl (built_begins QuitKind p tt refl refl)
 
+-- an alarm that asks nothing of the next act
+ring_asks : (a : Alarm) → asks_next (Acts (Ring a)) ≡ false → is_lasting a ≡ true → Leads (λ x past. Due a x past × (is_in_time a x past ≡ true)) (puts (Ring a)) (Nearly (idle_after a) (lead_after a))
+unfolding puts
+ring_asks a silent lasts = record { run = λ x past h. settled_by a x (grown x past (Ring a ∷ [])) silent ((rings_off a lasts).run x past h) }
+
+late_asks : (a : Alarm) → asks_next (Acts (Late a)) ≡ false → is_lasting a ≡ true → a ≢ Quiet → Leads (λ x past. Due a x past × (is_in_time a x past ≡ false)) (puts (Late a)) (Nearly (idle_after a) (lead_after a))
+unfolding puts
+late_asks a silent lasts other = record { run = λ x past h. settled_by a x (grown x past (Late a ∷ [])) silent ((late_off a lasts other).run x past h) }
+
 resolve_far : Leads (Due ResolveAlarm) resolve_rings Awake
 unfolding resolve_rings quits_rivals
 resolve_far = Leads_either (is_in_time ResolveAlarm) (puts (Ring ResolveAlarm) followed_by reading rivals_at (for_each (begins QuitKind))) (puts (Late ResolveAlarm))
-    (Leads_then {Q = Awake} (puts (Ring ResolveAlarm)) (reading rivals_at (for_each (begins QuitKind))) (rings_off ResolveAlarm)
+    (Leads_then {Q = Awake} (puts (Ring ResolveAlarm)) (reading rivals_at (for_each (begins QuitKind))) (ring_asks ResolveAlarm refl refl)
     (Leads_reading rivals_at (for_each (begins QuitKind)) (λ ps. Leads_from (λ x past h. h.0) (Leads_each (begins QuitKind) ps quit_begins))))
-    (late_off ResolveAlarm (λ e. let bad : ⊥ = cc in bad))
+    (late_asks ResolveAlarm refl refl (λ e. let bad : ⊥ = cc in bad))
 
 slaves_far : Leads Awake asks_slaves Awake
 unfolding asks_slaves
@@ -278,10 +324,10 @@ slaves_far = Leads_reading table_at (for_each asks) (λ ps. Leads_from (λ x pas
 round_far : (wait : Bool) → Leads (Due Round) (round_rings wait) Awake
 unfolding round_rings begins_or_waits round_begins
 round_far wait = Leads_either (is_in_time Round) (puts (Ring Round) followed_by begins_or_waits wait) (puts (Late Round) followed_by arms Round ROUND)
-    (Leads_then {Q = Leading_on} (puts (Ring Round)) (begins_or_waits wait) (rings_off Round) (by_wait wait))
-    (Leads_then {Q = Leading_on} (puts (Late Round)) (arms Round ROUND) (late_off Round (λ e. let bad : ⊥ = cc in bad)) arms_round)
+    (Leads_then {Q = Off Round (Acts (Ring Round))} (puts (Ring Round)) (begins_or_waits wait) (rings_off Round refl) (Leads_from (arming_by Round Round (λ m x older at. (at, refl))) (by_wait wait)))
+    (Leads_then {Q = Off Round (Acts (Late Round))} (puts (Late Round)) (arms Round ROUND) (late_off Round refl (λ e. let bad : ⊥ = cc in bad)) (Leads_from (arming_by Round Round (λ m x older at. (at, refl))) arms_round))
   where
-    by_wait : (b : Bool) → Leads Leading_on (begins_or_waits b) Awake
+    by_wait : (b : Bool) → Leads (Arming Round true false) (begins_or_waits b) Awake
     by_wait true = arms_wait
     by_wait false = Leads_then {Q = Awake} (arms Round ROUND) (arms Probe PROBE followed_by (arms CloseAlarm CLOSE followed_by (posts_to_others MasterUp 0 followed_by asks_slaves))) arms_round
         (Leads_then {Q = Awake} (arms Probe PROBE) (arms CloseAlarm CLOSE followed_by (posts_to_others MasterUp 0 followed_by asks_slaves)) arms_probe
@@ -291,11 +337,11 @@ round_far wait = Leads_either (is_in_time Round) (puts (Ring Round) followed_by 
 probe_far : Leads (Due Probe) probe_rings Awake
 unfolding probe_rings asks_measured arms_next abandons
 probe_far = Leads_either (is_in_time Probe) (puts (Ring Probe) followed_by (reading measured_at (for_each asks) followed_by either_by has_more (arms Probe PROBE) nothing)) (puts (Late Probe) followed_by puts Abandon)
-    (Leads_then {Q = Awake} (puts (Ring Probe)) (reading measured_at (for_each asks) followed_by either_by has_more (arms Probe PROBE) nothing) (rings_off Probe)
+    (Leads_then {Q = Awake} (puts (Ring Probe)) (reading measured_at (for_each asks) followed_by either_by has_more (arms Probe PROBE) nothing) (ring_asks Probe refl refl)
     (Leads_then {Q = Awake} (reading measured_at (for_each asks)) (either_by has_more (arms Probe PROBE) nothing)
     (Leads_reading measured_at (for_each asks) (λ ps. Leads_from (λ x past h. h.0) (Leads_each asks ps (λ p. calm {sorts = Asking ∷ []} refl refl (At (Asks p tt) refl)))))
     (Leads_either has_more (arms Probe PROBE) nothing (Leads_from (λ x past h. h.0) arms_probe) (Leads_from (λ x past h. h.0) Leads_nothing))))
-    (Leads_then {Q = Awake} (puts (Late Probe)) (puts Abandon) (late_off Probe (λ e. let bad : ⊥ = cc in bad)) (far Abandon refl))
+    (Leads_then {Q = Off Probe (Acts (Late Probe))} (puts (Late Probe)) (puts Abandon) (late_off Probe refl (λ e. let bad : ⊥ = cc in bad)) (far_by Probe Abandon refl (λ m x older. refl)))
 
 -- a round's close
 
@@ -310,19 +356,20 @@ corrects_far mean p best = calm {sorts = correct_sorts} refl refl (built_correct
   owed None = tt
   owed (Some b) = (tt, λ e. tt)
 
-closes_far : (own : Bool) (g : Group) (round : List Standing) → Leads Awake (closes_with own g round) Awake
+closes_far : (own : Bool) (g : Group) (round : List Standing) → Leads (Off CloseAlarm (Acts (Ring CloseAlarm))) (closes_with own g round) Awake
 unfolding closes_with abandons corrects_peer
 closes_far own g round = Leads_either (can_adjust (mean_by own g)) (puts (close_act own g) followed_by (moves own (mean_by own g) followed_by for_each (λ s. corrects_by (mean_by own g) s.peer s.best) round)) (puts Abandon)
-    (Leads_from (λ x past h. h.0) (Leads_then {Q = Awake} (puts (close_act own g)) (moves own (mean_by own g) followed_by for_each (λ s. corrects_by (mean_by own g) s.peer s.best) round) (far (close_act own g) refl)
+    (Leads_from (λ x past h. h.0) (Leads_then {Q = Awake} (puts (close_act own g)) (moves own (mean_by own g) followed_by for_each (λ s. corrects_by (mean_by own g) s.peer s.best) round)
+    (far_by CloseAlarm (close_act own g) refl (λ m x older. inl (g.count, (g.lo, (g.width, (mean_by own g, refl))))))
     (Leads_then {Q = Awake} (moves own (mean_by own g)) (for_each (λ s. corrects_by (mean_by own g) s.peer s.best) round) (moves_far own (mean_by own g))
     (Leads_each (λ (s : Standing). corrects_by (mean_by own g) s.peer s.best) round (λ s. corrects_far (mean_by own g) s.peer s.best)))))
-    (Leads_from (λ x past h. h.0) (far Abandon refl))
+    (Leads_from (λ x past h. h.0) (far_by CloseAlarm Abandon refl (λ m x older. inr refl)))
 
 close_far : (own : Bool) → Leads (Due CloseAlarm) (close_rings own) Awake
 unfolding close_rings closes abandons
 close_far own = Leads_either (is_in_time CloseAlarm) (reading round_at (λ round. puts (Ring CloseAlarm) followed_by closes_with own (group_of SPAN (estimates round)) round)) (puts (Late CloseAlarm) followed_by puts Abandon)
-    (Leads_reading round_at _ (λ round. Leads_from (λ x past h. h.0) (Leads_then {Q = Awake} (puts (Ring CloseAlarm)) (closes_with own (group_of SPAN (estimates round)) round) (rings_off CloseAlarm) (closes_far own (group_of SPAN (estimates round)) round))))
-    (Leads_then {Q = Awake} (puts (Late CloseAlarm)) (puts Abandon) (late_off CloseAlarm (λ e. let bad : ⊥ = cc in bad)) (far Abandon refl))
+    (Leads_reading round_at _ (λ round. Leads_from (λ x past h. h.0) (Leads_then {Q = Off CloseAlarm (Acts (Ring CloseAlarm))} (puts (Ring CloseAlarm)) (closes_with own (group_of SPAN (estimates round)) round) (rings_off CloseAlarm refl) (closes_far own (group_of SPAN (estimates round)) round))))
+    (Leads_then {Q = Off CloseAlarm (Acts (Late CloseAlarm))} (puts (Late CloseAlarm)) (puts Abandon) (late_off CloseAlarm refl (λ e. let bad : ⊥ = cc in bad)) (far_by CloseAlarm Abandon refl (λ m x older. refl)))
 
 pub alarm_far : (own wait : Bool) (a : Alarm) → Leads (Due a) (alarm_rings own wait a) Awake
 unfolding alarm_rings
@@ -347,7 +394,7 @@ unfolding tests
 tests_far from number = Leads_either is_awake (posts_back from Ack number followed_by either_by may_be_asked candidature_row nothing) nothing
     (Leads_from (λ x past h. h.0) (Leads_then {Q = Awake} (posts_back from Ack number) (either_by may_be_asked candidature_row nothing)
     (emit (Posting ∷ []) (posts_back from Ack number) refl (Emits_posts_back from Ack number refl))
-    (Leads_either may_be_asked candidature_row nothing (Leads_from (λ x past h. h.0.acts) candidature_far) (Leads_from (λ x past h. h.0) Leads_nothing))))
+    (Leads_either may_be_asked candidature_row nothing (Leads_from (λ x past h. ready Candidate x past h.0) candidature_far) (Leads_from (λ x past h. h.0) Leads_nothing))))
     (Leads_from (λ x past h. h.0) Leads_nothing)
 
 says_far : (p : PeerId) (m : MessageValue) (r : Role) → Leads Awake (says_in p m r) Awake

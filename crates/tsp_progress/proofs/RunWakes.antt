@@ -8,57 +8,61 @@ use Rattle.tsp_promises.proofs.GateSteps.{LeadsAll}
 use Rattle.tsp_run.specs.{Networks.networks, Setup.past_of, declared.arrival.Arrival.Arrival}
 use Rattle.tsp_run.specs.Run.{arrives, boot_step, happening, joins, posts, reaches, run, step_tick, steps}
 use Rattle.tsp_run.proofs.RunLemmas.{stepped_other, stepped_own}
-use Rattle.tsp_progress.proofs.NodeWakes.{Each, answers_awake, awake, begins_awake, boots_awake}
-use Rattle.tsp_progress.proofs.Waking.{Waking, wakes_of, waking_of}
-use Rattle.tsp_progress.specs.{RunsWake.RunsWake, Wakes.AllWake, Wakes.Wakes, Wakes.Woken}
+use Rattle.tsp_progress.proofs.NodeWakes.{Each, answers_awake, awake, begins_awake, boots_awake, node_manner}
+use Rattle.tsp_progress.proofs.Waking.{Settled, wakes_of, waking_of}
+use Rattle.tsp_progress.specs.{AlarmsFit.Manner, RunsWake.RunsWake, RunsWake.manner_of, Wakes.AllWake, Wakes.Wakes, Wakes.Woken}
 
 -- where a step begins, and at the end
-pub record Wakeful (h : List Line) : Type 0 where
-  pub woken : Woken h
-  pub all : AllWake h
+pub record Wakeful (m : ℕ → Manner) (h : List Line) : Type 0 where
+  pub woken : Woken m h
+  pub all : AllWake m h
 
 -- acts are no marks
-joined-woken : (step : Step) (x : ℕ) (acts : List Placed) (h : List Line) → Woken h → Woken (joined step x acts h)
-joined-woken step x [] h w = w
-joined-woken step x (a ∷ rest) h w = joined-woken step x rest (line_of step x a.port (Acts a.act) ∷ h) (λ e q. let bad : ⊥ = cc in absurd bad, w)
+joined-woken : (m : ℕ → Manner) (step : Step) (x : ℕ) (acts : List Placed) (h : List Line) → Woken m h → Woken m (joined step x acts h)
+joined-woken m step x [] h w = w
+joined-woken m step x (a ∷ rest) h w = joined-woken m step x rest (line_of step x a.port (Acts a.act) ∷ h) (λ e q. let bad : ⊥ = cc in absurd bad, w)
 
 -- a step whose acts keep its node awake
-pub stepped_wakeful : (step : Step) (x : ℕ) (acts : List Placed) (h : List Line) → Wakeful h → ((q : Port) → Waking true true (view q (joined step x acts (line_of step x first_port Begins ∷ of step.node h)))) → Wakeful (stepped step x acts h)
-stepped_wakeful step x acts h w after = record {
-  woken = joined-woken step x acts (line_of step x first_port Begins ∷ h) (λ e q. w.all step.node q, w.woken);
+pub stepped_wakeful : (m : ℕ → Manner) (step : Step) (x : ℕ) (acts : List Placed) (h : List Line) → Wakeful m h → ((q : Port) → Settled (m step.node) true true (view q (joined step x acts (line_of step x first_port Begins ∷ of step.node h)))) →
+    Wakeful m (stepped step x acts h)
+stepped_wakeful m step x acts h w after = record {
+  woken = joined-woken m step x acts (line_of step x first_port Begins ∷ h) (λ e q. w.all step.node q, w.woken);
   all = λ n q. by_case n q (step.node == n) refl;
 } where
-  by_case : (n : ℕ) (q : Port) (b : Bool) → (step.node == n) ≡ b → Wakes (view q (of n (stepped step x acts h)))
-  by_case n q true e = subst (λ k. Wakes (view q (of k (stepped step x acts h)))) (eqb-true step.node n e)
-      (subst (λ l. Wakes (view q l)) (sym (stepped_own step.node step x acts h (eq-eqb step.node step.node refl))) (wakes_of (after q)))
-  by_case n q false e = subst (λ l. Wakes (view q l)) (sym (stepped_other n step x acts h e)) (w.all n q)
+  by_case : (n : ℕ) (q : Port) (b : Bool) → (step.node == n) ≡ b → Wakes (m n) (view q (of n (stepped step x acts h)))
+  by_case n q true e = subst (λ k. Wakes (m k) (view q (of k (stepped step x acts h)))) (eqb-true step.node n e)
+      (subst (λ l. Wakes (m step.node) (view q l)) (sym (stepped_own step.node step x acts h (eq-eqb step.node step.node refl))) (wakes_of (after q)))
+  by_case n q false e = subst (λ l. Wakes (m n) (view q l)) (sym (stepped_other n step x acts h e)) (w.all n q)
 
 -- a step by a row that does
-pub row_wakeful : (past : NodePast) (step : Step) (x : ℕ) (row : NodeRow) (h : List Line) → past.lines ≡ of step.node h → LeadsAll (Each awake) row (Each awake) → Wakeful h → Wakeful (stepped step x (row x (in_node_step step x past)) h)
-row_wakeful past step x row h own leads w =
-    let start : Each awake x past = λ q. subst (λ l. Waking true true (view q l)) (sym own) (waking_of (w.all step.node q)) in
+pub row_wakeful : (m : ℕ → Manner) (past : NodePast) (step : Step) (x : ℕ) (row : NodeRow) (h : List Line) → past.lines ≡ of step.node h → node_manner past ≡ m step.node → LeadsAll (Each awake) row (Each awake) → Wakeful m h →
+    Wakeful m (stepped step x (row x (in_node_step step x past)) h)
+row_wakeful m past step x row h own same leads w =
+    let start : Each awake x past = λ q. subst (λ k. Settled k true true (view q past.lines)) (sym same) (subst (λ l. Settled (m step.node) true true (view q l)) (sym own) (waking_of (w.all step.node q))) in
     let acts = row x (in_node_step step x past) in
-    stepped_wakeful step x acts h w (λ q. subst (λ l. Waking true true (view q (joined step x acts (line_of step x first_port Begins ∷ l)))) own
-    (leads.run x (in_node_step step x past) (begins_awake step x past start) q))
+    stepped_wakeful m step x acts h w (λ q. subst (λ l. Settled (m step.node) true true (view q (joined step x acts (line_of step x first_port Begins ∷ l)))) own
+    (subst (λ k. Settled k true true (view q (joined step x acts (line_of step x first_port Begins ∷ past.lines)))) same
+    (leads.run x (in_node_step step x past) (begins_awake step x past start) q)))
 
-steps-wakeful : (header : HeaderValue) (h : List Line) (row : NodeRow) (step : Step) → LeadsAll (Each awake) row (Each awake) → Wakeful h → Wakeful (joins (Some (steps header h row step)) h)
+steps-wakeful : (header : HeaderValue) (h : List Line) (row : NodeRow) (step : Step) → LeadsAll (Each awake) row (Each awake) → Wakeful (manner_of header) h → Wakeful (manner_of header) (joins (Some (steps header h row step)) h)
 unfolding steps
-steps-wakeful header h row step leads w = row_wakeful (past_of header step h) step (step_tick header step) row h refl leads w
+steps-wakeful header h row step leads w = row_wakeful (manner_of header) (past_of header step h) step (step_tick header step) row h refl refl leads w
 
-event-wakeful : (header : HeaderValue) (h : List Line) (e : Event) → Wakeful h → Wakeful (joins (happening header h e) h)
+event-wakeful : (header : HeaderValue) (h : List Line) (e : Event) → Wakeful (manner_of header) h → Wakeful (manner_of header) (joins (happening header h e) h)
 event-wakeful header h (BootAt at node word) w = steps-wakeful header h boots_all (boot_step header at node word) boots_awake w
 event-wakeful header h (Turn at node) w = steps-wakeful header h (answers_all NodeTurn) (record { at = at; node = node; cause = Turned }) (answers_awake NodeTurn) w
 event-wakeful header h (Take at k) w = arrived (arrives (networks header) (slice_get (posts h) k)) where
-  arrived : (o : Option Arrival) → Wakeful (joins (reaches header h at k o) h)
+  arrived : (o : Option Arrival) → Wakeful (manner_of header) (joins (reaches header h at k o) h)
   arrived None = w
   arrived (Some a) = steps-wakeful header h (answers_all (GotOn a.port a.from a.taken)) (record { at = at; node = a.node; cause = Came k }) (answers_awake (GotOn a.port a.from a.taken)) w
 event-wakeful header h (Bytes at node port from octets) w =
     steps-wakeful header h (answers_all (GotOn port from (taken_of octets))) (record { at = at; node = node; cause = Handed }) (answers_awake (GotOn port from (taken_of octets))) w
 
 -- before anything
-nothing-wakes : (n : ℕ) (q : Port) → Wakes (view q (of n []))
-nothing-wakes n q = record {
+nothing-wakes : (m : Manner) → Wakes m []
+nothing-wakes m = record {
   acts = tt;
+  settled = refl;
   starting = λ r start idle s. let bad : ⊥ = cc in absurd bad;
   candidate = λ r. let bad : ⊥ = cc in absurd bad;
   loose = λ r. let bad : ⊥ = cc in absurd bad;
@@ -66,8 +70,8 @@ nothing-wakes n q = record {
   master = λ r. let bad : ⊥ = cc in absurd bad;
 }
 
-wakeful : (header : HeaderValue) (events : List Event) → Wakeful (run header events)
-wakeful header [] = record { woken = tt; all = nothing-wakes }
+wakeful : (header : HeaderValue) (events : List Event) → Wakeful (manner_of header) (run header events)
+wakeful header [] = record { woken = tt; all = λ n q. nothing-wakes (manner_of header n) }
 wakeful header (e ∷ before) = event-wakeful header (run header before) e (wakeful header before)
 
 pub runs_wake : RunsWake

@@ -1,8 +1,9 @@
 -- What is armed at a port, by its role.
-use Rattle.std.specs.Prelude.{◌≡◌, ℕ, ◌+◌, ◌||◌, true, List, ◌∷◌, Some, is_some}
+use Rattle.std.specs.Prelude.{◌≡◌, ℕ, ◌+◌, ◌||◌, true, false, List, ◌∷◌, Some, is_some}
 use Rattle.tsp_rules.specs.Values.{PeerId, Port, Starting, Loose, Follow, Candidate, Master, QUIET, WINDOW}
-use Rattle.tsp_base.specs.Words.{Did, Line, Seen, Here, armed, held, of, role, stood, view}
-use Rattle.tsp_progress.specs.{AlarmsFit.AlarmsFit, Watched.AtBegins}
+use Rattle.tsp_base.specs.Words.{Begins, Did, Line, Seen, Here, armed, held, of, role, stood, view}
+use Rattle.tsp_promises.specs.{Everywhere.Everywhere, Fits.node_of}
+use Rattle.tsp_progress.specs.AlarmsFit.{AlarmsFit, Manner, owes_next}
 
 -- a port that stood for election has its Window armed for WINDOW ticks after that
 pub record Windowed (seen : List Seen) : Type 0 where
@@ -12,9 +13,11 @@ pub record Windowed (seen : List Seen) : Type 0 where
   pub window_is : (armed seen).window ≡ Some (start.tick + WINDOW)
 
 -- a port has the alarm armed that ends its role, or lets it go on
-pub record Wakes (seen : List Seen) : Type 0 where
-  -- each act on an alarm came in its time
-  pub acts : AlarmsFit seen
+pub record Wakes (m : Manner) (seen : List Seen) : Type 0 where
+  -- each act on an alarm came in its time, and was followed at once as it asks
+  pub acts : AlarmsFit m seen
+  -- so was the newest
+  pub settled : owes_next seen ≡ false
   -- Starting since the boot: Quiet, for QUIET ticks after the boot
   pub starting : role seen ≡ Starting → (start : Did) (idle : List Seen) → stood seen ≡ Here start ∷ idle → (armed seen).quiet ≡ Some ((held seen).boot + QUIET)
   -- a candidate: Window
@@ -26,10 +29,15 @@ pub record Wakes (seen : List Seen) : Type 0 where
   -- a master: Round
   pub master : role seen ≡ Master → is_some (armed seen).round ≡ true
 
--- wherever a step of a node begins, each of its ports has armed what its role asks for
-abbrev pub Woken : List Line → Type 0
-Woken = AtBegins (λ x seen. Wakes seen)
+-- where a step of a node begins, each of its ports has armed what its role asks for; m says of each node whether it may be
+-- master, and whether its elections are strict
+abbrev pub WokenAt : (ℕ → Manner) → Line → List Line → Type 0
+WokenAt m l world = l.did.deed ≡ Begins → (q : Port) → Wakes (m (node_of l)) (view q (of (node_of l) world))
 
--- after the whole history each port of each node has
-abbrev pub AllWake : List Line → Type 0
-AllWake world = (n : ℕ) (q : Port) → Wakes (view q (of n world))
+-- this is so wherever a step begins
+abbrev pub Woken : (ℕ → Manner) → List Line → Type 0
+Woken m = Everywhere (WokenAt m)
+
+-- and of each port of each node after the whole history
+abbrev pub AllWake : (ℕ → Manner) → List Line → Type 0
+AllWake m world = (n : ℕ) (q : Port) → Wakes (m n) (view q (of n world))

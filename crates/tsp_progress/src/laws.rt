@@ -31,19 +31,20 @@ pub fn runs_wake()
 {}
 
 ghost use Rattle.tsp_progress.specs.InTime.{AllInTime, EndsInTime};
+ghost use Rattle.tsp_progress.specs.AlarmsFit.{Manner};
 ghost use Rattle.tsp_progress.specs.Wakes.{AllWake, Woken};
 /// A port that is looked at in time does in time what its role asks for: the quiet time ends, a
 /// candidature ends, a round closes, a master begins the next one, resolutions and searches end, a
 /// follower that doesn't hear its master gives it up, and a port that is Loose goes on seeking.
 pub fn all_in_time()
-    ensures { (late : ℕ) (world : List Line) → Woken world → Attended late world
-        → AllInTime late world }
+    ensures { (m : ℕ → Manner) (late : ℕ) (world : List Line) → Woken m world
+        → Attended late world → AllInTime late world }
 {}
 
 /// The same at a node after the whole history, where that is told up to a true time.
 pub fn ends_in_time()
-    ensures { (late : ℕ) (setting : Setting) (t n : ℕ) (world : List Line) → AllWake world
-        → Told late setting t n world → EndsInTime late setting t n world }
+    ensures { (m : ℕ → Manner) (late : ℕ) (setting : Setting) (t n : ℕ) (world : List Line)
+        → AllWake m world → Told late setting t n world → EndsInTime late setting t n world }
 {}
 
 ghost use Rattle.std.specs.Prelude.{◌≤◌};
@@ -52,6 +53,7 @@ ghost use Rattle.tsp_progress.specs.NeverLate.{NeverLate};
 /// Where each node is looked at at most `SLACK` ticks, 1 s, after its alarms are due, none is handled
 /// late.
 pub fn never_late()
-    ensures { (setting : Setting) (late : ℕ) (world : List Line) → Fits setting world
-        → AllWake world → Attended late world → late ≤ SLACK → NeverLate world }
+    ensures { (m : ℕ → Manner) (setting : Setting) (late : ℕ) (world : List Line)
+        → Fits setting world → AllWake m world → Attended late world → late ≤ SLACK
+        → NeverLate world }
 {}
