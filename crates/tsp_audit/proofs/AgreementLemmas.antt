@@ -66,7 +66,8 @@ found n h (Some k) a m close cpast c past r older e from_round node u =
 clock-kept : (header : HeaderValue) (setting : Setting) (n : ℕ) (h : List Line) (s : NodeState) (t : ℕ) → HasClocks header setting → NodeIs n h s → shown_by header n s.moved t ≡ clock_at setting n h t
 clock-kept header setting n h s t has is =
     let own : shown_by header n s.moved t ≡ shown_by header n (moved (dids (of n h))) t = ap (λ (z : ℤ). shown_by header n z t) is.moved_is in
-    own ∙ subst₂ (λ (w r : ℤ). shown_by header n (moved (dids (of n h))) t ≡ (w +ℤ moved (dids (of n h))) +ℤ pos (tick_at r t)) (sym (has.wall_is n)) (sym (has.rate_is n)) refl
+    own ∙ subst₂ (λ (w : ℤ) (x : ℕ). shown_by header n (moved (dids (of n h))) t ≡ (w +ℤ moved (dids (of n h))) +ℤ pos x)
+    (sym (has.wall_is n (lives (dids (of n h))))) (sym (has.tick_is n t)) refl
 
 -- the state that is read where none stands
 abbrev pub no_state : NodeState

@@ -6,21 +6,24 @@ use Rattle.std.proofs.lemmas.{Bool.ltb-true, Bool.eqb-false, Bool.ne_eqb, List.E
 use Rattle.tsp_rules.specs.NodeRows.{NodePast, for_ports, nothing_at_all, on, reading_all, spread, ◌and_then◌}
 use Rattle.tsp_rules.specs.Values.{Placed, Event, BootAt, Turn, Take, Bytes, Boot, Port}
 use Rattle.tsp_rules.specs.GateRows.{all_ports, boots_all, boots_on}
-use Rattle.tsp_base.specs.Words.{IsHeader, Line, Step, dids, of, up, first_port, arms, puts, ◌followed_by◌, has_member}
+use Rattle.tsp_base.specs.Words.{HeaderValue, Line, Step, dids, of, up, first_port, arms, puts, ◌followed_by◌, has_member}
 use Rattle.tsp_base.specs.declared.event.EventFault.TheVariants.{NoDatagram}
 use Rattle.tsp_run.proofs.RefusalLemmas.{CanHappen as CanBe, can_happen, first_of-none, up-down}
-use Rattle.tsp_run.specs.Refusals.{down, impossible, node_in, no_datagram, scene, time_back}
-use Rattle.tsp_run.specs.{Run.boot_step, Run.goes_to, Run.last_at, Run.posts, Run.run, Run.step_tick, declared.address.Address.Address}
-use Rattle.tsp_run.proofs.{PossibleRun.possible_before, RunPremises.possible_runs_keep_premises, RunPromises.possible-runs-keep-promises}
-use Rattle.tsp_run.specs.{Networks.networks, Networks.network_from, Possible.Possible, Promises.Promises, declared.posted.Posted.Posted}
+use Rattle.tsp_run.specs.Refusals.{down, impossible, node_in, no_datagram, time_back}
+use Rattle.tsp_run.specs.Clocked.{Clocks, IsSetUp, KeptByEvents, PossibleBy, SetByClocks, boot_by, run_by, scene_by, tick_by}
+use Rattle.tsp_run.specs.{Run.goes_to, Run.last_at, Run.posts, Run.run, declared.address.Address.Address}
+use Rattle.tsp_run.proofs.{PossibleRun.possible_before, RunPremises.clocked_runs_keep_premises, RunPromises.clocked_runs_keep_promises}
+use Rattle.tsp_run.specs.{Networks.networks, Networks.network_from, Promises.Promises, declared.posted.Posted.Posted}
 use Rattle.tsp_run.{proofs.NetworkLemmas.some_same, proofs.RunLemmas.stepped_other, specs.Ranges.IsInRange}
 use Rattle.tsp_network.proofs.NetworkRuns.{Nothing, Outcome, RunAgrees, Starts, Turns, outcome, event_agrees, run_agrees, longer}
-use Rattle.tsp_network.specs.Kept.{tried_by, IsSent, NetworksKeepPromises, NumbersAreAddresses, AllSuit, RunsAreNetworks, Suits}
-use Rattle.tsp_network.specs.Networks.{Network, Sent, acted, named_acts, network, life_from, daemon_tick, node_wall, sent_by}
+use Rattle.tsp_network.specs.Kept.{tried_by, IsSent, NetworksKeepPromises, SchedulesAreKept, NumbersAreAddresses, AllSuit, RunsAreNetworks, Suits}
+use Rattle.tsp_network.specs.Networks.{Network, Sent, acted, named_acts, network, life_from, daemon_tick, next_life, node_wall, sent_by}
 use Rattle.tsp_network.specs.Rosters.{destination, count_below, neighbours, neighbours_on, number_for, others_in, place_in}
 use Rattle.tsp_network.specs.Lives.{AreStarted, Daemons, Life, first_acts, session_of, turn_told, turn_acts, addresses}
 use Rattle.tsp_network.proofs.SetUpLemmas.{AllMatch, Matches, MoreMatch, NoneMatch, match_length, match_at}
 use Rattle.tsp_network.proofs.NetworkAgrees.{AllAgree, Began, Reached, Went, acts_told, session_told}
+use Rattle.tsp_promises.specs.Setting.{KeepsTime}
+use Rattle.tsp_run.proofs.OwnClocks.{kept_own, runs_by_own_clocks, set_own}
 use Rattle.tsp_network.specs.Events.{AllHappen, CanHappen, IsNetwork, IsRunning, RunsAt, RunsFor}
 use Rattle.tsp_network.proofs.RosterLemmas.{length_neighbours, none_some, place_is}
 use Rattle.tsp_io.specs.{Links.Tried, declared.addr.Addr.Addr}
@@ -47,11 +50,15 @@ acted-quiet d step life acts w q n e = by_node (n == step.node) refl e where
   by_node : (b : Bool) → (n == step.node) ≡ b → (if b then Some life else w.lives n) ≡ None → of n (acted d step life acts w).history ≡ []
   by_node true same e = let bad : ⊥ = cc in absurd bad
   by_node false other e =
-      stepped_other n step (step_tick d.header step) (named_acts (networks d.header) step.node life.origin acts) w.history (ne_eqb step.node n (λ same. eqb-false n step.node other (sym same))) ∙ q n e
+      stepped_other n step (tick_by d.clocks step) (named_acts (networks d.header) step.node life.origin acts) w.history
+      (ne_eqb step.node n (λ same. eqb-false n step.node other (sym same))) ∙ q n e
 
 event-quiet : {d : Daemons} {k : ℕ} {w v : Network} → IsQuiet w → Outcome d k w v → IsQuiet v
-event-quiet {d} {k} {w} q (Starts at n word) = acted-quiet d (boot_step d.header at n word) _ (first_acts (d.words n) (daemon_tick d n at - d.origin k) (node_wall d n at) word) w q
-event-quiet {d} {k} {w} q (Turns step a life there) = acted-quiet d step _ (turn_acts (d.words step.node) life (turn_told a (d.early k) (step_tick d.header step - life.origin) life)) w q
+event-quiet {d} {k} {w} q (Starts at n word) =
+    acted-quiet d (boot_by d.clocks w.history at n word) _
+    (first_acts (d.words n) (daemon_tick d n at - d.origin k) (node_wall d n (next_life w n) at) word) w q
+event-quiet {d} {k} {w} q (Turns step a life there) =
+    acted-quiet d step _ (turn_acts (d.words step.node) life (turn_told a (d.early k) (tick_by d.clocks step - life.origin) life)) w q
 event-quiet q Nothing = q
 
 pub quiet : (d : Daemons) (events : List Event) → IsQuiet (network d events)
@@ -70,30 +77,32 @@ runs_up w h n same q up_is = by_life (w.lives n) refl where
   by_life (Some life) e = tt
 
 -- what isn't impossible takes a datagram that was posted
-known-datagram : (header : _) (before : List Event) (at k : ℕ) → impossible (scene header before) (Take at k) ≡ None → k < length (posts (run header before))
-known-datagram header before at k none =
-    let s = scene header before in
+known-datagram : (clocks : Clocks) (header : HeaderValue) (before : List Event) (at k : ℕ) → impossible (scene_by clocks header before) (Take at k) ≡ None →
+    k < length (posts (run_by clocks header before))
+known-datagram clocks header before at k none =
+    let s = scene_by clocks header before in
     let a = first_of-none (time_back at s.last) _ none in
     let b = first_of-none None _ a.1 in
     let c = first_of-none (no_datagram (length s.posts) (Take at k)) _ b.1 in
     ltb-true k (length s.posts) (by_case (nat_lt k (length s.posts)) c.0) where
-      by_case : (b : Bool) → (if b then None else Some (NoDatagram k (length (posts (run header before))))) ≡ None → b ≡ true
+      by_case : (b : Bool) → (if b then None else Some (NoDatagram k (length (posts (run_by clocks header before))))) ≡ None → b ≡ true
       by_case true e = refl
       by_case false e = let bad : ⊥ = cc in absurd bad
 
-module _ (d : Daemons) (header_is : IsHeader d.header) (started : AreStarted d) where
-  take-happens : (before : List Event) (at k : ℕ) → AllAgree d header_is (network d before) (last_at before) (run d.header before) → impossible (scene d.header before) (Take at k) ≡ None → RunsFor d (network d before) (slice_get (network d before).sent k)
+module _ (d : Daemons) (header_is : IsSetUp d.header) (keeps : (n : ℕ) → KeepsTime d.header.drift (d.clocks.tick n)) (started : AreStarted d) where
+  take-happens : (before : List Event) (at k : ℕ) → AllAgree d header_is keeps (network d before) (last_at before) (run_by d.clocks d.header before) →
+      impossible (scene_by d.clocks d.header before) (Take at k) ≡ None → RunsFor d (network d before) (slice_get (network d before).sent k)
   take-happens before at k a can = elim (slice_get_cases (posts h) k).1 [
     | inl c ↦
         let r = send_at d a.sends k c.0 c.2 in
         subst (λ o. RunsFor d w o) (sym r.there) (by_address r.send c.0 c.2 r.matches (destination nets r.send.from r.send.tried.0) refl)
-    | inr c ↦ let few = known-datagram d.header before at k can in let past = c.0 in let bad : ⊥ = omega (arith, few, past) in absurd bad
+    | inr c ↦ let few = known-datagram d.clocks d.header before at k can in let past = c.0 in let bad : ⊥ = omega (arith, few, past) in absurd bad
   ] where
     w : Network
     w = network d before
 
     h : List Line
-    h = run d.header before
+    h = run_by d.clocks d.header before
 
     nets : List (List ℕ)
     nets = networks d.header
@@ -102,50 +111,63 @@ module _ (d : Daemons) (header_is : IsHeader d.header) (started : AreStarted d) 
     by_address s p there m None e = tt
     by_address s p there m (Some to) e =
         let goes : goes_to nets (slice_get (posts h) k) ≡ Some to = ap (goes_to nets) there ∙ sym m.goes ∙ e in
-        let free : down (scene d.header before).up (Some to.node) ≡ None = ap (λ z. down (scene d.header before).up (node_in z)) (sym goes) ∙ (can_happen (scene d.header before) (Take at k) can).up in
-        runs_up w h to.node a.history (quiet d before) (up-down (scene d.header before) to.node free)
+        let free : down (scene_by d.clocks d.header before).up (Some to.node) ≡ None =
+        ap (λ z. down (scene_by d.clocks d.header before).up (node_in z)) (sym goes) ∙
+        (can_happen (scene_by d.clocks d.header before) (Take at k) can).up in
+        runs_up w h to.node a.history (quiet d before) (up-down (scene_by d.clocks d.header before) to.node free)
 
-  happens-so : (before : List Event) (e : Event) → AllAgree d header_is (network d before) (last_at before) (run d.header before) → impossible (scene d.header before) e ≡ None → IsInRange e → Suits d (length before) e → CanHappen d (length before) (network d before) e
-  happens-so before (BootAt at node word) a can range suits = ((can_happen (scene d.header before) (BootAt at node word) can).node, range, suits)
-  happens-so before (Turn at node) a can range suits = runs_up (network d before) (run d.header before) node a.history (quiet d before) (up-down (scene d.header before) node (can_happen (scene d.header before) (Turn at node) can).up)
+  happens-so : (before : List Event) (e : Event) → AllAgree d header_is keeps (network d before) (last_at before) (run_by d.clocks d.header before) →
+      impossible (scene_by d.clocks d.header before) e ≡ None → IsInRange e → Suits d (length before) (network d before) e →
+      CanHappen d (length before) (network d before) e
+  happens-so before (BootAt at node word) a can range suits =
+      ((can_happen (scene_by d.clocks d.header before) (BootAt at node word) can).node, range, suits.0, suits.1)
+  happens-so before (Turn at node) a can range suits =
+      runs_up (network d before) (run_by d.clocks d.header before) node a.history (quiet d before)
+      (up-down (scene_by d.clocks d.header before) node (can_happen (scene_by d.clocks d.header before) (Turn at node) can).up)
   happens-so before (Take at k) a can range suits = take-happens before at k a can
   happens-so before (Bytes at node port from octets) a can range suits =
-      let s = scene d.header before in
+      let s = scene_by d.clocks d.header before in
       let k : CanBe s (Bytes at node port from octets) = can_happen s (Bytes at node port from octets) can in
       let all = length_neighbours node (networks d.header) in
-      let has = k.node.1 in
-      (runs_up (network d before) (run d.header before) node a.history (quiet d before) (up-down s node k.up), omega (arith, all, has), suits.0, suits.1, range)
+      let has = k.node.1 in (
+        runs_up (network d before) (run_by d.clocks d.header before) node a.history (quiet d before) (up-down s node k.up),
+        omega
+            (arith, all, has),
+        suits.0,
+        suits.1,
+        range,
+      )
 
   -- the events of a run, as a network's
   record Comes (events : List Event) : Type 0 where
     pub happen : AllHappen d events
-    pub few : length (network d events).sent ≡ length (posts (run d.header events))
-    pub agree : RunAgrees d header_is started events
+    pub few : length (network d events).sent ≡ length (posts (run_by d.clocks d.header events))
+    pub agree : RunAgrees d header_is keeps started events
 
-  comes : (events : List Event) → AllSuit d events → Possible d.header events → Comes events
-  comes [] suits p = record { happen = tt; few = refl; agree = run_agrees d header_is started [] tt (omega arith) }
+  comes : (events : List Event) → AllSuit d events → PossibleBy d.clocks d.header events → Comes events
+  comes [] suits p = record { happen = tt; few = refl; agree = run_agrees d header_is keeps started [] tt (omega arith) }
   comes (e ∷ before) suits p =
-      let older = possible_before d.header e before p in
+      let older = possible_before d.clocks d.header e before p in
       let old = comes before suits.1 older in
       let can = p.happens.0 in
-      let later = (can_happen (scene d.header before) e can).time in
+      let later = (can_happen (scene_by d.clocks d.header before) e can).time in
       let now = happens-so before e old.agree.agree can (All-head IsInRange e before p.ranges) suits.0 in
       let happen : AllHappen d (e ∷ before) = (later, now, old.happen) in
-      let next = event_agrees d header_is started before e older later old.agree.agree now in
+      let next = event_agrees d header_is keeps started before e older later old.agree.agree now in
       let same = match_length d next.agree.sends in
       let few = p.few in
-      record { happen = happen; few = same; agree = run_agrees d header_is started (e ∷ before) happen (omega (arith, same, few)) }
+      record { happen = happen; few = same; agree = run_agrees d header_is keeps started (e ∷ before) happen (omega (arith, same, few)) }
 
-pub run_is_network : (d : Daemons) (events : List Event) → AreStarted d → AllSuit d events → Possible d.header events → IsNetwork d events
+pub run_is_network : (d : Daemons) (events : List Event) → AreStarted d → AllSuit d events → PossibleBy d.clocks d.header events → IsNetwork d events
 run_is_network d events started suits p =
-    let c = comes d p.header_is started events suits p in
+    let c = comes d p.header_is p.keeps started events suits p in
     let same = c.few in
     let few = p.few in
-    record { header_is = p.header_is; started = started; happen = c.happen; few = omega (arith, same, few) }
+    record { header_is = p.header_is; keeps = p.keeps; started = started; happen = c.happen; few = omega (arith, same, few) }
 
 -- what happens suits the daemons
-suits-so : (d : Daemons) (k : ℕ) (w : Network) (e : Event) → CanHappen d k w e → Suits d k e
-suits-so d k w (BootAt at node word) c = c.2
+suits-so : (d : Daemons) (k : ℕ) (w : Network) (e : Event) → CanHappen d k w e → Suits d k w e
+suits-so d k w (BootAt at node word) c = (c.2, c.3)
 suits-so d k w (Bytes at node port from octets) c = (c.2, c.3)
 suits-so d k w _ c = tt
 
@@ -156,7 +178,10 @@ all-suit d (e ∷ before) all = (suits-so d (length before) (network d before) e
 pub runs_are_networks : RunsAreNetworks
 runs_are_networks = record {
   all = run_is_network;
-  only = λ d events n. (all-suit d events n.happen, (let few = n.few in run_agrees d n.header_is n.started events n.happen (omega (arith, few))).possible);
+  only = λ d events n. (
+    all-suit d events n.happen,
+    (let few = n.few in run_agrees d n.header_is n.keeps n.started events n.happen (omega (arith, few))).possible,
+  );
 }
 
 -- a node that boots sends nothing
@@ -218,7 +243,7 @@ module _ (d : Daemons) where
   event-tried {k} {w} all (Turns step a life there) =
       let n : ℕ = step.node in
       let s = d.words n in
-      let y : ℕ = step_tick d.header step - life.origin in
+      let y : ℕ = tick_by d.clocks step - life.origin in
       let now : Life = turn_told a (d.early k) y life in
       let acts : List Placed = turn_acts s life now in
       let own = all n life there in
@@ -234,11 +259,11 @@ module _ (d : Daemons) where
       })
   event-tried {k} {w} all (Starts at n word) =
       let y : ℕ = daemon_tick d n at - d.origin k in
-      let wall = node_wall d n at in
+      let wall = node_wall d n (next_life w n) at in
       let acts : List Placed = first_acts (d.words n) y wall word in
       let silent : sends_of acts ≡ [] = boots-silent y (booting (daemon_config (d.words n)) y wall word) in
       let sent : w.sent ++ map (sent_by n) (sends_of acts) ≡ w.sent = ap (λ l. w.sent ++ map (sent_by n) l) silent ∙ append-nil w.sent in
-      acted-tried (boot_step d.header at n word) (life_from d k at n word (length w.sent)) acts w all (record {
+      acted-tried (boot_by d.clocks w.history at n word) (life_from d k at n word w) acts w all (record {
         reached = Began (d.origin k) (length w.sent) wall word y;
         few = longer w.sent (map (sent_by n) (sends_of acts));
         tried = sym (ap (λ l. tried_by n (drop (length w.sent) l)) sent ∙ ap (tried_by n) (drop_all (length w.sent) w.sent (omega arith)));
@@ -306,8 +331,8 @@ numbers_are_addresses d n q k m started on member off =
 pub networks_keep_promises : NetworksKeepPromises
 networks_keep_promises d setting events n set =
     let few = n.few in
-    let r = run_agrees d n.header_is n.started events n.happen (omega (arith, few)) in
-    let kept : Promises setting (run d.header events) = possible-runs-keep-promises d.header setting events set r.possible in
+    let r = run_agrees d n.header_is n.keeps n.started events n.happen (omega (arith, few)) in
+    let kept : Promises setting (run_by d.clocks d.header events) = clocked_runs_keep_promises d.clocks d.header setting events set r.possible in
     record {
       runs = r.agree.history;
       count = match_length d r.agree.sends;
@@ -316,5 +341,17 @@ networks_keep_promises d setting events n set =
           subst (λ q. IsSent d s q) (some_same (sym m.there ∙ post)) m.matches.sent;
       tried = λ m life there. (all-tried d events m life there).tried;
       promises = subst (λ h. Promises setting h) (sym r.agree.history) kept;
-      premises = possible_runs_keep_premises d.header events r.possible;
+      premises = clocked_runs_keep_premises d.clocks d.header events r.possible;
+    }
+
+-- so it is with the clocks of a header's lines: the history is the run of a schedule
+pub schedules_are_kept : SchedulesAreKept
+schedules_are_kept d setting events n own set =
+    let mine : SetByClocks d.clocks d.header setting = subst (λ c. SetByClocks c d.header setting) (sym own) (set_own d.header setting set) in
+    let kept = networks_keep_promises d setting events n mine in
+    let same : run_by d.clocks d.header events ≡ run d.header events = ap (λ c. run_by c d.header events) own ∙ runs_by_own_clocks d.header events in
+    record {
+      kept = kept;
+      runs = kept.runs ∙ same;
+      premises = kept_own d.header events (subst (λ c. KeptByEvents c d.header events) own kept.premises);
     }

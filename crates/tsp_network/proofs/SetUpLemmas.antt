@@ -4,7 +4,7 @@ use Rattle.std.proofs.Common.{sym, ap, subst, arith, le-leb, ◌∙◌, ◌≡�
 use Rattle.std.proofs.lemmas.{Bool.lt-leb, Bool.ne_eqb, Bool.cases_lt, Bool.or_right, List.length-map, List.get_or_past, List.map-append}
 use Rattle.std.proofs.lemmas.List.{Elements.All-head, Elements.All-tail, FromFn.length-map-range_with_len}
 use Rattle.std.specs.List.{range_with_len}
-use Rattle.tsp_base.specs.Words.{has_member, peer_of, IsHeader, Line, Step, is_among, others, first_port}
+use Rattle.tsp_base.specs.Words.{has_member, peer_of, Line, Step, is_among, others, first_port}
 use Rattle.tsp_base.proofs.AscendingLemmas.{Rise-numbers}
 use Rattle.tsp_gateway.specs.PortOf.{has_other_peer, port_of_from}
 use Rattle.tsp_io.specs.declared.addr.Addr.{Addr}
@@ -17,7 +17,7 @@ use Rattle.tsp_network.specs.Rosters.{count_below, neighbours, others_in, port_o
 use Rattle.tsp_network.proofs.RosterLemmas.{is_in_range, not_in_range, IsRoster, compared, in_range, named_member, others_above, range_named, header_nets, length_neighbours, one_fewer, others_on, port_is, roster, place_is, none_some}
 use Rattle.tsp_network.specs.{Events.MayCome, Kept.IsSent, Lives.addresses, Lives.Daemons, Lives.IsStarted, Networks.Sent, Networks.sent_by}
 use Rattle.tsp_run.proofs.NetworkLemmas.{port_named, goes_there, some_same}
-use Rattle.tsp_run.specs.{Networks.networks, Networks.ports_on, Networks.address_of, declared.address.Address.Address}
+use Rattle.tsp_run.specs.{Clocked.IsSetUp, Networks.networks, Networks.ports_on, Networks.address_of, declared.address.Address.Address}
 use Rattle.tsp_run.specs.{Run.posted_by, Run.posts_from, Setup.node_line, Setup.past_of, declared.posted.Posted.Posted}
 use Rattle.tsp_alike.specs.AlikeNodes.{AlikeConfigs, AlikeSetup, TellsApart, ComesOn, renamed_given, AllKnown, naming_of, renamed_placed}
 use Rattle.tsp_codec.specs.{Canon.canon, Taken.taken_of}
@@ -131,12 +131,9 @@ match_at d NoneMatch k s e = let bad : ⊥ = cc in absurd bad
 match_at d (MoreMatch {p = p} m a) zero s e = record { post = p; there = refl; few = omega arith; matches = subst (λ z. Matches d z p) (some_same e) m }
 match_at d (MoreMatch m a) (suc k) s e = let r = match_at d a k s e in record { post = r.post; there = r.there; few = (let f = r.few in omega (arith, f)); matches = r.matches }
 
-module _ (d : Daemons) (is : IsHeader d.header) (n : ℕ) (low : n < length d.header.nodes) where
+module _ (d : Daemons) (is : IsSetUp d.header) (n : ℕ) where
   abbrev nets : List (List ℕ)
   nets = networks d.header
-
-  few : n < 64
-  few = (let some = is.few in omega (arith, low, some))
 
   long : AsLong (addresses d.address n 0 nets) (neighbours n nets)
   long = as_long d.address n 0 nets
@@ -147,10 +144,11 @@ module _ (d : Daemons) (is : IsHeader d.header) (n : ℕ) (low : n < length d.he
 
   pub is_roster : (q : ℕ) → IsRoster n (neighbours_on n q nets)
   is_roster q = elim (cases_lt q (length (ports_on n nets))) [
-    | inl has ↦ (let p = port_is (length d.header.nodes) n q nets (header_nets d.header is) has in subst (IsRoster n) (sym p.nodes) (roster (length d.header.nodes) n p.net is.few few p.good))
+    | inl has ↦ (let p = port_is (length d.header.nodes) n q nets (header_nets d.header is) has in
+        subst (IsRoster n) (sym p.nodes) (roster (length d.header.nodes) n p.net p.good))
     | inr past ↦ (let all = length_neighbours n nets in
         let none : neighbours_on n q nets ≡ [] = get_or_past (neighbours n nets) q [] (omega (arith, past, all)) in
-        subst (IsRoster n) (sym none) (record { own = few; below = λ i h. absurd (omega (arith, h)); apart = λ i h. absurd (omega (arith, h)); once = λ i j h k e. absurd (omega (arith, h)) }))
+        subst (IsRoster n) (sym none) (record { apart = λ i h. absurd (omega (arith, h)); once = λ i j h k e. absurd (omega (arith, h)) }))
   ]
 
   -- different numbers name different nodes

@@ -1,11 +1,11 @@
 -- A network of daemons: what they do at the events of true time, and what all of them have done.
-use Rattle.std.specs.Prelude.{ℕ, ◌-◌, ◌==◌, ℤ, pos, ◌+ℤ◌, if◌then◌else◌, List, [], ◌∷◌, ◌++◌, length, map, Option, None, Some, slice_get}
+use Rattle.std.specs.Prelude.{ℕ, ◌+◌, ◌-◌, ◌==◌, ℤ, pos, ◌+ℤ◌, if◌then◌else◌, List, [], ◌∷◌, ◌++◌, length, map, Option, None, Some, slice_get}
 use Rattle.tsp_rules.specs.Values.{Placed, Event, BootAt, Turn, Take, Bytes, Peer}
-use Rattle.tsp_base.specs.Words.{Turned, Came, Handed, Step, Line, peer_of, stepped, tick_at}
+use Rattle.tsp_base.specs.Words.{Turned, Came, Handed, Step, Line, dids, lives, of, peer_of, stepped}
 use Rattle.tsp_rules.specs.Renames.{renamed_act}
 use Rattle.tsp_io.specs.Links.{Arrival, Tried}
 use Rattle.tsp_daemon.specs.Posts.{sends_of}
-use Rattle.tsp_run.specs.{Networks.networks, Run.boot_step, Run.step_tick, Setup.node_line, declared.address.Address.Address}
+use Rattle.tsp_run.specs.{Clocked.boot_by, Clocked.tick_by, Networks.networks, declared.address.Address.Address}
 use Rattle.tsp_network.specs.Lives.{Daemons, Life, first_acts, turn_told, turn_acts}
 use Rattle.tsp_network.specs.Rosters.{destination, renaming_on, sender_for}
 
@@ -47,26 +47,37 @@ abbrev pub acted : Daemons → Step → Life → List Placed → Network → Net
 acted d step life acts w = record {
   lives = with_life step.node life w.lives;
   sent = w.sent ++ map (sent_by step.node) (sends_of acts);
-  history = stepped step (step_tick d.header step) (named_acts (networks d.header) step.node life.origin acts) w.history;
+  history = stepped step (tick_by d.clocks step) (named_acts (networks d.header) step.node life.origin acts) w.history;
 }
 
 -- the tick of node n's counter at a true time
 abbrev pub daemon_tick : Daemons → ℕ → ℕ → ℕ
-daemon_tick d n at = tick_at (node_line d.header n).rate at
+daemon_tick d n at = d.clocks.tick n at
 
--- its wall clock then: it runs at the rate of the counter
-abbrev pub node_wall : Daemons → ℕ → ℕ → ℤ
-node_wall d n at = (node_line d.header n).wall +ℤ pos (daemon_tick d n at)
+-- the number of the life that begins next on node n; the first has number 1
+abbrev pub next_life : Network → ℕ → ℕ
+next_life w n = lives (dids (of n w.history)) + 1
 
--- the life of a daemon that starts at event k, when so many datagrams were sent: it has read its first tick
-abbrev pub life_from : Daemons → ℕ → ℕ → ℕ → ℕ → ℕ → Life
-life_from d k at n word sent =
-    record { origin = d.origin k; sent_before = sent; wall = node_wall d n at; word = word; arrivals = []; readings = (daemon_tick d n at - d.origin k) ∷ [] }
+-- node n's wall clock in a life, at a true time
+abbrev pub node_wall : Daemons → ℕ → ℕ → ℕ → ℤ
+node_wall d n life at = d.clocks.wall n life +ℤ pos (daemon_tick d n at)
+
+-- the life of a daemon that starts at event k in this network: it has read its first tick
+abbrev pub life_from : Daemons → ℕ → ℕ → ℕ → ℕ → Network → Life
+life_from d k at n word w = record {
+  origin = d.origin k;
+  sent_before = length w.sent;
+  wall = node_wall d n (next_life w n) at;
+  word = word;
+  arrivals = [];
+  readings = (daemon_tick d n at - d.origin k) ∷ [];
+}
 
 -- a daemon starts
 abbrev pub starts : Daemons → ℕ → ℕ → ℕ → ℕ → Network → Network
 starts d k at n word w =
-    acted d (boot_step d.header at n word) (life_from d k at n word (length w.sent)) (first_acts (d.words n) (daemon_tick d n at - d.origin k) (node_wall d n at) word) w
+    acted d (boot_by d.clocks w.history at n word) (life_from d k at n word w)
+    (first_acts (d.words n) (daemon_tick d n at - d.origin k) (node_wall d n (next_life w n) at) word) w
 
 -- a daemon has taken a turn, and come from one life to the other
 abbrev pub turned_to : Daemons → Step → Life → Life → Network → Network
@@ -75,7 +86,7 @@ turned_to d step life now w = acted d step now (turn_acts (d.words step.node) li
 -- a daemon that runs takes a turn, in which this comes
 abbrev pub turns : Daemons → ℕ → Step → Arrival → Option Life → Network → Network
 turns d k step arrival None w = w
-turns d k step arrival (Some life) w = turned_to d step life (turn_told arrival (d.early k) (step_tick d.header step - life.origin) life) w
+turns d k step arrival (Some life) w = turned_to d step life (turn_told arrival (d.early k) (tick_by d.clocks step - life.origin) life) w
 
 -- a copy of a send, as it comes to a port: its octets, from the daemon that sent it
 abbrev pub copy_at : List (List ℕ) → Address → Sent → Arrival

@@ -1,10 +1,19 @@
 //! Theorems about every network of daemons. Nothing here runs.
 ghost use Rattle.tsp_network.specs.Kept.{NetworksKeepPromises, NumbersAreAddresses, RunsAreNetworks};
+ghost use Rattle.tsp_network.specs.Kept.{SchedulesAreKept};
 ghost use Rattle.tsp_network.specs.NetworkUse.{Misdelivered, NetworkUse, NetworksBreak};
 
-/// What the daemons of a network did is the run of its events, to the act, and so it keeps the promises.
+/// What the daemons of a network did is the run of its events by its clocks, to the act, and so it keeps the
+/// promises: whatever its counters are, as long as each stays within the drift, and whatever the wall clocks
+/// are in each life.
 pub fn networks_keep_promises()
     ensures { NetworksKeepPromises }
+{}
+
+/// Where each node counts at the rate of its header's line, with the wall clock of that line, what the
+/// daemons did is the run of a schedule.
+pub fn schedules_are_kept()
+    ensures { SchedulesAreKept }
 {}
 
 /// The number by which a daemon knows a peer is the place of that peer's address among those to which the daemon
@@ -14,8 +23,8 @@ pub fn numbers_are_addresses()
     ensures { NumbersAreAddresses }
 {}
 
-/// A network's events are the possible schedules at which the daemons can do what the nodes do: those,
-/// and no others.
+/// A network's events are the possible ones at which the daemons can do what the nodes do: those, and no
+/// others.
 #[tactic(auto, using(crate::proofs::NetworksKeep::runs_are_networks))]
 pub fn runs_are_networks()
     ensures { RunsAreNetworks }

@@ -3,7 +3,7 @@ use Rattle.std.specs.Prelude.{◌≡◌, ◌≤◌, ◌≤ℤ◌, ℕ, ◌+◌, 
 use Rattle.tsp_promises.specs.{Agreed.FromRound, Agreed.Unchanged, Agreed.UnchangedBut, ClockAt.clock_at, ClockAt.left_at, ClockAt.shown_at}
 use Rattle.tsp_promises.specs.{Everywhere.Everywhere, Fits.node_of, Setting.Setting, Steady.ReadTimes, Steady.Unstepped, Steady.shown_width}
 use Rattle.tsp_promises.specs.Chained.{Hop, Hops, IsChain, bound, hop_bound, last_hop, node_at}
-use Rattle.tsp_base.specs.Words.{Line, of, dids, last_correct, rest, up, tick_at, width}
+use Rattle.tsp_base.specs.Words.{Line, of, dids, last_correct, rest, up, width}
 
 -- the shown values of k and l differ by at most b and what is still to be slewed on each; so by at most b, once both
 -- show their targets

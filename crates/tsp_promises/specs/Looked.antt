@@ -1,6 +1,6 @@
 -- The promise behind the interval that programs read: where a master's clock may be, some time after a look at it.
 use Rattle.std.specs.Prelude.{◌≡◌, ℕ, ◌+◌, ◌-◌, ◌*◌, ◌≤◌, ℤ, pos, ◌-ℤ◌, ◌+ℤ◌, ◌≤ℤ◌, List, []}
-use Rattle.tsp_base.specs.Words.{Line, of, dids, lives, Within, tick_at, width}
+use Rattle.tsp_base.specs.Words.{Line, of, dids, lives, Within, width}
 use Rattle.tsp_promises.specs.{Agreed.Unchanged, ClockAt.clock_at, Fits.Fits, Kept.Example, Setting.Setting}
 
 -- node k has looked at the clock of node m: m's clock was read at a true time between those of two readings of k's own, and from each
