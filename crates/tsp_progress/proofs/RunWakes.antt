@@ -6,11 +6,12 @@ use Rattle.tsp_base.specs.Words.{Acts, Begins, HeaderValue, Handed, Line, Step, 
 use Rattle.tsp_codec.specs.{Taken.taken_of}
 use Rattle.tsp_promises.proofs.GateSteps.{LeadsAll}
 use Rattle.tsp_run.specs.{Networks.networks, Setup.past_of, declared.arrival.Arrival.Arrival}
-use Rattle.tsp_run.specs.Run.{arrives, boot_step, happening, joins, posts, reaches, run, step_tick, steps}
-use Rattle.tsp_run.proofs.RunLemmas.{stepped_other, stepped_own}
+use Rattle.tsp_run.specs.{Run.arrives, Run.joins, Run.posts}
+use Rattle.tsp_run.specs.Clocked.{Clocks, boot_by, clocks_of, happening_by, reaches_by, run_by, steps_by, tick_by}
+use Rattle.tsp_run.proofs.{OwnClocks.runs_by_own_clocks, RunLemmas.stepped_other, RunLemmas.stepped_own}
 use Rattle.tsp_progress.proofs.NodeWakes.{Each, answers_awake, awake, begins_awake, boots_awake, node_manner}
 use Rattle.tsp_progress.proofs.Waking.{Settled, wakes_of, waking_of}
-use Rattle.tsp_progress.specs.{AlarmsFit.Manner, RunsWake.RunsWake, RunsWake.manner_of, Wakes.AllWake, Wakes.Wakes, Wakes.Woken}
+use Rattle.tsp_progress.specs.{AlarmsFit.Manner, RunsWake.ClockedRunsWake, RunsWake.RunsWake, RunsWake.manner_of, Wakes.AllWake, Wakes.Wakes, Wakes.Woken}
 
 -- where a step begins, and at the end
 pub record Wakeful (m : ℕ → Manner) (h : List Line) : Type 0 where
@@ -44,19 +45,20 @@ row_wakeful m past step x row h own same leads w =
     (subst (λ k. Settled k true true (view q (joined step x acts (line_of step x first_port Begins ∷ past.lines)))) same
     (leads.run x (in_node_step step x past) (begins_awake step x past start) q)))
 
-steps-wakeful : (header : HeaderValue) (h : List Line) (row : NodeRow) (step : Step) → LeadsAll (Each awake) row (Each awake) → Wakeful (manner_of header) h → Wakeful (manner_of header) (joins (Some (steps header h row step)) h)
-unfolding steps
-steps-wakeful header h row step leads w = row_wakeful (manner_of header) (past_of header step h) step (step_tick header step) row h refl refl leads w
+module _ (clocks : Clocks) (header : HeaderValue) where
+  steps-wakeful : (h : List Line) (row : NodeRow) (step : Step) → LeadsAll (Each awake) row (Each awake) → Wakeful (manner_of header) h → Wakeful (manner_of header) (joins (Some (steps_by clocks header h row step)) h)
+  unfolding steps_by
+  steps-wakeful h row step leads w = row_wakeful (manner_of header) (past_of header step h) step (tick_by clocks step) row h refl refl leads w
 
-event-wakeful : (header : HeaderValue) (h : List Line) (e : Event) → Wakeful (manner_of header) h → Wakeful (manner_of header) (joins (happening header h e) h)
-event-wakeful header h (BootAt at node word) w = steps-wakeful header h boots_all (boot_step header at node word) boots_awake w
-event-wakeful header h (Turn at node) w = steps-wakeful header h (answers_all NodeTurn) (record { at = at; node = node; cause = Turned }) (answers_awake NodeTurn) w
-event-wakeful header h (Take at k) w = arrived (arrives (networks header) (slice_get (posts h) k)) where
-  arrived : (o : Option Arrival) → Wakeful (manner_of header) (joins (reaches header h at k o) h)
-  arrived None = w
-  arrived (Some a) = steps-wakeful header h (answers_all (GotOn a.port a.from a.taken)) (record { at = at; node = a.node; cause = Came k }) (answers_awake (GotOn a.port a.from a.taken)) w
-event-wakeful header h (Bytes at node port from octets) w =
-    steps-wakeful header h (answers_all (GotOn port from (taken_of octets))) (record { at = at; node = node; cause = Handed }) (answers_awake (GotOn port from (taken_of octets))) w
+  event-wakeful : (h : List Line) (e : Event) → Wakeful (manner_of header) h → Wakeful (manner_of header) (joins (happening_by clocks header h e) h)
+  event-wakeful h (BootAt at node word) w = steps-wakeful h boots_all (boot_by clocks h at node word) boots_awake w
+  event-wakeful h (Turn at node) w = steps-wakeful h (answers_all NodeTurn) (record { at = at; node = node; cause = Turned }) (answers_awake NodeTurn) w
+  event-wakeful h (Take at k) w = arrived (arrives (networks header) (slice_get (posts h) k)) where
+    arrived : (o : Option Arrival) → Wakeful (manner_of header) (joins (reaches_by clocks header h at k o) h)
+    arrived None = w
+    arrived (Some a) = steps-wakeful h (answers_all (GotOn a.port a.from a.taken)) (record { at = at; node = a.node; cause = Came k }) (answers_awake (GotOn a.port a.from a.taken)) w
+  event-wakeful h (Bytes at node port from octets) w =
+      steps-wakeful h (answers_all (GotOn port from (taken_of octets))) (record { at = at; node = node; cause = Handed }) (answers_awake (GotOn port from (taken_of octets))) w
 
 -- before anything
 nothing-wakes : (m : Manner) → Wakes m []
@@ -70,9 +72,12 @@ nothing-wakes m = record {
   master = λ r. let bad : ⊥ = cc in absurd bad;
 }
 
-wakeful : (header : HeaderValue) (events : List Event) → Wakeful (manner_of header) (run header events)
-wakeful header [] = record { woken = tt; all = λ n q. nothing-wakes (manner_of header n) }
-wakeful header (e ∷ before) = event-wakeful header (run header before) e (wakeful header before)
+wakeful : (clocks : Clocks) (header : HeaderValue) (events : List Event) → Wakeful (manner_of header) (run_by clocks header events)
+wakeful clocks header [] = record { woken = tt; all = λ n q. nothing-wakes (manner_of header n) }
+wakeful clocks header (e ∷ before) = event-wakeful clocks header (run_by clocks header before) e (wakeful clocks header before)
+
+pub clocked_runs_wake : ClockedRunsWake
+clocked_runs_wake clocks header events = let w = wakeful clocks header events in (w.woken, w.all)
 
 pub runs_wake : RunsWake
-runs_wake header events = let w = wakeful header events in (w.woken, w.all)
+runs_wake header events = subst (λ h. Woken (manner_of header) h × AllWake (manner_of header) h) (runs_by_own_clocks header events) (clocked_runs_wake (clocks_of header) header events)

@@ -21,13 +21,19 @@ pub fn sends_ended()
         → Told late setting t n world → SendsEnded late setting t n world }
 {}
 
-ghost use Rattle.tsp_progress.specs.RunsWake.{RunsWake};
+ghost use Rattle.tsp_progress.specs.RunsWake.{ClockedRunsWake, RunsWake};
 /// In the history of every schedule each port has an alarm armed that ends its role or lets it go
 /// on, wherever a step of its node begins, and at the end; and each act on an alarm came in its
 /// time.
 #[tactic(auto, using(crate::proofs::RunWakes::runs_wake))]
 pub fn runs_wake()
     ensures { RunsWake }
+{}
+
+/// So it is of a run by any clocks.
+#[tactic(auto, using(crate::proofs::RunWakes::clocked_runs_wake))]
+pub fn clocked_runs_wake()
+    ensures { ClockedRunsWake }
 {}
 
 ghost use Rattle.tsp_progress.specs.InTime.{AllInTime, EndsInTime};
