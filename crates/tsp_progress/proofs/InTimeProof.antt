@@ -2,7 +2,7 @@
 use Rattle.std.proofs.Common.{sym, ap, subst, arith, true≢false, ◌∙◌, ◌≡◌, ◌≤◌, ◌⊎◌, ℕ, ◌+◌, ◌||◌, Bool, true, false, if◌then◌else◌, List, [], ◌∷◌, Option, None, Some, inl, inr, is_some, refl}
 use Rattle.std.proofs.Math.Nat.{mod-lt}
 use Rattle.tsp_rules.specs.Values.{Boot, Become, Arm, Ring, Late, Abandon, Alarm, Quiet, Search, Elect, Window, Probe, CloseAlarm, ResolveAlarm, Round, WINDOW, ELECT_MIN, ELECT_SPREAD}
-use Rattle.tsp_base.specs.Words.{Acts, Deadlines, Deed, Did, Line, Seen, Here, Elsewhere, armed, armed_after, deadline, none_armed, of, plain, started, started_after, view, with_deadline, word}
+use Rattle.tsp_base.specs.Words.{Acts, did_of, Deadlines, Deed, Did, Line, Seen, Here, Elsewhere, armed, armed_after, deadline, none_armed, of, plain, started, started_after, view, with_deadline, word}
 use Rattle.tsp_promises.specs.{Fits.node_of, Setting.Setting}
 use Rattle.tsp_promises.proofs.{EverywhereLemmas.Everywhere-at, EverywhereLemmas.Everywhere-from}
 use Rattle.tsp_progress.specs.AlarmsFit.{AlarmFits, AlarmsFit, ArmFits, Manner}
@@ -178,3 +178,12 @@ attended_in_time m late world w a = Everywhere-from (BeginsAt (InTime late)) wor
 
 pub told_in_time : (m : ℕ → Manner) (late : ℕ) (setting : Setting) (t n : ℕ) (world : List Line) → AllWake m world → Told late setting t n world → EndsInTime late setting t n world
 told_in_time m late setting t n world w told q = in-time (m n) late (setting.tick n t) (view q (of n world)) (w n q) (told q)
+
+-- the tick of the newest deed at a place
+abbrev pub tick_of : List Seen → ℕ
+tick_of [] = 0
+tick_of (s ∷ before) = (did_of s).tick
+
+-- what is said of a deed's tick, said of that of its place
+pub since_tick : {place idle : List Seen} {d : Did} (at x long : ℕ) → tick_of place ≡ at → place ≡ Here d ∷ idle → x ≤ d.tick + long → x ≤ at + long
+since_tick at x long t e le = let same = sym t ∙ ap tick_of e in omega (arith, same, le)

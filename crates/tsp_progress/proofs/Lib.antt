@@ -5,3 +5,4 @@ pub mod PortWakes
 pub mod RunWakes
 pub mod SendsEndProof
 pub mod Waking
+pub mod WatchChecks

@@ -5,3 +5,4 @@ pub mod RunsWake
 pub mod SendsEnd
 pub mod Wakes
 pub mod Watched
+pub mod Worked

@@ -63,3 +63,14 @@ pub fn never_late()
         → Fits setting world → AllWake m world → Attended late world → late ≤ SLACK
         → NeverLate world }
 {}
+
+ghost use Rattle.tsp_progress.specs.Worked.{LateUse, PromptUse};
+/// A small run that is looked at in time, and what happens in it, and when.
+pub fn prompt_use()
+    ensures { PromptUse }
+{}
+
+/// Small runs that are looked at one tick too late, and what isn't so of them.
+pub fn late_use()
+    ensures { LateUse }
+{}
