@@ -4,5 +4,6 @@ pub mod NodeWakes
 pub mod PortWakes
 pub mod RunWakes
 pub mod SendsEndProof
+pub mod StandsProof
 pub mod Waking
 pub mod WatchChecks

@@ -3,6 +3,7 @@ pub mod InTime
 pub mod NeverLate
 pub mod RunsWake
 pub mod SendsEnd
+pub mod Stands
 pub mod Wakes
 pub mod Watched
 pub mod Worked

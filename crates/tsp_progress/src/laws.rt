@@ -74,3 +74,11 @@ pub fn prompt_use()
 pub fn late_use()
     ensures { LateUse }
 {}
+
+ghost use Rattle.tsp_progress.specs.Stands.{Stands};
+/// When Elect rings, a port stands for election at once, if its node may be master and it took no
+/// QUIT for `ELECT_MIN` ticks, 300 s: neither its boot nor a backing keeps it from that.
+pub fn stands()
+    ensures { (m : ℕ → Manner) (setting : Setting) (world : List Line) → Fits setting world
+        → AllWake m world → Stands m world }
+{}
