@@ -1,5 +1,6 @@
 pub mod InTimeProof
 pub mod NeverLateProof
+pub mod NodeKeeps
 pub mod NodeWakes
 pub mod PortWakes
 pub mod RunWakes

@@ -9,7 +9,7 @@ use Rattle.tsp_run.specs.{Networks.networks, Setup.past_of, declared.arrival.Arr
 use Rattle.tsp_run.specs.{Run.arrives, Run.joins, Run.posts}
 use Rattle.tsp_run.specs.Clocked.{Clocks, boot_by, clocks_of, happening_by, reaches_by, run_by, steps_by, tick_by}
 use Rattle.tsp_run.proofs.{OwnClocks.runs_by_own_clocks, RunLemmas.stepped_other, RunLemmas.stepped_own}
-use Rattle.tsp_progress.proofs.NodeWakes.{Each, answers_awake, awake, begins_awake, boots_awake, node_manner}
+use Rattle.tsp_progress.proofs.{NodeKeeps.Each, NodeKeeps.node_manner, NodeWakes.answers_awake, NodeWakes.awake, NodeWakes.begins_awake, NodeWakes.boots_awake}
 use Rattle.tsp_progress.proofs.Waking.{Settled, wakes_of, waking_of}
 use Rattle.tsp_progress.specs.{AlarmsFit.Manner, RunsWake.ClockedRunsWake, RunsWake.RunsWake, RunsWake.manner_of, Wakes.AllWake, Wakes.Wakes, Wakes.Woken}
 
