@@ -1,3 +1,5 @@
+pub mod CauseLeads
+pub mod CauseNodes
 pub mod InTimeProof
 pub mod NeverLateProof
 pub mod NodeKeeps

@@ -32,11 +32,11 @@ no_near (s ∷ rest) = not (is_in s near_sorts) && no_near rest
 near-code : (s t : Sort) → (code s == code t) ≡ true → is_in t near_sorts ≡ false → is_in s near_sorts ≡ false
 near-code s t e n = subst (λ c. ((c == 0) || ((c == 6) || ((c == 7) || ((c == 8) || ((c == 9) || ((c == 11) || ((c == 12) || false))))))) ≡ false) (sym (eqb-true (code s) (code t) e)) n
 
-out-of : (sorts : List Sort) → no_near sorts ≡ true → (s : Sort) → is_in s sorts ≡ true → is_in s near_sorts ≡ false
-out-of [] apart s e = absurd (true≢false (sym e))
-out-of (t ∷ rest) apart s e =
+pub out_of : (sorts : List Sort) → no_near sorts ≡ true → (s : Sort) → is_in s sorts ≡ true → is_in s near_sorts ≡ false
+out_of [] apart s e = absurd (true≢false (sym e))
+out_of (t ∷ rest) apart s e =
     let both = and_parts (not (is_in t near_sorts)) (no_near rest) apart in
-    by_case (code s == code t) refl e both.0 (λ more. out-of rest both.1 s more)
+    by_case (code s == code t) refl e both.0 (λ more. out_of rest both.1 s more)
   where
     by_case : (b : Bool) → (code s == code t) ≡ b → (b || is_in s rest) ≡ true → not (is_in t near_sorts) ≡ true → (is_in s rest ≡ true → is_in s near_sorts ≡ false) → is_in s near_sorts ≡ false
     by_case true same e other k = near-code s t same (not-true (is_in t near_sorts) other)
@@ -44,10 +44,10 @@ out-of (t ∷ rest) apart s e =
 
 -- a row of other sorts
 pub calm : {sorts : List Sort} {k c : ℕ} {r r' : Row} → is_part sorts sorts ≡ true → no_near sorts ≡ true → Built unchanged nothing_owed sorts k c r r' → Leads Awake r Awake
-calm {sorts} {r = r} own apart d = far_row sorts r (λ a e. out-of sorts apart (sort_of a) e) (emits_built own d)
+calm {sorts} {r = r} own apart d = far_row sorts r (λ a e. out_of sorts apart (sort_of a) e) (emits_built own d)
 
 pub emit : (sorts : List Sort) (r : Row) → no_near sorts ≡ true → Emits sorts r → Leads Awake r Awake
-emit sorts r apart d = far_row sorts r (λ a e. out-of sorts apart (sort_of a) e) d
+emit sorts r apart d = far_row sorts r (λ a e. out_of sorts apart (sort_of a) e) d
 
 to_others_far : (kind : Kind) → is_in (sort_of_kind kind) (Posting ∷ Numbering ∷ []) ≡ true → Leads Awake (posts_to_others kind 0) Awake
 to_others_far kind e = emit (Posting ∷ Numbering ∷ []) (posts_to_others kind 0) refl (Emits_posts_to_others kind 0 e)

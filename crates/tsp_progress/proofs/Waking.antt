@@ -7,7 +7,7 @@ use Rattle.tsp_base.proofs.LeadsLemmas.{Leads_puts, Leads_reading}
 use Rattle.tsp_rules.specs.{CommonRows.arms_elect, Guards.delay, Guards.delay_at, Guards.is_due, Guards.is_in_time, Guards.is_met, Guards.is_over}
 use Rattle.tsp_rules.proofs.Emits.{Sort, Booting, Leading, Following, Changing, Backing, Alarming, Rounding, Emits, Keeps_by, is_in, sort_of}
 use Rattle.tsp_progress.specs.AlarmsFit.{AlarmsFit, ArmFits, LateFits, Manner, NextFits, NextTo, RingFits, BackNext, asks_next, is_candidate, owes_next, stands_by, stands_now}
-use Rattle.tsp_progress.specs.Wakes.{Wakes, Windowed}
+use Rattle.tsp_progress.specs.{CausesFit.CausesFit, Wakes.Wakes, Wakes.Windowed}
 
 -- a port in the midst of a row: whether a port that is Loose or follows, and whether a master, has armed what it needs
 pub record Waking (m : Manner) (idle lead : Bool) (seen : List Seen) : Type 0 where
@@ -52,8 +52,8 @@ pub record Became (r : Role) (x : ℕ) (past : Past) : Type 0 where
   pub backs : r ≡ Candidate → (p : PeerId) → NextTo (manner past) past.seen (Acts (Back p))
   pub free : owes_next past.seen ≡ is_candidate r
 
-pub wakes_of : {m : Manner} {seen : List Seen} → Settled m true true seen → Wakes m seen
-wakes_of s = let w = s.waking in record { acts = w.acts; settled = s.free; starting = w.starting; candidate = w.candidate; loose = w.loose refl; follow = w.follow refl; master = w.master refl }
+pub wakes_of : {m : Manner} {seen : List Seen} → Settled m true true seen → CausesFit seen → Wakes m seen
+wakes_of s c = let w = s.waking in record { acts = w.acts; settled = s.free; causes = c; starting = w.starting; candidate = w.candidate; loose = w.loose refl; follow = w.follow refl; master = w.master refl }
 
 pub waking_of : {m : Manner} {seen : List Seen} → Wakes m seen → Settled m true true seen
 waking_of w = record { waking = record { acts = w.acts; starting = w.starting; candidate = w.candidate; loose = λ e. w.loose; follow = λ e. w.follow; master = λ e. w.master }; free = w.settled }

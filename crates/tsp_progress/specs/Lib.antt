@@ -1,4 +1,5 @@
 pub mod AlarmsFit
+pub mod CausesFit
 pub mod InTime
 pub mod NeverLate
 pub mod RunsWake

@@ -3,7 +3,7 @@ use Rattle.std.specs.Prelude.{◌≡◌, ℕ, ◌+◌, ◌||◌, true, false, Li
 use Rattle.tsp_rules.specs.Values.{PeerId, Port, Starting, Loose, Follow, Candidate, Master, QUIET, WINDOW}
 use Rattle.tsp_base.specs.Words.{Begins, Did, Line, Seen, Here, armed, held, of, role, stood, view}
 use Rattle.tsp_promises.specs.{Everywhere.Everywhere, Fits.node_of}
-use Rattle.tsp_progress.specs.AlarmsFit.{AlarmsFit, Manner, owes_next}
+use Rattle.tsp_progress.specs.{AlarmsFit.AlarmsFit, AlarmsFit.Manner, AlarmsFit.owes_next, CausesFit.CausesFit}
 
 -- a port that stood for election has its Window armed for WINDOW ticks after that
 pub record Windowed (seen : List Seen) : Type 0 where
@@ -18,6 +18,8 @@ pub record Wakes (m : Manner) (seen : List Seen) : Type 0 where
   pub acts : AlarmsFit m seen
   -- so was the newest
   pub settled : owes_next seen ≡ false
+  -- what each of them, and each change of the role, needs before it was there
+  pub causes : CausesFit seen
   -- Starting since the boot: Quiet, for QUIET ticks after the boot
   pub starting : role seen ≡ Starting → (start : Did) (idle : List Seen) → stood seen ≡ Here start ∷ idle → (armed seen).quiet ≡ Some ((held seen).boot + QUIET)
   -- a candidate: Window
