@@ -1,9 +1,11 @@
+pub mod AloneProof
 pub mod CauseLeads
 pub mod CauseNodes
 pub mod InTimeProof
 pub mod NeverLateProof
 pub mod NodeKeeps
 pub mod NodeWakes
+pub mod PaceProof
 pub mod PortWakes
 pub mod RunWakes
 pub mod SendsEndProof

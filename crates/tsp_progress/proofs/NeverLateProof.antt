@@ -52,17 +52,17 @@ module _ (a : Alarm) (at : ℕ) (d : Did) (before : List Seen) (late x : ℕ) (n
   by-seen m false f e = older e
 
 -- the tick of a node's newest line
-abbrev newest : List Line → ℕ
+abbrev pub newest : List Line → ℕ
 newest [] = 0
 newest (l ∷ before) = l.did.tick
 
-fit-before : (m : Manner) (own : Bool) (d : Did) (before : List Seen) → AlarmsFit m (seen_as own d ∷ before) → AlarmsFit m before
-fit-before m true d before f = f.1.1
-fit-before m false d before f = f.1
+pub fit_before : (m : Manner) (own : Bool) (d : Did) (before : List Seen) → AlarmsFit m (seen_as own d ∷ before) → AlarmsFit m before
+fit_before m true d before f = f.1.1
+fit_before m false d before f = f.1
 
 -- an act is done at the tick of the line before it
-same-tick : (setting : Setting) (l : Line) (before : List Line) (act : Act) → l.did.deed ≡ Acts act → LineFits setting l before → Fits setting before → (l.did.tick ≡ newest (of (node_of l) before))
-same-tick setting l before act is line f = by_list before (subst (λ d. SameStep d l.did.step (dids before)) is line.step) f where
+pub same_tick : (setting : Setting) (l : Line) (before : List Line) (act : Act) → l.did.deed ≡ Acts act → LineFits setting l before → Fits setting before → (l.did.tick ≡ newest (of (node_of l) before))
+same_tick setting l before act is line f = by_list before (subst (λ d. SameStep d l.did.step (dids before)) is line.step) f where
   by_list : (lines : List Line) → SameStep (Acts act) l.did.step (dids lines) → Fits setting lines → l.did.tick ≡ newest (of (node_of l) lines)
   by_list [] s f = absurd s
   by_list (last ∷ older) s f =
@@ -72,9 +72,9 @@ same-tick setting l before act is line f = by_list before (subst (λ d. SameStep
 
 module _ (setting : Setting) (late : ℕ) where
   -- throughout each step no alarm is overdue by more than `late` ticks
-  on-time : (world : List Line) → Fits setting world → Attended late world → (m : Manner) (n : ℕ) (q : Port) → AlarmsFit m (view q (of n world)) → (a : Alarm) (at : ℕ) → deadline (armed (view q (of n world))) a ≡ Some at → newest (of n world) ≤ at + late
-  on-time [] f w m n q fit a at e = none_some (none_is a) e
-  on-time (l ∷ before) f w m n q fit a at e = by_node (node_of l == n) refl fit e (on-time before f.1 w.1 m n q) where
+  pub on_time : (world : List Line) → Fits setting world → Attended late world → (m : Manner) (n : ℕ) (q : Port) → AlarmsFit m (view q (of n world)) → (a : Alarm) (at : ℕ) → deadline (armed (view q (of n world))) a ≡ Some at → newest (of n world) ≤ at + late
+  on_time [] f w m n q fit a at e = none_some (none_is a) e
+  on_time (l ∷ before) f w m n q fit a at e = by_node (node_of l == n) refl fit e (on_time before f.1 w.1 m n q) where
     by_deed : (deed : Deed) → l.did.deed ≡ deed → node_of l ≡ n → AlarmsFit m (seen_as ((l.port.0 == q.0) || is_shared l.did.deed) l.did ∷ view q (of n before)) →
         deadline (armed (seen_as ((l.port.0 == q.0) || is_shared l.did.deed) l.did ∷ view q (of n before))) a ≡ Some at →
         (AlarmsFit m (view q (of n before)) → (a : Alarm) (at : ℕ) → deadline (armed (view q (of n before))) a ≡ Some at → newest (of n before) ≤ at + late) → l.did.tick ≤ at + late
@@ -83,9 +83,9 @@ module _ (setting : Setting) (late : ℕ) where
         (λ s. (w.0 is q).alarms a at (subst (λ k. deadline (armed (view q (of k before))) a ≡ Some at) (sym node) s))
         m ((l.port.0 == q.0) || is_shared l.did.deed) fit e
     by_deed (Acts act) is node fit e older =
-        let same = same-tick setting l before act is f.0 f.1 in
+        let same = same_tick setting l before act is f.0 f.1 in
         by-seen a at l.did (view q (of n before)) late l.did.tick refl
-        (λ s. let le = older (fit-before m ((l.port.0 == q.0) || is_shared l.did.deed) l.did (view q (of n before)) fit) a at s in
+        (λ s. let le = older (fit_before m ((l.port.0 == q.0) || is_shared l.did.deed) l.did (view q (of n before)) fit) a at s in
         let tick : l.did.tick ≡ newest (of n before) = same ∙ ap (λ k. newest (of k before)) node in omega (arith, le, tick))
         m ((l.port.0 == q.0) || is_shared l.did.deed) fit e
 
@@ -100,7 +100,7 @@ fit-within m n q [] s w f = subst (λ k. AlarmsFit m (view q (of n k))) (sym w) 
 fit-within m n q (l ∷ before) s (inl e) f = subst (λ k. AlarmsFit m (view q (of n k))) (sym e) f
 fit-within m n q (l ∷ before) s (inr w) f = fit-within m n q before s w (by_node (node_of l == n) f) where
   by_node : (b : Bool) → AlarmsFit m (view q (if b then l ∷ of n before else of n before)) → AlarmsFit m (view q (of n before))
-  by_node true f = fit-before m ((l.port.0 == q.0) || is_shared l.did.deed) l.did (view q (of n before)) f
+  by_node true f = fit_before m ((l.port.0 == q.0) || is_shared l.did.deed) l.did (view q (of n before)) f
   by_node false f = f
 
 late-here : (m : Manner) (l : Line) (before : List Line) (a : Alarm) → l.did.deed ≡ Acts (Late a) → AlarmsFit m (view l.port (of (node_of l) (l ∷ before))) → LateFits a l.did (view l.port (of (node_of l) before))
@@ -120,7 +120,7 @@ never_late m setting late world f w a slack = Everywhere-from (λ l before. (a :
     let fit = fit-within (m n) n l.port world (l ∷ before) within (w n l.port).acts in
     let here = late-here (m n) l before alarm is fit in
     let older = fit-within (m n) n l.port (l ∷ before) before (inr (Within-all before)) fit in
-    let soon = on-time setting late before fits.1 attended.1 (m n) n l.port older alarm here.at here.armed_is in
-    let same = same-tick setting l before (Late alarm) is fits.0 fits.1 in
+    let soon = on_time setting late before fits.1 attended.1 (m n) n l.port older alarm here.at here.armed_is in
+    let same = same_tick setting l before (Late alarm) is fits.0 fits.1 in
     let over = here.late in
     omega (arith, soon, same, over, slack))

@@ -10,7 +10,7 @@ use Rattle.tsp_progress.specs.{Stands.AfterElect, Stands.Stands, Stands.StandsOn
 use Rattle.tsp_progress.proofs.InTimeProof.{none_some, value_of}
 
 -- ticks don't fall
-abbrev Rising : List Seen → Type 0
+abbrev pub Rising : List Seen → Type 0
 Rising [] = Unit {0}
 Rising (s ∷ before) = (tick_of (plain before) ≤ tick_of (plain (s ∷ before))) × Rising before
 
@@ -198,15 +198,15 @@ after-elect m [] next n f r = tt
 after-elect m (Elsewhere d ∷ older) next n f r = tt
 after-elect m (Here d ∷ older) next n f r = λ is may quit. (subst (λ deed. NextFits m deed d.tick older next) is n).stands may (is-free m d older is f r.1 quit)
 
-stands-on : (m : Manner) (seen : List Seen) → AlarmsFit m seen → Rising seen → StandsOn m seen
-stands-on m [] f r = tt
-stands-on m (Here d ∷ before) f r = (after-elect m before d.deed f.1.0 f.1.1 r.1, stands-on m before f.1.1 r.1)
-stands-on m (Elsewhere d ∷ before) f r = stands-on m before f.1 r.1
+pub stands_on : (m : Manner) (seen : List Seen) → AlarmsFit m seen → Rising seen → StandsOn m seen
+stands_on m [] f r = tt
+stands_on m (Here d ∷ before) f r = (after-elect m before d.deed f.1.0 f.1.1 r.1, stands_on m before f.1.1 r.1)
+stands_on m (Elsewhere d ∷ before) f r = stands_on m before f.1 r.1
 
 -- ticks of a node rise
-rising : (setting : Setting) (q : Port) (lines : List Line) → OwnFits setting lines → Rising (view q lines)
+pub rising : (setting : Setting) (q : Port) (lines : List Line) → OwnFits setting lines → Rising (view q lines)
 rising setting q [] f = tt
 rising setting q (l ∷ before) f = (subst (λ ds. tick_of ds ≤ tick_of (plain (view q (l ∷ before)))) (sym (plain_view q before)) (subst (λ ds. tick_of (dids before) ≤ tick_of ds) (sym (plain_view q (l ∷ before))) f.0.tick), rising setting q before f.1)
 
 pub stands : (m : ℕ → Manner) (setting : Setting) (world : List Line) → Fits setting world → AllWake m world → Stands m world
-stands m setting world f w n q = stands-on (m n) (view q (of n world)) (w n q).acts (rising setting q (of n world) (own_fits setting n world f))
+stands m setting world f w n q = stands_on (m n) (view q (of n world)) (w n q).acts (rising setting q (of n world) (own_fits setting n world f))

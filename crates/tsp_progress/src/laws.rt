@@ -82,3 +82,13 @@ pub fn stands()
     ensures { (m : ℕ → Manner) (setting : Setting) (world : List Line) → Fits setting world
         → AllWake m world → Stands m world }
 {}
+
+ghost use Rattle.tsp_progress.specs.AloneStands.{AloneStands};
+/// A port of a node that may be master, if it is looked at within `SLACK`, is Loose or follows for at
+/// most 1,210 s and four times `late` after its node booted, it took a datagram or it stood for
+/// election: then it stands.
+pub fn alone_stands()
+    ensures { (m : ℕ → Manner) (setting : Setting) (late : ℕ) (world : List Line)
+        → Fits setting world → Woken m world → Attended late world → late ≤ SLACK
+        → AloneStands m late world }
+{}
