@@ -6,7 +6,7 @@ use Rattle.tsp_rules.specs.{CommonRows.is_idle, Guards.delay}
 use Rattle.tsp_base.specs.Words.{Acts, Begins, Deadlines, none_armed, Deed, Did, Held, Seen, Here, Elsewhere, armed, armed_after, deadline, did_of, held, held_after, is_past, plain, role, taken, taken_after, tick_of, word}
 use Rattle.tsp_progress.specs.AlarmsFit.{AlarmFits, AlarmsFit, ArmFits, LateFits, Manner, RingFits, stands_by, stands_now}
 use Rattle.tsp_progress.specs.AloneStands.{is_news, news, patience}
-use Rattle.tsp_progress.specs.CausesFit.{CausesFit, Heard, Unheard, backs_by, backs_itself_now, loosens_by, newest_is, searches_by, seeks_by}
+use Rattle.tsp_progress.specs.CausesFit.{CausesFit, Heard, Unheard, backs_by, backs_itself_now, elects_by, loosens_by, newest_is, searches_by, seeks_by}
 use Rattle.tsp_progress.specs.{Stands.AfterElect, Stands.StandsOn, Wakes.Wakes, Watched.Watched}
 use Rattle.tsp_progress.proofs.InTimeProof.{none_some, value_of}
 
@@ -23,7 +23,7 @@ Paced late [] = Unit {0}
 Paced late (s ∷ before) = PacedAt late s before × Paced late before
 
 -- deeds after which the port becomes Loose or searches
-abbrev moves_by : Deed → Bool
+abbrev pub moves_by : Deed → Bool
 moves_by (Acts (Ring Quiet)) = true
 moves_by (Acts (Ring Window)) = true
 moves_by (Acts (Late Window)) = true
@@ -31,32 +31,28 @@ moves_by (Acts (Become Loose)) = true
 moves_by _ = false
 
 -- deeds after which it arms Elect again
-abbrev waits_by : Deed → Bool
+abbrev pub waits_by : Deed → Bool
 waits_by (Acts (Ring Search)) = true
 waits_by (Acts (Late Search)) = true
 waits_by (Acts (Late Elect)) = true
 waits_by _ = false
 
-abbrev elects_by : Deed → Bool
-elects_by (Acts (Ring Elect)) = true
-elects_by _ = false
-
 -- the longest delay
-abbrev longest_delay : ℕ
+abbrev pub longest_delay : ℕ
 longest_delay = ELECT_MIN + ELECT_SPREAD
 
 -- by when, after the news, Elect rings for the first time, Search rings, and Elect rings again
-abbrev first_elect : ℕ → ℕ
+abbrev pub first_elect : ℕ → ℕ
 first_elect late = WINDOW + late + longest_delay
 
-abbrev then_search : ℕ → ℕ
+abbrev pub then_search : ℕ → ℕ
 then_search late = first_elect late + late + WINDOW
 
-abbrev then_elect : ℕ → ℕ
+abbrev pub then_elect : ℕ → ℕ
 then_elect late = then_search late + late + longest_delay
 
 -- what is armed, and what was done last, by the news
-record Waits (late r x : ℕ) (h : Held) (d : Deadlines) (took moved waited elected stood : Bool) : Type 0 where
+pub record Waits (late r x : ℕ) (h : Held) (d : Deadlines) (took moved waited elected stood : Bool) : Type 0 where
   pub news_le : r ≤ x
   pub heard : took ≡ true → r ≡ x
   pub boot_le : h.boot ≤ r
@@ -69,18 +65,19 @@ record Waits (late r x : ℕ) (h : Held) (d : Deadlines) (took moved waited elec
   pub moves : moved ≡ true → x ≤ r + (first_elect late + late)
   pub waits : waited ≡ true → x ≤ r + (then_search late + late)
   pub elects : elected ≡ true → (x ≤ r + (first_elect late + late)) ⊎ (is_past h.quit ELECT_MIN x ≡ true)
+  pub rings : elected ≡ true → x ≤ r + (then_elect late + late)
   pub stands : stood ≡ true → r ≡ x
 
-abbrev Waiting : ℕ → List Seen → Type 0
+abbrev pub Waiting : ℕ → List Seen → Type 0
 Waiting late seen = Waits late (news seen) (tick_of (plain seen)) (held seen) (armed seen) (is_some (taken seen)) (newest_is moves_by seen) (newest_is waits_by seen) (newest_is elects_by seen) (stands_now seen || backs_itself_now seen)
 
 no-send : {A : Type 0} {at : ℕ} → None ≡ Some at → A
 no-send e = none_some refl e
 
 -- no alarm was overdue before
-soon-before : (late : ℕ) (before : List Seen) → Paced late before → (a : Alarm) (at : ℕ) → deadline (armed before) a ≡ Some at → tick_of (plain before) ≤ at + late
-soon-before late [] p a at e = omega arith
-soon-before late (s ∷ older) p a at e = p.0.soon a at e
+pub soon_before : (late : ℕ) (before : List Seen) → Paced late before → (a : Alarm) (at : ℕ) → deadline (armed before) a ≡ Some at → tick_of (plain before) ≤ at + late
+soon_before late [] p a at e = omega arith
+soon_before late (s ∷ older) p a at e = p.0.soon a at e
 
 -- one deed more
 module _ (late : ℕ) (slack : late ≤ SLACK) (m : Manner) (may : m.may ≡ true) (d : Did) (before : List Seen) (level : d.tick ≡ tick_of (plain before)) (paced : Paced late before) (inv : Waiting late before) where
@@ -117,8 +114,8 @@ module _ (late : ℕ) (slack : late ≤ SLACK) (m : Manner) (may : m.may ≡ tru
     pub elect : (at : ℕ) → dl.elect ≡ Some at → (armed before).elect ≡ Some at
 
   kept : (dl : Deadlines) → Kept dl → (h : Held) → h.boot ≡ (held before).boot → h.quit ≡ (held before).quit → (moved waited elected stood : Bool) → (moved ≡ true → d.tick ≤ news before + (first_elect late + late)) → (waited ≡ true → d.tick ≤ news before + (then_search late + late)) →
-      (elected ≡ true → (d.tick ≤ news before + (first_elect late + late)) ⊎ (is_past h.quit ELECT_MIN d.tick ≡ true)) → (stood ≡ true → news before ≡ d.tick) → Waits late (news before) d.tick h dl (is_some (taken before)) moved waited elected stood
-  kept dl k h boot quit moved waited elected stood mv wt el st = record {
+      (elected ≡ true → (d.tick ≤ news before + (first_elect late + late)) ⊎ (is_past h.quit ELECT_MIN d.tick ≡ true)) → (elected ≡ true → d.tick ≤ news before + (then_elect late + late)) → (stood ≡ true → news before ≡ d.tick) → Waits late (news before) d.tick h dl (is_some (taken before)) moved waited elected stood
+  kept dl k h boot quit moved waited elected stood mv wt el rg st = record {
     news_le = r-le;
     heard = heard-now;
     boot_le = (let le = inv.boot_le in omega (arith, le, boot));
@@ -134,6 +131,7 @@ module _ (late : ℕ) (slack : late ≤ SLACK) (m : Manner) (may : m.may ≡ tru
     moves = mv;
     waits = wt;
     elects = el;
+    rings = rg;
     stands = st;
   }
 
@@ -142,7 +140,7 @@ module _ (late : ℕ) (slack : late ≤ SLACK) (m : Manner) (may : m.may ≡ tru
   as-it-was = record { quiet = λ at e. e; window = λ at e. e; search = λ at e. e; elect = λ at e. e }
 
   plain-act : (dl : Deadlines) → Kept dl → (h : Held) → h.boot ≡ (held before).boot → h.quit ≡ (held before).quit → Waits late (news before) d.tick h dl (is_some (taken before)) false false false false
-  plain-act dl k h boot quit = kept dl k h boot quit false false false false not-done not-done not-done not-done
+  plain-act dl k h boot quit = kept dl k h boot quit false false false false not-done not-done not-done not-done not-done
 
   -- a change of the role that is no news
   changed : (moved : Bool) → (moved ≡ true → d.tick ≤ news before + (first_elect late + late)) → Waits late (news before) d.tick (held before) none_armed (is_some (taken before)) moved false false false
@@ -159,12 +157,13 @@ module _ (late : ℕ) (slack : late ≤ SLACK) (m : Manner) (may : m.may ≡ tru
     moves = mv;
     waits = λ f. absurd (true≢false (sym f));
     elects = λ f. absurd (true≢false (sym f));
+    rings = λ f. absurd (true≢false (sym f));
     stands = λ f. absurd (true≢false (sym f));
   }
 
   -- an alarm that was armed wasn't long overdue
   rung : (a : Alarm) (at : ℕ) → deadline (armed before) a ≡ Some at → d.tick ≤ at + late
-  rung a at e = let le = soon-before late before paced a at e in omega (arith, le, level)
+  rung a at e = let le = soon_before late before paced a at e in omega (arith, le, level)
 
   never : {A : Type 0} (a : Alarm) → LateFits a d before → A
   never a f = let le = rung a f.at f.armed_is in let over = f.late in let no : ⊥ = omega (arith, le, over, slack) in absurd no
@@ -183,6 +182,7 @@ module _ (late : ℕ) (slack : late ≤ SLACK) (m : Manner) (may : m.may ≡ tru
     moves = λ f. absurd (true≢false (sym f));
     waits = λ f. absurd (true≢false (sym f));
     elects = λ f. absurd (true≢false (sym f));
+    rings = λ f. absurd (true≢false (sym f));
     stands = λ f. refl;
   }
 
@@ -200,6 +200,7 @@ module _ (late : ℕ) (slack : late ≤ SLACK) (m : Manner) (may : m.may ≡ tru
     moves = λ f. absurd (true≢false (sym f));
     waits = λ f. absurd (true≢false (sym f));
     elects = λ f. absurd (true≢false (sym f));
+    rings = λ f. absurd (true≢false (sym f));
     stands = λ f. refl;
   }
 
@@ -218,6 +219,7 @@ module _ (late : ℕ) (slack : late ≤ SLACK) (m : Manner) (may : m.may ≡ tru
     moves = λ f. absurd (true≢false (sym f));
     waits = λ f. absurd (true≢false (sym f));
     elects = λ f. absurd (true≢false (sym f));
+    rings = λ f. absurd (true≢false (sym f));
     stands = λ f. refl;
   }
 
@@ -279,6 +281,7 @@ module _ (late : ℕ) (slack : late ≤ SLACK) (m : Manner) (may : m.may ≡ tru
     moves = base.moves;
     waits = base.waits;
     elects = base.elects;
+    rings = base.rings;
     stands = base.stands;
   }
 
@@ -299,6 +302,7 @@ module _ (late : ℕ) (slack : late ≤ SLACK) (m : Manner) (may : m.may ≡ tru
     moves = base.moves;
     waits = base.waits;
     elects = base.elects;
+    rings = base.rings;
     stands = base.stands;
   }
 
@@ -319,6 +323,7 @@ module _ (late : ℕ) (slack : late ≤ SLACK) (m : Manner) (may : m.may ≡ tru
     moves = base.moves;
     waits = base.waits;
     elects = base.elects;
+    rings = base.rings;
     stands = base.stands;
   } where
     by_deed : (last : Deed) → searches_by last ≡ true → (moves_by last ≡ true) ⊎ (elects_by last ≡ true)
@@ -354,6 +359,7 @@ module _ (late : ℕ) (slack : late ≤ SLACK) (m : Manner) (may : m.may ≡ tru
     moves = base.moves;
     waits = base.waits;
     elects = base.elects;
+    rings = base.rings;
     stands = base.stands;
   } where
     less : word (plain before) % ELECT_SPREAD < ELECT_SPREAD
@@ -396,19 +402,23 @@ module _ (late : ℕ) (slack : late ≤ SLACK) (m : Manner) (may : m.may ≡ tru
   rings : (a : Alarm) → RingFits a d before → After (Acts (Ring a))
   rings Quiet f =
       let due = rung Quiet f.at f.armed_is in let le = inv.quiet f.at f.armed_is in
-      kept _ (record { quiet = λ at e. no-send e; window = λ at e. e; search = λ at e. e; elect = λ at e. e }) (held before) refl refl true false false false (λ e. omega (arith, due, le)) not-done not-done not-done
+      kept _ (record { quiet = λ at e. no-send e; window = λ at e. e; search = λ at e. e; elect = λ at e. e }) (held before) refl refl true false false false (λ e. omega (arith, due, le)) not-done not-done not-done not-done
   rings Window f =
       let due = rung Window f.at f.armed_is in let le = inv.window f.at f.armed_is in
-      kept _ (record { quiet = λ at e. e; window = λ at e. no-send e; search = λ at e. e; elect = λ at e. e }) (held before) refl refl true false false false (λ e. omega (arith, due, le)) not-done not-done not-done
+      kept _ (record { quiet = λ at e. e; window = λ at e. no-send e; search = λ at e. e; elect = λ at e. e }) (held before) refl refl true false false false (λ e. omega (arith, due, le)) not-done not-done not-done not-done
   rings Search f =
       let due = rung Search f.at f.armed_is in let le = inv.search f.at f.armed_is in
-      kept _ (record { quiet = λ at e. e; window = λ at e. e; search = λ at e. no-send e; elect = λ at e. e }) (held before) refl refl false true false false not-done (λ e. omega (arith, due, le)) not-done not-done
+      kept _ (record { quiet = λ at e. e; window = λ at e. e; search = λ at e. no-send e; elect = λ at e. e }) (held before) refl refl false true false false not-done (λ e. omega (arith, due, le)) not-done not-done not-done
   rings Elect f =
       let due = rung Elect f.at f.armed_is in let now = f.due in
       kept _ (record { quiet = λ at e. e; window = λ at e. e; search = λ at e. e; elect = λ at e. no-send e }) (held before) refl refl false false true false not-done not-done
       (λ e. elim (inv.elect f.at f.armed_is) [
         | inl le ↦ inl (omega (arith, due, le))
         | inr both ↦ inr (past-quit (held before).quit f.at both.1 now)
+      ])
+      (λ e. elim (inv.elect f.at f.armed_is) [
+        | inl le ↦ omega (arith, due, le)
+        | inr both ↦ let le = both.0 in omega (arith, due, le)
       ]) not-done
   rings Probe f = plain-act _ (record { quiet = λ to e. e; window = λ to e. e; search = λ to e. e; elect = λ to e. e }) (held before) refl refl
   rings CloseAlarm f = plain-act _ (record { quiet = λ to e. e; window = λ to e. e; search = λ to e. e; elect = λ to e. e }) (held before) refl refl
@@ -430,11 +440,12 @@ module _ (late : ℕ) (slack : late ≤ SLACK) (m : Manner) (may : m.may ≡ tru
     moves = not-done;
     waits = not-done;
     elects = not-done;
+    rings = not-done;
     stands = not-done;
   }
 
   backs : (p : PeerId) → After (Acts (Back p))
-  backs p = kept (armed before) as-it-was _ refl refl false false false (stands_now before) not-done not-done not-done
+  backs p = kept (armed before) as-it-was _ refl refl false false false (stands_now before) not-done not-done not-done not-done
       (λ e. inv.stands (rw e refl) ∙ sym level)
 
   becomes : (r : Role) → AfterElect m before (Acts (Become r)) → (Heard before ⊎ Unheard (Acts (Become r)) d before) → After (Acts (Become r))
@@ -472,6 +483,7 @@ begun late d before order inv = record {
   moves = λ e. absurd (true≢false (sym e));
   waits = λ e. absurd (true≢false (sym e));
   elects = λ e. absurd (true≢false (sym e));
+  rings = λ e. absurd (true≢false (sym e));
   stands = λ e. absurd (true≢false (sym e));
 }
 
@@ -490,6 +502,7 @@ aside late d before level inv = record {
   moves = λ e. absurd (true≢false (sym e));
   waits = λ e. absurd (true≢false (sym e));
   elects = λ e. absurd (true≢false (sym e));
+  rings = λ e. absurd (true≢false (sym e));
   stands = λ e. absurd (true≢false (sym e));
 }
 
@@ -508,6 +521,7 @@ unbegun late = record {
   moves = λ e. absurd (true≢false (sym e));
   waits = λ e. absurd (true≢false (sym e));
   elects = λ e. absurd (true≢false (sym e));
+  rings = λ e. absurd (true≢false (sym e));
   stands = λ e. refl;
 }
 
@@ -520,7 +534,7 @@ module _ (late : ℕ) (slack : late ≤ SLACK) (m : Manner) (may : m.may ≡ tru
     by_deed Begins is after fits cause = begun late d before p.order inv
     by_deed (Acts a) is after fits cause = acts late slack m may d before (p.level a is) paced inv a after fits cause
 
-  waiting : (seen : List Seen) → AlarmsFit m seen → CausesFit seen → StandsOn m seen → Paced late seen → Waiting late seen
+  pub waiting : (seen : List Seen) → AlarmsFit m seen → CausesFit seen → StandsOn m seen → Paced late seen → Waiting late seen
   waiting [] f c s p = unbegun late
   waiting (Here d ∷ before) f c s p = one-more d before p.0 p.1 s.0 f.0 c.0 (waiting before f.1.1 c.1 s.1 p.1)
   waiting (Elsewhere d ∷ before) f c s p = aside late d before (p.0.aside d refl) (waiting before f.1 c s p.1)

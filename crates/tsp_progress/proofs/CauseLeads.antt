@@ -15,7 +15,7 @@ use Rattle.tsp_rules.specs.Answers.{alarm_rings, handles, rings, takes}
 use Rattle.tsp_rules.proofs.Emits.{Sort, Posting, Numbering, Moving, Asking, Emits, Keeps_by, is_in, is_part, sort_of, sort_of_kind, Emits_posts_to_others, Emits_adjusts}
 use Rattle.tsp_rules.proofs.{EmitsBuilt.emits_built, EmitsBuilt.nothing_owed, Unchanged.unchanged, Built.At, Built.Built, Built.Corrects, RowCodes.Asks, BuiltGate.built_sends_loops}
 use Rattle.tsp_rules.proofs.{BuiltShared.built_begins, BuiltSends.built_due_sends, BuiltSends.send_sorts, BuiltRounds.correct_sorts, BuiltRounds.built_corrects_by}
-use Rattle.tsp_progress.specs.CausesFit.{CausesFit, Heard, Unheard, backs_itself_now, loosens_by, newest_is, searches_by, seeks_by}
+use Rattle.tsp_progress.specs.CausesFit.{CausesFit, Heard, Unheard, backs_itself_now, elects_by, loosens_by, newest_is, searches_by, seeks_by, wins_by}
 use Rattle.tsp_progress.specs.AlarmsFit.{stands_now}
 use Rattle.tsp_progress.proofs.{PortWakes.no_near, PortWakes.out_of, Waking.near_sorts}
 
@@ -63,8 +63,7 @@ owes_cause (Arm Quiet at) = true
 owes_cause (Arm Search at) = true
 owes_cause (Arm Elect at) = true
 owes_cause (Arm Window at) = true
-owes_cause (Become Loose) = true
-owes_cause (Become (Follow p)) = true
+owes_cause (Become r) = true
 owes_cause (Quit p) = true
 owes_cause _ = false
 
@@ -73,11 +72,9 @@ free-cause (Arm Quiet at) e d before = absurd (true≢false e)
 free-cause (Arm Search at) e d before = absurd (true≢false e)
 free-cause (Arm Elect at) e d before = absurd (true≢false e)
 free-cause (Arm Window at) e d before = absurd (true≢false e)
-free-cause (Become Loose) e d before = absurd (true≢false e)
-free-cause (Become (Follow p)) e d before = absurd (true≢false e)
+free-cause (Become r) e d before = absurd (true≢false e)
 free-cause (Quit p) e d before = absurd (true≢false e)
 free-cause (Arm _ at) e d before = tt
-free-cause (Become _) e d before = tt
 free-cause _ e d before = tt
 
 keeps-cause : (a : Act) → owes_cause a ≡ false → (x : ℕ) (past : Past) → Caused x past → Caused x (grown x past (a ∷ []))
@@ -97,7 +94,7 @@ arm-cause CloseAlarm at e = refl
 arm-cause _ at e = absurd (true≢false e)
 
 become-cause : (r : Role) → is_in (sort_of (Become r)) near_sorts ≡ false → owes_cause (Become r) ≡ false
-become-cause Master e = refl
+become-cause Master e = absurd (true≢false e)
 become-cause (Follow p) e = absurd (true≢false e)
 become-cause _ e = absurd (true≢false e)
 
@@ -194,10 +191,10 @@ elections-cause : Leads Caused (begins_to_others Election) Caused
 unfolding begins_to_others
 elections-cause = Leads_reading others_at (for_each (begins Election)) (λ ps. Leads_from (λ x past h. h.0) (Leads_each (begins Election) ps (λ p. built-cause {sorts = Numbering ∷ []} refl refl (built_begins Election p tt refl refl))))
 
-candidature-cause : Leads Caused candidature_row Caused
+candidature-cause : Leads (Newest (Acts (Ring Elect))) candidature_row Caused
 unfolding candidature_row Stood BackedNow arms
 candidature-cause = Leads_then {Q = Stood} (puts (Become Candidate)) (backs_own followed_by (arms Window WINDOW followed_by begins_to_others Election))
-    (Leads_puts (Become Candidate) (λ x past h. ((inr tt, h), refl)))
+    (Leads_puts (Become Candidate) (λ x past h. ((inr (h.is elects_by), h.causes), refl)))
     (Leads_then {Q = BackedNow} backs_own (arms Window WINDOW followed_by begins_to_others Election) backs-cause
     (Leads_then {Q = Caused} (arms Window WINDOW) (begins_to_others Election) (record { run = λ x past h. (inr h.1, h.0) }) elections-cause))
 
@@ -211,20 +208,20 @@ elect-cause : Leads Caused elect_rings Caused
 unfolding elect_rings
 elect-cause = Leads_either (is_in_time Elect) (puts (Ring Elect) followed_by either_by may_stand_at candidature_row (loosens followed_by searches)) (puts (Late Elect) followed_by arms_elect)
     (Leads_then {Q = Newest (Acts (Ring Elect))} (puts (Ring Elect)) (either_by may_stand_at candidature_row (loosens followed_by searches)) (newest (Ring Elect) (λ x past h. h.0) refl)
-    (Leads_either may_stand_at candidature_row (loosens followed_by searches) (Leads_from (λ x past h. h.0.causes) candidature-cause)
+    (Leads_either may_stand_at candidature_row (loosens followed_by searches) (Leads_from (λ x past h. h.0) candidature-cause)
     (Leads_from (λ x past h. h.0) (Leads_then {Q = MaySearch} loosens searches loosening-cause searches-cause))))
     (Leads_then {Q = Newest (Acts (Late Elect))} (puts (Late Elect)) arms_elect (newest (Late Elect) (λ x past h. h.0) refl) (elects-cause refl))
 
-leads-cause : Leads Caused lead_row Caused
+leads-cause : Leads (Newest (Acts (Ring Window))) lead_row Caused
 unfolding lead_row
-leads-cause = Leads_then {Q = Caused} (puts (Become Master)) (arms Round ROUND followed_by posts_to_others MasterUp 0) (free_puts (Become Master) refl)
+leads-cause = Leads_then {Q = Caused} (puts (Become Master)) (arms Round ROUND followed_by posts_to_others MasterUp 0) (Leads_puts (Become Master) (λ x past h. (inr (h.is wins_by), h.causes)))
     (Leads_then {Q = Caused} (arms Round ROUND) (posts_to_others MasterUp 0) (free-arms Round ROUND (λ at. refl)) (to-others MasterUp refl))
 
 window-cause : Leads Caused window_rings Caused
 unfolding window_rings
 window-cause = Leads_either (is_in_time Window) (puts (Ring Window) followed_by either_by has_won lead_row yields) (puts (Late Window) followed_by yields)
     (Leads_then {Q = Newest (Acts (Ring Window))} (puts (Ring Window)) (either_by has_won lead_row yields) (newest (Ring Window) (λ x past h. h.0) refl)
-    (Leads_either has_won lead_row yields (Leads_from (λ x past h. h.0.causes) leads-cause) (Leads_from (λ x past h. h.0) (yields-cause {deed = Acts (Ring Window)} refl))))
+    (Leads_either has_won lead_row yields (Leads_from (λ x past h. h.0) leads-cause) (Leads_from (λ x past h. h.0) (yields-cause {deed = Acts (Ring Window)} refl))))
     (Leads_then {Q = Newest (Acts (Late Window))} (puts (Late Window)) yields (newest (Late Window) (λ x past h. h.0) refl) (yields-cause refl))
 
 -- the other alarms

@@ -2,7 +2,7 @@
 use Rattle.std.proofs.Common.{sym, subst, ◌≡◌, ℕ, ◌==◌, true, List, ◌∷◌, inr, refl}
 use Rattle.std.proofs.lemmas.Bool.{or_right}
 use Rattle.tsp_rules.specs.Values.{Boot, Become, Abandon, Quiet, Port, Starting, QUIET}
-use Rattle.tsp_base.specs.Words.{Acts, Begins, Seen, Step, Leads, arms, first_port, held, line_of, puts, seen_as, view, ◌followed_by◌}
+use Rattle.tsp_base.specs.Words.{Acts, Begins, Seen, Step, Leads, arms, first_port, held, line_of, puts, role, seen_as, view, ◌followed_by◌}
 use Rattle.tsp_base.proofs.{LeadsLemmas.Leads_puts, LeadsLemmas.Leads_then}
 use Rattle.tsp_rules.specs.GateRows.{NodeGiven, all_ports, answers_all, boots_all, boots_on, ports_from}
 use Rattle.tsp_rules.specs.NodeRows.{NodePast, for_ports, in_node_step, on, reading_all}
@@ -41,16 +41,16 @@ answers_caused = answers_keep caused hearing causes_keep
 -- a boot, and its quiet time
 
 abbrev booting : Manner → ℕ → List Seen → Type 0
-booting m x seen = CausesFit seen × ((held seen).boot ≡ x)
+booting m x seen = CausesFit seen × (((held seen).boot ≡ x) × (role seen ≡ Starting))
 
 booting-family : Family booting
-booting-family = record { boots = λ m step x seen w. ((inr tt, w.0), refl); aside = λ m d x seen w. w }
+booting-family = record { boots = λ m step x seen w. ((inr tt, w.0), (refl, refl)); aside = λ m d x seen w. w }
 
-starts-cause : Leads (λ x past. CausesFit past.seen × ((held past.seen).boot ≡ x)) (puts (Become Starting) followed_by arms Quiet QUIET) (λ x past. CausesFit past.seen × ((held past.seen).boot ≡ x))
+starts-cause : Leads (λ x past. CausesFit past.seen × (((held past.seen).boot ≡ x) × (role past.seen ≡ Starting))) (puts (Become Starting) followed_by arms Quiet QUIET) (λ x past. CausesFit past.seen × (((held past.seen).boot ≡ x) × (role past.seen ≡ Starting)))
 unfolding arms
-starts-cause = Leads_then {Q = λ x past. CausesFit past.seen × ((held past.seen).boot ≡ x)} (puts (Become Starting)) (arms Quiet QUIET)
-    (Leads_puts (Become Starting) (λ x past h. ((inr tt, h.0), h.1)))
-    (record { run = λ x past h. ((inr h.1, h.0), h.1) })
+starts-cause = Leads_then {Q = λ x past. CausesFit past.seen × (((held past.seen).boot ≡ x) × (role past.seen ≡ Starting))} (puts (Become Starting)) (arms Quiet QUIET)
+    (Leads_puts (Become Starting) (λ x past h. ((inr h.1.1, h.0), (h.1.0, refl))))
+    (record { run = λ x past h. ((inr h.1.0, h.0), h.1) })
 
 boots-on-cause : (q : Port) → LeadsAll (Each booting) (boots_on q) (Each booting)
 unfolding boots_on
@@ -61,7 +61,7 @@ unfolding boots_all on puts reading_all
 boots_caused = record {
   run = λ x past all r.
       ((All_after {P = Each caused} {Q = Each booting} {R = Each booting} (on first_port (puts Boot)) (reading_all all_ports (for_ports boots_on))
-      (record { run = λ x past all r. subst (λ b. booting (node_manner past) x (seen_as b (line_of past.step x first_port (Acts Boot)).did ∷ view r past.lines)) (sym (or_right (first_port.0 == r.0) true refl)) ((inr tt, all r), refl) })
+      (record { run = λ x past all r. subst (λ b. booting (node_manner past) x (seen_as b (line_of past.step x first_port (Acts Boot)).did ∷ view r past.lines)) (sym (or_right (first_port.0 == r.0) true refl)) ((inr tt, all r), (refl, refl)) })
       (record { run = λ x past all. (list_each booting booting-family boots_on (ports_from 0 past.ports) boots-on-cause).run x past all })).run x past all r).0;
 }
 

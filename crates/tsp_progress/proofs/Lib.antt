@@ -1,3 +1,4 @@
+pub mod AloneLeadsProof
 pub mod AloneProof
 pub mod CauseLeads
 pub mod CauseNodes

@@ -39,7 +39,7 @@ module _ (setting : Setting) (late : ℕ) (l : Line) (before : List Line) (f : F
   one true e soon = record { order = order; level = level; aside = λ d is. let bad : ⊥ = cc in absurd bad; soon = soon }
   one false e soon = record { order = order; level = level; aside = λ d is. let a = unshared l.did.deed (or_parts (l.port.0 == q.0) (is_shared l.did.deed) e).1 in level a.0 a.1; soon = soon }
 
-paced : (setting : Setting) (late : ℕ) (world : List Line) → Fits setting world → Attended late world → (m : Manner) (n : ℕ) (q : Port) → AlarmsFit m (view q (of n world)) → Paced late (view q (of n world))
+pub paced : (setting : Setting) (late : ℕ) (world : List Line) → Fits setting world → Attended late world → (m : Manner) (n : ℕ) (q : Port) → AlarmsFit m (view q (of n world)) → Paced late (view q (of n world))
 paced setting late [] f a m n q fit = tt
 paced setting late (l ∷ before) f a m n q fit = by_node (node_of l == n) refl fit (on_time setting late (l ∷ before) f a m n q fit) (paced setting late before f.1 a.1 m n q) where
   by_node : (b : Bool) → (node_of l == n) ≡ b → AlarmsFit m (view q (if b then l ∷ of n before else of n before)) →

@@ -1,4 +1,5 @@
 pub mod AlarmsFit
+pub mod AloneLeads
 pub mod AloneStands
 pub mod CausesFit
 pub mod InTime

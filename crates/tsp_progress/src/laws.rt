@@ -92,3 +92,13 @@ pub fn alone_stands()
         → Fits setting world → Woken m world → Attended late world → late ≤ SLACK
         → AloneStands m late world }
 {}
+
+ghost use Rattle.tsp_progress.specs.AloneLeads.{AloneLeads};
+/// Where elections aren't strict, it is master at most `WINDOW`, 5 s, and `late` after that time,
+/// unless it takes a datagram. So a node alone leads within 1,215 s of its boot, and five times
+/// `late`.
+pub fn alone_leads()
+    ensures { (m : ℕ → Manner) (setting : Setting) (late : ℕ) (world : List Line)
+        → Fits setting world → Woken m world → Attended late world → late ≤ SLACK
+        → AloneLeads m late world }
+{}
