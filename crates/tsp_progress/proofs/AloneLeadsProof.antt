@@ -227,8 +227,8 @@ module _ (late : ℕ) (slack : late ≤ SLACK) (m : Manner) (may : m.may ≡ tru
       still late (last_word before) (news before) _ d.tick _ (is_some (taken before)) (role before) (armed before) _ _ _ _ _ (λ e. h.heard e ∙ sym (p.0.aside d refl)) (unheard h)
 
   -- so a port that is no master doesn't wait for long
-  leads-soon : (seen : List Seen) (x : ℕ) → Wakes m seen → StandsOn m seen → Paced late seen → Watched late x seen → (start : Did) (idle : List Seen) → stood seen ≡ Here start ∷ idle → is_master (role seen) ≡ false → x ≤ last_word seen + (patience late + WINDOW + late)
-  leads-soon seen x w s p watched start idle stood-is other = by_role (role seen) refl other where
+  pub leads_soon : (seen : List Seen) (x : ℕ) → Wakes m seen → StandsOn m seen → Paced late seen → Watched late x seen → (start : Did) (idle : List Seen) → stood seen ≡ Here start ∷ idle → is_master (role seen) ≡ false → x ≤ last_word seen + (patience late + WINDOW + late)
+  leads_soon seen x w s p watched start idle stood-is other = by_role (role seen) refl other where
     h : Hearing late seen
     h = hearing seen w.acts w.causes s p
 
@@ -262,7 +262,7 @@ alone_leads m setting late world f w a slack = Everywhere-from (AloneLeadsAt m l
     let attended = Everywhere-within _ (l ∷ before) world a within in
     let wakes = Everywhere-at (WokenAt m) l before world w within begins q in
     let seen = view q (of n before) in
-    leads-soon late slack (m n) may strict seen l.did.tick wakes
+    leads_soon late slack (m n) may strict seen l.did.tick wakes
     (stands_on (m n) seen wakes.acts (rising setting q (of n before) (own_fits setting n before whole.1)))
     (paced setting late before whole.1 attended.1 (m n) n q wakes.acts)
     (Everywhere-at (AttendedAt late) l before world a within begins q) start idle stood-is other)

@@ -8,6 +8,7 @@ pub mod NodeKeeps
 pub mod NodeWakes
 pub mod PaceProof
 pub mod PortWakes
+pub mod ProgressProof
 pub mod RunWakes
 pub mod SendsEndProof
 pub mod StandsProof

@@ -4,6 +4,7 @@ pub mod AloneStands
 pub mod CausesFit
 pub mod InTime
 pub mod NeverLate
+pub mod Progress
 pub mod RunsWake
 pub mod SendsEnd
 pub mod Stands

@@ -102,3 +102,15 @@ pub fn alone_leads()
         → Fits setting world → Woken m world → Attended late world → late ≤ SLACK
         → AloneLeads m late world }
 {}
+
+ghost use Rattle.tsp_progress.specs.Progress.{ClockedRunsProgress, RunsProgress};
+/// All of this holds of the run of each possible schedule in which each node is looked at within
+/// `SLACK`, and up to each true time up to which the run is told.
+pub fn runs_progress()
+    ensures { RunsProgress }
+{}
+
+/// So it does of a run by any clocks.
+pub fn clocked_runs_progress()
+    ensures { ClockedRunsProgress }
+{}
