@@ -1,8 +1,10 @@
+pub mod EndLemmas
 pub mod NetworkAgrees
 pub mod NetworkRuns
 pub mod NetworksKeep
 pub mod RosterLemmas
 pub mod SetUpLemmas
 pub mod ServeUse
+pub mod ToldLemmas
 pub mod UseLemmas
 pub mod WitnessUse

@@ -7,8 +7,8 @@ use Rattle.tsp_args.specs.declared.serve.ServeWords.{ServeWords}
 use Rattle.tsp_io.specs.Links.{Arrival}
 use Rattle.tsp_daemon.specs.Sessions.{Session, acts_in_turn, turned, turn_begun, turn_cause, given_of}
 use Rattle.tsp_daemon.specs.{Nodes.daemon_config, Nodes.setups_from, Posts.sends_of}
-use Rattle.tsp_network.specs.Networks.{named_acts, daemon_tick, Network, acted, next_life, life_from, node_wall, nothing_yet, sent_by, starts, turned_to, turns}
-use Rattle.tsp_network.proofs.SetUpLemmas.{daemon_ports, tells_apart, AllMatch, NoneMatch, acts_match, match_append, configs_alike}
+use Rattle.tsp_network.specs.Networks.{named_acts, daemon_tick, Network, acted, next_life, life_from, node_wall, nothing_yet, life_until, sent_by, sent_until, starts, turned_to, turns}
+use Rattle.tsp_network.proofs.SetUpLemmas.{daemon_ports, tells_apart, AllMatch, NoneMatch, acts_match, match_append, until_match, configs_alike}
 use Rattle.tsp_network.specs.Lives.{Life, session_after, session_of, turn_told, turn_acts, Daemons, AreStarted, first_acts}
 use Rattle.tsp_network.specs.Rosters.{renaming_on}
 use Rattle.tsp_rules.specs.NodeRows.{NodePast, PortSetup, in_node_step, no_port}
@@ -134,26 +134,31 @@ module _ (d : Daemons) (is : IsSetUp d.header) (keeps : (n : ℕ) → KeepsTime 
   pub all_still : (w : Network) (t at : ℕ) (h : List Line) → t ≤ at → AllAgree w t h → AllAgree w at h
   all_still w t at h later a = record { history = a.history; nodes = λ n. later-one n (w.lives n) t at h h refl later (a.nodes n); sends = a.sends }
 
-  -- a daemon has stepped, and its node in the run
-  pub acted_agrees : (w : Network) (t : ℕ) (h : List Line) (step : Step) (now : Life) (acts : List Placed) → AllAgree w t h → t ≤ step.at →
+  -- a daemon has stepped, or ended, and its node in the run has stepped
+  pub acted_agrees : (w : Network) (t : ℕ) (h : List Line) (k : ℕ) (step : Step) (now : Life) (acts : List Placed) → AllAgree w t h → t ≤ step.at →
       Agrees step.node now step.at (stepped step (tick_by d.clocks step) (named_acts nets step.node now.origin acts) h) →
       AllMatch d (map (sent_by step.node) (sends_of acts)) (posts_from step.at step.node (named_acts nets step.node now.origin acts)) →
-      AllAgree (acted d step now acts w) step.at (stepped step (tick_by d.clocks step) (named_acts nets step.node now.origin acts) h)
-  acted_agrees w t h step now acts a later own sends =
+      AllAgree (acted d k step now acts w) step.at (stepped step (tick_by d.clocks step) (named_acts nets step.node now.origin acts) h)
+  acted_agrees w t h k step now acts a later own sends =
       let x : ℕ = tick_by d.clocks step in
       let theirs : List Placed = named_acts nets step.node now.origin acts in
       record {
         history = ap (λ l. stepped step x theirs l) a.history;
         nodes = λ m. by_node m (m == step.node) refl;
-        sends = subst (λ l. AllMatch d (w.sent ++ map (sent_by step.node) (sends_of acts)) l) (sym (posts_stepped step x theirs h)) (match_append d a.sends sends);
+        sends = subst (λ l. AllMatch d (w.sent ++ sent_until (d.tries k) (map (sent_by step.node) (sends_of acts))) l) (sym (posts_stepped step x theirs h))
+            (match_append d a.sends (until_match d (d.tries k) sends));
       } where
-        by_node : (m : ℕ) (b : Bool) → (m == step.node) ≡ b →
-            OneAgrees m (if b then Some now else w.lives m) step.at (stepped step (tick_by d.clocks step) (named_acts nets step.node now.origin acts) h)
-        by_node m true e = subst (λ k. Agrees k now step.at (stepped step (tick_by d.clocks step) (named_acts nets step.node now.origin acts) h))
-            (sym (eqb-true m step.node e)) own
+        more : List Line
+        more = stepped step (tick_by d.clocks step) (named_acts nets step.node now.origin acts) h
+
+        by_end : (o : Option ℕ) → OneAgrees step.node (life_until o now) step.at more
+        by_end None = own
+        by_end (Some n) = tt
+
+        by_node : (m : ℕ) (b : Bool) → (m == step.node) ≡ b → OneAgrees m (if b then life_until (d.tries k) now else w.lives m) step.at more
+        by_node m true e = subst (λ n. OneAgrees n (life_until (d.tries k) now) step.at more) (sym (eqb-true m step.node e)) (by_end (d.tries k))
         by_node m false e =
             let off = ne_eqb step.node m (λ same. eqb-false m step.node e (sym same)) in
-            let more : List Line = stepped step (tick_by d.clocks step) (named_acts nets step.node now.origin acts) h in
             later-one m (w.lives m) t step.at h more
             (stepped_other m step (tick_by d.clocks step) (named_acts nets step.node now.origin acts) h off) later (a.nodes m)
 
@@ -204,7 +209,7 @@ module _ (d : Daemons) (is : IsSetUp d.header) (keeps : (n : ℕ) → KeepsTime 
       let acts_same : theirs ≡ acts_by d.clocks d.header h (answers_all g) step = named ∙ ap₂ (λ z c. answers_all c z (in_node_step step z here)) tick same in
       let sends = acts_match d is n life.origin past.may step.at acts known in
       subst (λ o. AllAgree (turns d k step a o w) step.at (joins (Some (stepping d.clocks d.header h (answers_all g) step)) h)) (sym lives)
-      (subst (λ l. AllAgree (turned_to d step life now w) step.at (stepped step x l h)) acts_same (acted_agrees w t h step now acts all later after sends))
+      (subst (λ l. AllAgree (turned_to d k step life now w) step.at (stepped step x l h)) acts_same (acted_agrees w t h k step now acts all later after sends))
 
   -- a daemon starts, and its node boots
   boot-agrees : AreStarted d → (w : Network) (t k at n word : ℕ) → AllAgree w t w.history → t ≤ at → n < length d.header.nodes →
@@ -251,7 +256,7 @@ module _ (d : Daemons) (is : IsSetUp d.header) (keeps : (n : ℕ) → KeepsTime 
       subst (λ l. AllMatch d (map (sent_by n) (sends_of l)) (posts_from at n (map (renamed_placed rs) l))) (sym b.is)
       (acts_match d is n origin base.may at b.rest known) in
       let all_acts : theirs ≡ acts_by d.clocks d.header h boots_all step = named ∙ ap (λ z. boots_all z (in_node_step step z here)) tick in
-      subst (λ l. AllAgree (starts d k at n word w) at (stepped step x l h)) all_acts (acted_agrees w t h step now acts all later after sends)
+      subst (λ l. AllAgree (starts d k at n word w) at (stepped step x l h)) all_acts (acted_agrees w t h k step now acts all later after sends)
 
   pub boot_agrees : AreStarted d → (w : Network) (t : ℕ) (h : List Line) (k at n word : ℕ) → AllAgree w t h → t ≤ at → n < length d.header.nodes →
       d.origin k ≤ daemon_tick d n at →

@@ -76,7 +76,7 @@ running (Some life) r = record { life = life; is = refl }
 pub data Outcome (d : Daemons) (k : ℕ) (w : Network) : Network → Type 0 where
   Starts : (at n word : ℕ) → Outcome d k w (starts d k at n word w)
   Turns : (step : Step) (a : Arrival) (life : Life) → w.lives step.node ≡ Some life →
-      Outcome d k w (turned_to d step life (turn_told a (d.early k) (tick_by d.clocks step - life.origin) life) w)
+      Outcome d k w (turned_to d k step life (turn_told a (d.early k) (tick_by d.clocks step - life.origin) life) w)
   Nothing : Outcome d k w w
 
 turn-outcome : (d : Daemons) (k : ℕ) (w : Network) (step : Step) (a : Arrival) (o : Option Life) → w.lives step.node ≡ o → Outcome d k w (turns d k step a o w)
@@ -221,7 +221,7 @@ module _ (d : Daemons) (header_is : IsSetUp d.header) (keeps : (n : ℕ) → Kee
 
     by_send : (o : Option Sent) → slice_get w.sent k ≡ o → RunsFor d w o → EventAgrees (Take at k) before
     by_send None e r = absurd r
-    by_send (Some s) e r = by_address s (match_at d a.sends k s e) e (destination nets s.from s.tried.0) refl r
+    by_send (Some s) e r = by_address s (match_at d a.sends k s e) e (destination nets s.from s.tried.0) refl r.1
 
   -- a network agrees with a run whose events are possible
   pub record RunAgrees (events : List Event) : Type 0 where

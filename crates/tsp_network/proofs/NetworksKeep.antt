@@ -1,6 +1,6 @@
 -- Every network of daemons keeps the promises: what can happen in a run can happen in it; what a daemon's session has tried is what the network
 -- has of it; and the numbers of a daemon's peers are the places of their addresses.
-use Rattle.std.proofs.Common.{option_map, sym, ap, subst, arith, inl, inr, ◌∙◌, ◌≡◌, ℕ, zero, suc, ◌<◌, ◌==◌, nat_lt, Bool, true, false, if◌then◌else◌, List, [], ◌∷◌, length, Option, None, Some, slice_get, refl, eq-eqb, eqb-true, append-nil, ◌-◌, ◌≤◌, ◌++◌, map, filter, drop, ◌+◌, flat_map, slice_index_or}
+use Rattle.std.proofs.Common.{option_map, sym, ap, subst, arith, inl, inr, ◌∙◌, ◌≡◌, ℕ, zero, suc, ◌<◌, ◌==◌, nat_lt, Bool, true, false, if◌then◌else◌, List, [], ◌∷◌, length, Option, None, Some, slice_get, refl, eq-eqb, eqb-true, append-nil, ◌-◌, ◌≤◌, ◌++◌, map, filter, drop, take, ◌&&◌, ◌+◌, flat_map, slice_index_or}
 use Rattle.std.proofs.lemmas.{List.drop-append-le, List.drop_all, List.map-append, List.length-map, Option.slice_get-get_or, Option.slice_get-map, Option.slice_get_cases}
 use Rattle.std.proofs.lemmas.{Bool.ltb-true, Bool.eqb-false, Bool.ne_eqb, List.Elements.All-head, List.Elements.filter-append}
 use Rattle.tsp_rules.specs.NodeRows.{NodePast, for_ports, nothing_at_all, on, reading_all, spread, ◌and_then◌}
@@ -16,8 +16,8 @@ use Rattle.tsp_run.proofs.{PossibleRun.possible_before, RunPremises.clocked_runs
 use Rattle.tsp_run.specs.{Networks.networks, Networks.network_from, Promises.Promises, declared.posted.Posted.Posted}
 use Rattle.tsp_run.{proofs.NetworkLemmas.some_same, proofs.RunLemmas.stepped_other, specs.Ranges.IsInRange}
 use Rattle.tsp_network.proofs.NetworkRuns.{Nothing, Outcome, RunAgrees, Starts, Turns, outcome, event_agrees, run_agrees, longer}
-use Rattle.tsp_network.specs.Kept.{tried_by, IsSent, NetworksKeepPromises, SchedulesAreKept, NumbersAreAddresses, AllSuit, RunsAreNetworks, Suits}
-use Rattle.tsp_network.specs.Networks.{Network, Sent, acted, named_acts, network, life_from, daemon_tick, next_life, node_wall, sent_by}
+use Rattle.tsp_network.specs.Kept.{tried_by, IsSent, NetworksKeepPromises, SchedulesAreKept, NumbersAreAddresses, AllSuit, RunsAreNetworks, Suits, TriesFirst}
+use Rattle.tsp_network.specs.Networks.{Network, Sent, acted, named_acts, network, life_from, daemon_tick, next_life, node_wall, first_sent, life_until, sent_by, sent_until, unsent}
 use Rattle.tsp_network.specs.Rosters.{destination, count_below, neighbours, neighbours_on, number_for, others_in, place_in}
 use Rattle.tsp_network.specs.Lives.{AreStarted, Daemons, Life, first_acts, session_of, turn_told, turn_acts, addresses}
 use Rattle.tsp_network.proofs.SetUpLemmas.{AllMatch, Matches, MoreMatch, NoneMatch, match_length, match_at}
@@ -45,25 +45,64 @@ send_at d (MoreMatch m a) (suc k) p e = let r = send_at d a k p e in record { se
 abbrev pub IsQuiet : Network → Type 0
 IsQuiet w = (n : ℕ) → w.lives n ≡ None → of n w.history ≡ []
 
-acted-quiet : (d : Daemons) (step : Step) (life : Life) (acts : List Placed) (w : Network) → IsQuiet w → IsQuiet (acted d step life acts w)
-acted-quiet d step life acts w q n e = by_node (n == step.node) refl e where
-  by_node : (b : Bool) → (n == step.node) ≡ b → (if b then Some life else w.lives n) ≡ None → of n (acted d step life acts w).history ≡ []
-  by_node true same e = let bad : ⊥ = cc in absurd bad
+acted-quiet : (d : Daemons) (k : ℕ) (step : Step) (life : Life) (acts : List Placed) (w : Network) → d.tries k ≡ None → IsQuiet w →
+    IsQuiet (acted d k step life acts w)
+acted-quiet d k step life acts w going q n e = by_node (n == step.node) refl e where
+  by_node : (b : Bool) → (n == step.node) ≡ b → (if b then life_until (d.tries k) life else w.lives n) ≡ None → of n (acted d k step life acts w).history ≡ []
+  by_node true same e = let alive : Some life ≡ None = subst (λ o. life_until o life ≡ None) going e in let bad : ⊥ = cc in absurd bad
   by_node false other e =
       stepped_other n step (tick_by d.clocks step) (named_acts (networks d.header) step.node life.origin acts) w.history
       (ne_eqb step.node n (λ same. eqb-false n step.node other (sym same))) ∙ q n e
 
-event-quiet : {d : Daemons} {k : ℕ} {w v : Network} → IsQuiet w → Outcome d k w v → IsQuiet v
-event-quiet {d} {k} {w} q (Starts at n word) =
-    acted-quiet d (boot_by d.clocks w.history at n word) _
-    (first_acts (d.words n) (daemon_tick d n at - d.origin k) (node_wall d n (next_life w n) at) word) w q
-event-quiet {d} {k} {w} q (Turns step a life there) =
-    acted-quiet d step _ (turn_acts (d.words step.node) life (turn_told a (d.early k) (tick_by d.clocks step - life.origin) life)) w q
-event-quiet q Nothing = q
+event-quiet : {d : Daemons} {k : ℕ} {w v : Network} → d.tries k ≡ None → IsQuiet w → Outcome d k w v → IsQuiet v
+event-quiet {d} {k} {w} going q (Starts at n word) =
+    acted-quiet d k (boot_by d.clocks w.history at n word) _
+    (first_acts (d.words n) (daemon_tick d n at - d.origin k) (node_wall d n (next_life w n) at) word) w going q
+event-quiet {d} {k} {w} going q (Turns step a life there) =
+    acted-quiet d k step _ (turn_acts (d.words step.node) life (turn_told a (d.early k) (tick_by d.clocks step - life.origin) life)) w going q
+event-quiet going q Nothing = q
 
-pub quiet : (d : Daemons) (events : List Event) → IsQuiet (network d events)
-quiet d [] = λ n e. refl
-quiet d (e ∷ before) = event-quiet (quiet d before) (outcome d (length before) (network d before) e)
+-- where no daemon ends in a turn
+pub quiet : (d : Daemons) → ((k : ℕ) → d.tries k ≡ None) → (events : List Event) → IsQuiet (network d events)
+quiet d going [] = λ n e. refl
+quiet d going (e ∷ before) = event-quiet (going (length before)) (quiet d going before) (outcome d (length before) (network d before) e)
+
+-- each of these sends was tried
+abbrev AllWent : List Sent → Type 0
+AllWent [] = Unit {0}
+AllWent (s ∷ rest) = (s.went ≡ true) × AllWent rest
+
+went-more : (ss ts : List Sent) → AllWent ss → AllWent ts → AllWent (ss ++ ts)
+went-more [] ts a b = b
+went-more (s ∷ ss) ts a b = (a.0, went-more ss ts a.1 b)
+
+went-by : (n : ℕ) (ts : List Tried) → AllWent (map (sent_by n) ts)
+went-by n [] = tt
+went-by n (t ∷ ts) = (refl, went-by n ts)
+
+went-at : (ss : List Sent) (k : ℕ) (s : Sent) → AllWent ss → slice_get ss k ≡ Some s → s.went ≡ true
+went-at [] k s all e = let bad : ⊥ = cc in absurd bad
+went-at (r ∷ ss) zero s all e = ap (λ (z : Sent). z.went) (sym (some_same e)) ∙ all.0
+went-at (r ∷ ss) (suc k) s all e = went-at ss k s all.1 e
+
+acted-went : (d : Daemons) (k : ℕ) (step : Step) (life : Life) (acts : List Placed) (w : Network) → d.tries k ≡ None → AllWent w.sent →
+    AllWent (acted d k step life acts w).sent
+acted-went d k step life acts w going all = subst (λ o. AllWent (w.sent ++ sent_until o (map (sent_by step.node) (sends_of acts)))) (sym going)
+    (went-more w.sent (map (sent_by step.node) (sends_of acts)) all (went-by step.node (sends_of acts)))
+
+event-went : {d : Daemons} {k : ℕ} {w v : Network} → d.tries k ≡ None → AllWent w.sent → Outcome d k w v → AllWent v.sent
+event-went {d} {k} {w} going all (Starts at n word) =
+    acted-went d k (boot_by d.clocks w.history at n word) (life_from d k at n word w)
+    (first_acts (d.words n) (daemon_tick d n at - d.origin k) (node_wall d n (next_life w n) at) word) w going all
+event-went {d} {k} {w} going all (Turns step a life there) =
+    acted-went d k step (turn_told a (d.early k) (tick_by d.clocks step - life.origin) life)
+    (turn_acts (d.words step.node) life (turn_told a (d.early k) (tick_by d.clocks step - life.origin) life)) w going all
+event-went going all Nothing = all
+
+-- where no daemon ends in a turn
+all-went : (d : Daemons) → ((k : ℕ) → d.tries k ≡ None) → (events : List Event) → AllWent (network d events).sent
+all-went d going [] = tt
+all-went d going (e ∷ before) = event-went (going (length before)) (all-went d going before) (outcome d (length before) (network d before) e)
 
 -- a daemon runs on each node that is up
 pub runs_up : (w : Network) (h : List Line) (n : ℕ) → w.history ≡ h → IsQuiet w → up (dids (of n h)) ≡ true → IsRunning (w.lives n)
@@ -89,13 +128,15 @@ known-datagram clocks header before at k none =
       by_case true e = refl
       by_case false e = let bad : ⊥ = cc in absurd bad
 
-module _ (d : Daemons) (header_is : IsSetUp d.header) (keeps : (n : ℕ) → KeepsTime d.header.drift (d.clocks.tick n)) (started : AreStarted d) where
+module _ (d : Daemons) (header_is : IsSetUp d.header) (keeps : (n : ℕ) → KeepsTime d.header.drift (d.clocks.tick n)) (started : AreStarted d)
+    (going : (k : ℕ) → d.tries k ≡ None) where
   take-happens : (before : List Event) (at k : ℕ) → AllAgree d header_is keeps (network d before) (last_at before) (run_by d.clocks d.header before) →
       impossible (scene_by d.clocks d.header before) (Take at k) ≡ None → RunsFor d (network d before) (slice_get (network d before).sent k)
   take-happens before at k a can = elim (slice_get_cases (posts h) k).1 [
     | inl c ↦
         let r = send_at d a.sends k c.0 c.2 in
-        subst (λ o. RunsFor d w o) (sym r.there) (by_address r.send c.0 c.2 r.matches (destination nets r.send.from r.send.tried.0) refl)
+        subst (λ o. RunsFor d w o) (sym r.there)
+        (went-at w.sent k r.send (all-went d going before) r.there, by_address r.send c.0 c.2 r.matches (destination nets r.send.from r.send.tried.0) refl)
     | inr c ↦ let few = known-datagram d.clocks d.header before at k can in let past = c.0 in let bad : ⊥ = omega (arith, few, past) in absurd bad
   ] where
     w : Network
@@ -114,7 +155,7 @@ module _ (d : Daemons) (header_is : IsSetUp d.header) (keeps : (n : ℕ) → Kee
         let free : down (scene_by d.clocks d.header before).up (Some to.node) ≡ None =
         ap (λ z. down (scene_by d.clocks d.header before).up (node_in z)) (sym goes) ∙
         (can_happen (scene_by d.clocks d.header before) (Take at k) can).up in
-        runs_up w h to.node a.history (quiet d before) (up-down (scene_by d.clocks d.header before) to.node free)
+        runs_up w h to.node a.history (quiet d going before) (up-down (scene_by d.clocks d.header before) to.node free)
 
   happens-so : (before : List Event) (e : Event) → AllAgree d header_is keeps (network d before) (last_at before) (run_by d.clocks d.header before) →
       impossible (scene_by d.clocks d.header before) e ≡ None → IsInRange e → Suits d (length before) (network d before) e →
@@ -122,7 +163,7 @@ module _ (d : Daemons) (header_is : IsSetUp d.header) (keeps : (n : ℕ) → Kee
   happens-so before (BootAt at node word) a can range suits =
       ((can_happen (scene_by d.clocks d.header before) (BootAt at node word) can).node, range, suits.0, suits.1)
   happens-so before (Turn at node) a can range suits =
-      runs_up (network d before) (run_by d.clocks d.header before) node a.history (quiet d before)
+      runs_up (network d before) (run_by d.clocks d.header before) node a.history (quiet d going before)
       (up-down (scene_by d.clocks d.header before) node (can_happen (scene_by d.clocks d.header before) (Turn at node) can).up)
   happens-so before (Take at k) a can range suits = take-happens before at k a can
   happens-so before (Bytes at node port from octets) a can range suits =
@@ -130,7 +171,7 @@ module _ (d : Daemons) (header_is : IsSetUp d.header) (keeps : (n : ℕ) → Kee
       let k : CanBe s (Bytes at node port from octets) = can_happen s (Bytes at node port from octets) can in
       let all = length_neighbours node (networks d.header) in
       let has = k.node.1 in (
-        runs_up (network d before) (run_by d.clocks d.header before) node a.history (quiet d before) (up-down s node k.up),
+        runs_up (network d before) (run_by d.clocks d.header before) node a.history (quiet d going before) (up-down s node k.up),
         omega
             (arith, all, has),
         suits.0,
@@ -158,9 +199,10 @@ module _ (d : Daemons) (header_is : IsSetUp d.header) (keeps : (n : ℕ) → Kee
       let few = p.few in
       record { happen = happen; few = same; agree = run_agrees d header_is keeps started (e ∷ before) happen (omega (arith, same, few)) }
 
-pub run_is_network : (d : Daemons) (events : List Event) → AreStarted d → AllSuit d events → PossibleBy d.clocks d.header events → IsNetwork d events
-run_is_network d events started suits p =
-    let c = comes d p.header_is p.keeps started events suits p in
+pub run_is_network : (d : Daemons) (events : List Event) → AreStarted d → ((k : ℕ) → d.tries k ≡ None) → AllSuit d events →
+    PossibleBy d.clocks d.header events → IsNetwork d events
+run_is_network d events started going suits p =
+    let c = comes d p.header_is p.keeps started going events suits p in
     let same = c.few in
     let few = p.few in
     record { header_is = p.header_is; keeps = p.keeps; started = started; happen = c.happen; few = omega (arith, same, few) }
@@ -196,15 +238,52 @@ boots-silent x p = let begun : NodePast = spread x p (on first_port (puts Boot) 
 
 -- what one node has tried of more sends
 more-tried : (n : ℕ) (ss ts : List Sent) → tried_by n (ss ++ ts) ≡ tried_by n ss ++ tried_by n ts
-more-tried n ss ts = ap (map (λ (s : Sent). s.tried)) (filter-append (λ (s : Sent). s.from == n) ss ts) ∙ map-append (λ (s : Sent). s.tried) (filter (λ (s : Sent). s.from == n) ss) (filter (λ (s : Sent). s.from == n) ts)
+more-tried n ss ts =
+    ap (map (λ (s : Sent). s.tried)) (filter-append (λ (s : Sent). s.went && (s.from == n)) ss ts)
+    ∙ map-append (λ (s : Sent). s.tried) (filter (λ (s : Sent). s.went && (s.from == n)) ss) (filter (λ (s : Sent). s.went && (s.from == n)) ts)
+
+-- of one send and more
+one-tried : (m : ℕ) (s : Sent) (rest : List Sent) (b : Bool) → (s.went && (s.from == m)) ≡ b →
+    tried_by m (s ∷ rest) ≡ (if b then s.tried ∷ tried_by m rest else tried_by m rest)
+one-tried m s rest true e = ap
+    (λ b. map (λ (z : Sent). z.tried)
+    (if b then s ∷ filter (λ (z : Sent). z.went && (z.from == m)) rest else filter (λ (z : Sent). z.went && (z.from == m)) rest)) e
+one-tried m s rest false e = ap
+    (λ b. map (λ (z : Sent). z.tried)
+    (if b then s ∷ filter (λ (z : Sent). z.went && (z.from == m)) rest else filter (λ (z : Sent). z.went && (z.from == m)) rest)) e
 
 own-tried : (n : ℕ) (ts : List Tried) → tried_by n (map (sent_by n) ts) ≡ ts
 own-tried n [] = refl
-own-tried n (t ∷ ts) = ap (λ b. map (λ (s : Sent). s.tried) (if b then sent_by n t ∷ filter (λ (s : Sent). s.from == n) (map (sent_by n) ts) else filter (λ (s : Sent). s.from == n) (map (sent_by n) ts))) (eq-eqb n n refl) ∙ ap (λ l. t ∷ l) (own-tried n ts)
+own-tried n (t ∷ ts) = one-tried n (sent_by n t) (map (sent_by n) ts) true (eq-eqb n n refl) ∙ ap (λ l. t ∷ l) (own-tried n ts)
+
+-- none of those that weren't tried
+none-tried : (n : ℕ) (ss : List Sent) → tried_by n (map unsent ss) ≡ []
+none-tried n [] = refl
+none-tried n (s ∷ ss) = one-tried n (unsent s) (map unsent ss) false refl ∙ none-tried n ss
+
+first-tried : (n m : ℕ) (ts : List Tried) → tried_by n (first_sent m (map (sent_by n) ts)) ≡ take m ts
+first-tried n zero [] = refl
+first-tried n zero (t ∷ ts) = none-tried n (map (sent_by n) (t ∷ ts))
+first-tried n (suc m) [] = refl
+first-tried n (suc m) (t ∷ ts) = one-tried n (sent_by n t) (first_sent m (map (sent_by n) ts)) true (eq-eqb n n refl) ∙ ap (λ l. t ∷ l) (first-tried n m ts)
 
 other-tried : (m n : ℕ) → (n == m) ≡ false → (ts : List Tried) → tried_by m (map (sent_by n) ts) ≡ []
 other-tried m n off [] = refl
-other-tried m n off (t ∷ ts) = ap (λ b. map (λ (s : Sent). s.tried) (if b then sent_by n t ∷ filter (λ (s : Sent). s.from == m) (map (sent_by n) ts) else filter (λ (s : Sent). s.from == m) (map (sent_by n) ts))) off ∙ other-tried m n off ts
+other-tried m n off (t ∷ ts) = one-tried m (sent_by n t) (map (sent_by n) ts) false off ∙ other-tried m n off ts
+
+other-first : (m n : ℕ) → (n == m) ≡ false → (k : ℕ) (ts : List Tried) → tried_by m (first_sent k (map (sent_by n) ts)) ≡ []
+other-first m n off zero ts = none-tried m (map (sent_by n) ts)
+other-first m n off (suc k) [] = refl
+other-first m n off (suc k) (t ∷ ts) = one-tried m (sent_by n t) (first_sent k (map (sent_by n) ts)) false off ∙ other-first m n off k ts
+
+other-until : (m n : ℕ) → (n == m) ≡ false → (o : Option ℕ) (ts : List Tried) → tried_by m (sent_until o (map (sent_by n) ts)) ≡ []
+other-until m n off None ts = other-tried m n off ts
+other-until m n off (Some k) ts = other-first m n off k ts
+
+until-nothing : (o : Option ℕ) → sent_until o [] ≡ []
+until-nothing None = refl
+until-nothing (Some zero) = refl
+until-nothing (Some (suc k)) = refl
 
 tried-more : (n k : ℕ) (ss ts : List Sent) → k ≤ length ss → tried_by n (drop k (ss ++ ts)) ≡ tried_by n (drop k ss) ++ tried_by n ts
 tried-more n k ss ts few = ap (tried_by n) (drop-append-le k ss ts few) ∙ more-tried n (drop k ss) ts
@@ -219,18 +298,23 @@ module _ (d : Daemons) where
   abbrev AllTried : Network → Type 0
   AllTried w = (n : ℕ) (life : Life) → w.lives n ≡ Some life → LifeTried n life w.sent
 
-  acted-tried : (step : Step) (now : Life) (acts : List Placed) (w : Network) → AllTried w → LifeTried step.node now (w.sent ++ map (sent_by step.node) (sends_of acts)) → AllTried (acted d step now acts w)
-  acted-tried step now acts w all own m life there = by_node (m == step.node) refl there where
+  acted-tried : (k : ℕ) (step : Step) (now : Life) (acts : List Placed) (w : Network) → AllTried w →
+      LifeTried step.node now (w.sent ++ map (sent_by step.node) (sends_of acts)) → AllTried (acted d k step now acts w)
+  acted-tried k step now acts w all own m life there = by_node (m == step.node) refl there where
     more : List Sent
-    more = map (sent_by step.node) (sends_of acts)
+    more = sent_until (d.tries k) (map (sent_by step.node) (sends_of acts))
 
-    by_node : (b : Bool) → (m == step.node) ≡ b → (if b then Some now else w.lives m) ≡ Some life → LifeTried m life (w.sent ++ more)
-    by_node true e there = subst (λ n. LifeTried n life (w.sent ++ more)) (sym (eqb-true m step.node e)) (subst (λ l. LifeTried step.node l (w.sent ++ more)) (some_same there) own)
+    by_end : (o : Option ℕ) → life_until o now ≡ Some life → LifeTried step.node life (w.sent ++ sent_until o (map (sent_by step.node) (sends_of acts)))
+    by_end None there = subst (λ l. LifeTried step.node l (w.sent ++ map (sent_by step.node) (sends_of acts))) (some_same there) own
+    by_end (Some n) there = let bad : ⊥ = cc in absurd bad
+
+    by_node : (b : Bool) → (m == step.node) ≡ b → (if b then life_until (d.tries k) now else w.lives m) ≡ Some life → LifeTried m life (w.sent ++ more)
+    by_node true e there = subst (λ n. LifeTried n life (w.sent ++ more)) (sym (eqb-true m step.node e)) (by_end (d.tries k) there)
     by_node false e there =
         let old = all m life there in
         let few = old.few in
         let long = longer w.sent more in
-        let silent = other-tried m step.node (ne_eqb step.node m (λ same. eqb-false m step.node e (sym same))) (sends_of acts) in
+        let silent = other-until m step.node (ne_eqb step.node m (λ same. eqb-false m step.node e (sym same))) (d.tries k) (sends_of acts) in
         let before : List Tried = tried_by m (drop life.sent_before w.sent) in
         record {
           reached = old.reached;
@@ -251,11 +335,13 @@ module _ (d : Daemons) where
       let long = longer w.sent (map (sent_by n) (sends_of acts)) in
       let before : List Tried = tried_by n (drop life.sent_before w.sent) in
       let after : (session_of s now).outside.tried ≡ (session_of s life).outside.tried ++ sends_of acts =
-      ap (λ (z : Session). z.outside.tried) (session_told s own.reached a (d.early k) y) ∙ ap (λ l. (session_of s life).outside.tried ++ sends_of l) (sym (acts_told s own.reached a (d.early k) y)) in
-      acted-tried step now acts w all (record {
+      ap (λ (z : Session). z.outside.tried) (session_told s own.reached a (d.early k) y)
+      ∙ ap (λ l. (session_of s life).outside.tried ++ sends_of l) (sym (acts_told s own.reached a (d.early k) y)) in
+      acted-tried k step now acts w all (record {
         reached = Went own.reached a (d.early k) y;
         few = omega (arith, few, long);
-        tried = after ∙ ap (λ l. l ++ sends_of acts) own.tried ∙ sym (tried-more n life.sent_before w.sent (map (sent_by n) (sends_of acts)) own.few ∙ ap (λ l. before ++ l) (own-tried n (sends_of acts)));
+        tried = after ∙ ap (λ l. l ++ sends_of acts) own.tried
+            ∙ sym (tried-more n life.sent_before w.sent (map (sent_by n) (sends_of acts)) own.few ∙ ap (λ l. before ++ l) (own-tried n (sends_of acts)));
       })
   event-tried {k} {w} all (Starts at n word) =
       let y : ℕ = daemon_tick d n at - d.origin k in
@@ -263,15 +349,29 @@ module _ (d : Daemons) where
       let acts : List Placed = first_acts (d.words n) y wall word in
       let silent : sends_of acts ≡ [] = boots-silent y (booting (daemon_config (d.words n)) y wall word) in
       let sent : w.sent ++ map (sent_by n) (sends_of acts) ≡ w.sent = ap (λ l. w.sent ++ map (sent_by n) l) silent ∙ append-nil w.sent in
-      acted-tried (boot_by d.clocks w.history at n word) (life_from d k at n word w) acts w all (record {
+      acted-tried k (boot_by d.clocks w.history at n word) (life_from d k at n word w) acts w all (record {
         reached = Began (d.origin k) (length w.sent) wall word y;
         few = longer w.sent (map (sent_by n) (sends_of acts));
         tried = sym (ap (λ l. tried_by n (drop (length w.sent) l)) sent ∙ ap (tried_by n) (drop_all (length w.sent) w.sent (omega arith)));
       })
 
-  all-tried : (events : List Event) → AllTried (network d events)
+  pub all-tried : (events : List Event) → AllTried (network d events)
   all-tried [] = λ n life there. (let bad : ⊥ = cc in absurd bad)
   all-tried (e ∷ before) = event-tried (all-tried before) (outcome d (length before) (network d before) e)
+
+  -- a daemon that ends in a turn has tried the first of that turn's sends
+  pub ends-after : (before : List Event) (step : Step) (life now : Life) (m : ℕ) → (network d before).lives step.node ≡ Some life →
+      d.tries (length before) ≡ Some m →
+      TriesFirst d before step life now m
+  ends-after before step life now m there ends =
+      let n : ℕ = step.node in
+      let w : Network = network d before in
+      let own = all-tried before n life there in
+      let sends : List Tried = sends_of (turn_acts (d.words n) life now) in
+      ap (λ o. tried_by n (drop life.sent_before (w.sent ++ sent_until o (map (sent_by n) sends)))) ends
+      ∙ tried-more n life.sent_before w.sent (first_sent m (map (sent_by n) sends)) own.few
+      ∙ ap (λ l. l ++ tried_by n (first_sent m (map (sent_by n) sends))) (sym own.tried)
+      ∙ ap (λ l. (session_of (d.words n) life).outside.tried ++ l) (first-tried n m sends)
 
 get-left : {A : Type 0} (xs ys : List A) (c : ℕ) → c < length xs → slice_get (xs ++ ys) c ≡ slice_get xs c
 get-left [] ys c h = absurd (omega (arith, h))
@@ -340,6 +440,7 @@ networks_keep_promises d setting events n set =
           let m = match_at d r.agree.sends k s there in
           subst (λ q. IsSent d s q) (some_same (sym m.there ∙ post)) m.matches.sent;
       tried = λ m life there. (all-tried d events m life there).tried;
+      ended = λ step life arrival early tick m there ends. ends-after d events step life (turn_told arrival early tick life) m there ends;
       promises = subst (λ h. Promises setting h) (sym r.agree.history) kept;
       premises = clocked_runs_keep_premises d.clocks d.header events r.possible;
     }

@@ -72,7 +72,7 @@ used-possible : Possible two_nodes used
 used-possible = possible-so used-header (tt, (tt, (tt, (tt, (tt, (tt, (tt, (tt, (tt, (tt, (tt, (tt, (tt, (tt, (tt, (tt, (tt, (tt, (tt, (tt, (tt, (omega arith, (omega arith, tt))))))))))))))))))))))) computed.used.happens 16 computed.used.count (omega arith)
 
 used-is : IsNetwork two_daemons used
-used-is = run_is_network two_daemons used used-started (
+used-is = run_is_network two_daemons used used-started (λ k. refl) (
   tt,
   (
     tt,
@@ -160,7 +160,7 @@ led-possible : Possible three_nodes led
 led-possible = possible-so led-header (tt, (tt, (tt, (tt, (tt, (tt, (tt, (tt, (tt, (tt, (tt, (tt, (tt, (tt, (tt, (omega arith, (omega arith, (omega arith, tt)))))))))))))))))) computed.astray.happens 15 computed.astray.count (omega arith)
 
 led-is : IsNetwork three_daemons led
-led-is = run_is_network three_daemons led led-started (
+led-is = run_is_network three_daemons led led-started (λ k. refl) (
   tt,
   (
     tt,
@@ -197,7 +197,7 @@ sent = send_at three_daemons agree.sends 14 set_post computed.astray.posted
 -- what c does with the copy, as a node would
 astray-is : (astray sent.send).history ≡ stepped stray_step 390001400 stray_acts history
 astray-is =
-    let r = running (now.lives 2) (runs_up now history 2 agree.history (quiet three_daemons led) computed.astray.is_up) in
+    let r = running (now.lives 2) (runs_up now history 2 agree.history (quiet three_daemons (λ k. refl) led) computed.astray.is_up) in
     let s = sent.send in
     let a = agree in
     let nets : List (List ℕ) = networks three_nodes in

@@ -19,10 +19,10 @@ abbrev pub RunsAt : Network → Option Address → Type 0
 RunsAt w None = Unit {0}
 RunsAt w (Some a) = IsRunning (w.lives a.node)
 
--- a daemon runs where this send goes
+-- this send was tried, and a daemon runs where it goes
 abbrev pub RunsFor : Daemons → Network → Option Sent → Type 0
 RunsFor d w None = ⊥
-RunsFor d w (Some s) = RunsAt w (destination (networks d.header) s.from s.tried.0)
+RunsFor d w (Some s) = (s.went ≡ true) × RunsAt w (destination (networks d.header) s.from s.tried.0)
 
 -- octets may come from there to port q of node n. A daemon tells its ports apart by the senders: what comes from its own address or from a
 -- stranger it takes on port 0

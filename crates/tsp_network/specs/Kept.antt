@@ -1,5 +1,5 @@
 -- What is promised of every network of daemons, by which addresses its daemons know each other, and which runs of the rules are a network.
-use Rattle.std.specs.Prelude.{◌≡◌, ◌==◌, ℕ, List, length, map, filter, drop, Some, slice_get, ◌≢◌, true, ◌≤◌, [], ◌∷◌}
+use Rattle.std.specs.Prelude.{◌≡◌, ◌==◌, ℕ, ◌&&◌, List, ◌++◌, length, map, filter, drop, take, None, Some, slice_get, ◌≢◌, true, ◌≤◌, [], ◌∷◌}
 use Rattle.tsp_codec.specs.Canon.{canon}
 use Rattle.tsp_run.specs.{Networks.networks, Networks.network_at, Premised.KeptByText, Promises.Promises, declared.posted.Posted.Posted}
 use Rattle.tsp_run.specs.Clocked.{KeptByEvents, PossibleBy, SetByClocks, clocks_of, run_by}
@@ -7,11 +7,12 @@ use Rattle.tsp_run.specs.{Run.posts, Run.run, Setting.SetBy}
 use Rattle.tsp_rules.specs.Guards.{is_clock_value}
 use Rattle.tsp_promises.specs.Setting.{Setting}
 use Rattle.tsp_rules.specs.{Renames.renamed_place, Values.Event, Values.Port, Values.BootAt, Values.Bytes}
-use Rattle.tsp_io.specs.Links.{Tried}
-use Rattle.tsp_network.specs.Lives.{Daemons, Life, session_of, IsStarted, AreStarted}
+use Rattle.tsp_io.specs.Links.{Arrival, Tried}
+use Rattle.tsp_daemon.specs.Posts.{sends_of}
+use Rattle.tsp_network.specs.Lives.{Daemons, Life, session_of, turn_acts, turn_told, IsStarted, AreStarted}
 use Rattle.tsp_network.specs.{Events.IsNetwork, Events.MayCome, Rosters.renaming_on, Rosters.neighbours_on, Rosters.number_for}
-use Rattle.tsp_network.specs.Networks.{Network, Sent, network, daemon_tick, next_life, node_wall}
-use Rattle.tsp_base.specs.Words.{has_member}
+use Rattle.tsp_network.specs.Networks.{Network, Sent, network, daemon_tick, next_life, node_wall, turned_to}
+use Rattle.tsp_base.specs.Words.{Step, has_member}
 use Rattle.tsp_daemon.specs.Serving.{serving_binding}
 
 -- a send is that of a post: of its octets, by its node, to its addressee
@@ -22,7 +23,14 @@ pub record IsSent (d : Daemons) (s : Sent) (p : Posted) : Type 0 where
 
 -- what node n has tried to send of these, in the numbers of its daemon
 abbrev pub tried_by : ℕ → List Sent → List Tried
-tried_by n sent = map (λ s. s.tried) (filter (λ s. s.from == n) sent)
+tried_by n sent = map (λ s. s.tried) (filter (λ s. s.went && (s.from == n)) sent)
+
+-- a daemon that has come to this life takes its last turn at the next event, in which this is told: in its life it has tried what its session
+-- had tried before, and the first m sends of that turn
+abbrev pub TriesFirst : Daemons → List Event → Step → Life → Life → ℕ → Type 0
+TriesFirst d before step life now m =
+    tried_by step.node (drop life.sent_before (turned_to d (length before) step life now (network d before)).sent)
+    ≡ (session_of (d.words step.node) life).outside.tried ++ take m (sends_of (turn_acts (d.words step.node) life now))
 
 -- what the daemons of a network did is the run of its events by its clocks: to the act, and with what they sent; and so it keeps the promises,
 -- each under its premises
@@ -33,6 +41,9 @@ pub record NetworkKept (d : Daemons) (setting : Setting) (events : List Event) :
       slice_get (posts (run_by d.clocks d.header events)) k ≡ Some p → IsSent d s p
   -- what a daemon that runs has tried, as its session has it, is what the network has of it since it started
   pub tried : (n : ℕ) (life : Life) → (network d events).lives n ≡ Some life → (session_of (d.words n) life).outside.tried ≡ tried_by n (drop life.sent_before (network d events).sent)
+  -- a daemon that ends in its next turn, after m of its sends, has tried those
+  pub ended : (step : Step) (life : Life) (arrival : Arrival) (early tick m : ℕ) → (network d events).lives step.node ≡ Some life →
+      d.tries (length events) ≡ Some m → TriesFirst d events step life (turn_told arrival early tick life) m
   pub promises : Promises setting (network d events).history
   pub premises : KeptByEvents d.clocks d.header events
 
@@ -71,7 +82,9 @@ abbrev pub AllSuit : Daemons → List Event → Type 0
 AllSuit d [] = Unit {0}
 AllSuit d (e ∷ before) = Suits d (length before) (network d before) e × AllSuit d before
 
--- all possible events that suit daemons which are started as their header says are a network's, and no others are
+-- all possible events that suit daemons which are started as their header says and don't end in a turn are a network's, and no events are
+-- that are impossible or don't suit
 pub record RunsAreNetworks : Type 0 where
-  pub all : (d : Daemons) (events : List Event) → AreStarted d → AllSuit d events → PossibleBy d.clocks d.header events → IsNetwork d events
+  pub all : (d : Daemons) (events : List Event) → AreStarted d → ((k : ℕ) → d.tries k ≡ None) → AllSuit d events → PossibleBy d.clocks d.header events →
+      IsNetwork d events
   pub only : (d : Daemons) (events : List Event) → IsNetwork d events → AllSuit d events × PossibleBy d.clocks d.header events

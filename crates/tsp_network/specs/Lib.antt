@@ -4,3 +4,4 @@ pub mod Lives
 pub mod NetworkUse
 pub mod Networks
 pub mod Rosters
+pub mod Told

@@ -1,5 +1,5 @@
 -- A daemon of the network, from its start on: what it has been told, and its session.
-use Rattle.std.specs.Prelude.{◌≡◌, ℕ, ◌+◌, ◌<◌, ℤ, true, if◌then◌else◌, List, [], ◌∷◌, ◌++◌, length, map}
+use Rattle.std.specs.Prelude.{◌≡◌, ℕ, ◌+◌, ◌<◌, ℤ, true, if◌then◌else◌, List, [], ◌∷◌, ◌++◌, length, map, Option}
 use Rattle.tsp_base.specs.Words.{HeaderValue, has_member}
 use Rattle.tsp_args.specs.{Serves.IsServe, declared.serve.ServeWords.ServeWords}
 use Rattle.tsp_io.specs.{Links.Arrival, declared.addr.Addr.Addr}
@@ -23,6 +23,8 @@ pub record Daemons : Type 0 where
   pub origin : ℕ → ℕ
   -- for each event, what the daemon's counter says when the turn begins, before the daemon waits
   pub early : ℕ → ℕ
+  -- for each event, after how many of the turn's sends the daemon ended in it, if it did: killed, or out of memory
+  pub tries : ℕ → Option ℕ
 
 -- the addresses of the other members of each network that node n is on: one list for each of its ports. These networks have the numbers from k on
 abbrev pub addresses : (ℕ → ℕ → Addr) → ℕ → ℕ → List (List ℕ) → List (List Addr)

@@ -1,6 +1,6 @@
 -- Two daemons in use: an election, the setting of a clock, a round, and what it corrects. Then what is asked of the events of a network is
 -- needed: without it, what the daemons do isn't the run; and a copy that comes to another daemon than it is addressed to breaks a promise.
-use Rattle.std.specs.Prelude.{◌≡◌, ℕ, zero, suc, ◌==◌, pos, negsuc, true, false, if◌then◌else◌, List, [], ◌∷◌, ◌++◌, codes, ◌≢◌, Some, slice_get}
+use Rattle.std.specs.Prelude.{◌≡◌, ℕ, zero, suc, ◌==◌, pos, negsuc, true, false, if◌then◌else◌, List, [], ◌∷◌, ◌++◌, codes, ◌≢◌, None, Some, slice_get}
 use Rattle.tsp_rules.specs.Values.{Act, Boot, Took, Post, Become, Arm, Ring, Back, Backer, Close, Correct, Sample, Acked, Join, Quiet, Window, Elect, Search, Round, Probe, CloseAlarm, Message, Stamp, Good, Accept, Ack, AdjTime, Election, MasterReq, MasterUp, NodeLine, SetTime, SlaveUp, Peer, Starting, Loose, Follow, Candidate, Master, Request, Reply, Event, BootAt, Turn, Take, Bytes, Place, Stranger}
 use Rattle.tsp_base.specs.Words.{Acts, Begins, Deed, HeaderValue, Line, bare, timed, peer_of as peer, first_port}
 use Rattle.tsp_args.specs.declared.serve.{Candidacy.TheVariants.Never, Candidacy.TheVariants.Plain, ServeWords.ServeWords}
@@ -44,7 +44,16 @@ two_words (suc n) = words_for (networks two_nodes) (codes "b") Never 1
 -- their daemons. Both nodes' ticks begin 1 second before the daemons do, whose counters begin with 0
 abbrev pub two_daemons : Daemons
 two_daemons =
-    record { header = two_nodes; clocks = clocks_of two_nodes; words = two_words; address = network_address; origin = λ k. 1000000; early = λ k. 0 }
+    record {
+      header = two_nodes;
+      clocks = clocks_of two_nodes;
+      words = two_words;
+      address = network_address;
+      origin = λ k. 1000000;
+      early =
+          λ k. 0;
+      tries = λ k. None;
+    }
 
 -- the events, the newest first. In the order of time: both start; they search a master; a stands for election, b backs it, and a is
 -- master; b follows it, is set by a SETTIME and acknowledges it; a round asks b for its clock four times and takes one answer, and its ADJTIME
@@ -142,6 +151,7 @@ one_daemon origin = record {
   address = network_address;
   origin = λ k. origin;
   early = λ k. 0;
+  tries = λ k. None;
 }
 
 -- it starts
@@ -186,7 +196,16 @@ three_words (suc (suc n)) = words_for (networks three_nodes) (codes "c") Never 2
 -- their daemons, whose counters are their nodes' ticks
 abbrev pub three_daemons : Daemons
 three_daemons =
-    record { header = three_nodes; clocks = clocks_of three_nodes; words = three_words; address = network_address; origin = λ k. 0; early = λ k. 0 }
+    record {
+      header = three_nodes;
+      clocks = clocks_of three_nodes;
+      words = three_words;
+      address = network_address;
+      origin = λ k. 0;
+      early =
+          λ k. 0;
+      tries = λ k. None;
+    }
 
 -- the events, the newest first. In the order of time: all start, b and c with one word; b and c back a, which is elected; they follow it; and
 -- it answers b's SLAVEUP by a SETTIME, which is datagram 14

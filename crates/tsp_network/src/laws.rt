@@ -1,6 +1,7 @@
 //! Theorems about every network of daemons. Nothing here runs.
 ghost use Rattle.tsp_network.specs.Kept.{NetworksKeepPromises, NumbersAreAddresses, RunsAreNetworks};
 ghost use Rattle.tsp_network.specs.Kept.{SchedulesAreKept};
+ghost use Rattle.tsp_network.specs.Told.{ServedIsTried, SessionsAreTold};
 ghost use Rattle.tsp_network.specs.NetworkUse.{Misdelivered, NetworkUse, NetworksBreak};
 
 /// What the daemons of a network did is the run of its events by its clocks, to the act, and so it keeps the
@@ -21,6 +22,19 @@ pub fn schedules_are_kept()
 #[tactic(auto, using(crate::proofs::NetworksKeep::numbers_are_addresses))]
 pub fn numbers_are_addresses()
     ensures { NumbersAreAddresses }
+{}
+
+/// A session is told a step at a time: what `serve` promises of a daemon whose outside is told to its end
+/// is, after as many turns, what the network says of it in the life that it has been told so far.
+#[tactic(auto, using(crate::proofs::ToldLemmas::sessions_are_told))]
+pub fn sessions_are_told()
+    ensures { SessionsAreTold }
+{}
+
+/// What `serve` says that a daemon had tried when it ended is what the network has of it: the sends of its
+/// turns, and, if it ended in the middle of a turn's sends, the first of those. All are posts of the run.
+pub fn served_is_tried()
+    ensures { ServedIsTried }
 {}
 
 /// A network's events are the possible ones at which the daemons can do what the nodes do: those, and no

@@ -9,12 +9,14 @@
 //! and its wall clock any in each life. There may be as many nodes as one likes, but each daemon is
 //! started with words that `serve` takes, so it has at most 999 peers. The *life* of a daemon is
 //! all that it has been told since its start: its session is that of its life. Its acts are read in
-//! the numbers of the nodes, and in the ticks of its node.
+//! the numbers of the nodes, and in the ticks of its node. A daemon may end at any time, also after
+//! some of a turn's sends: the others are then posts that never come.
 //!
 //! Read `specs/` in this order: `Rosters` (who is whom: the numbers by which daemons know each
 //! other), `Lives` (how daemons are started, and what they are told), `Networks` (what comes of
 //! each event), `Events` (which events can happen) and `Kept` (what is promised, by which addresses
-//! daemons know each other, and which runs are networks'). `NetworkUse` has examples.
+//! daemons know each other, and which runs are networks'). `Told` ties a life to the clause of
+//! `serve`, which speaks of an outside that is told to its end. `NetworkUse` has examples.
 //! `docs/NETWORK.md` has them with the definitions that they use, and `docs/PROMISES.md` says in
 //! plain words what is asked of clocks, words and datagrams, and what isn't covered.
 //!
@@ -31,6 +33,11 @@
 //!   (`networks_keep_promises`, by `NetworkKept`).
 //! - Where each node counts at one rate, with one wall clock, as a schedule's header says, the
 //!   history is the run of a schedule (`schedules_are_kept`).
+//! - A session is told a step at a time: one whose outside is told to its end, as `serve` speaks of
+//!   it, comes turn by turn as far as the session of a life that has been told the beginning, with
+//!   the same acts and sends (`sessions_are_told`). What `serve` says that a daemon had tried when
+//!   it ended is what the network has of it, also if it ended in the middle of a turn's sends
+//!   (`served_is_tried`).
 //! - The number by which a daemon knows a peer is the place of the peer's address on their network
 //!   among the addresses to which the daemon binds its link (`numbers_are_addresses`).
 //! - All possible events are a network's, if the daemons are started as its nodes say and each

@@ -1,0 +1,5 @@
+pub mod GainLemmas
+pub mod OctetLemmas
+pub mod PastLemmas
+pub mod ReadBack
+pub mod Rising
