@@ -55,7 +55,7 @@ daemon-setting s tick wall = (
   record {
     drift = 0;
     tick = λ n t. t;
-    wall = λ n. wall -ℤ pos tick;
+    wall = λ n life. wall -ℤ pos tick;
     name = λ n. s.name;
     strict = is_strict s.candidacy;
     net = net_of;

@@ -1,0 +1,3 @@
+pub mod NamedProof
+pub mod PageProof
+pub mod WithinProof
