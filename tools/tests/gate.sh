@@ -19,13 +19,22 @@ for row in "$out/circle:one stands below itself" "$out/none:there is no file $ou
     [ "$status" -eq 2 ] && [ "$(cat "$out/told")" = "crate-paths: ${row#*:}" ] && [ ! -s "$out/said" ] || fail "status $status: $(cat "$out/said" "$out/told")"
 done
 
+# Each edit says what it guards, and so does its row of the page.
+! grep -L '^guards: .' crates/*/must-fail/*.edit | grep . || fail 'an edit does not say what it guards'
+for edit in crates/*/must-fail/*.edit; do
+    crate=${edit#crates/}
+    grep -qxF "| \`${crate%%/*}\` | \`$(basename "$edit" .edit)\` | $(sed -n 's/^guards: //p' "$edit") |" docs/GATE.md || fail "docs/GATE.md has no row of $edit"
+done
+mkdir -p "$repository/crates/left/must-fail"
+printf '%s\n' 'guards: that it is so' 'file: src/lib.rt' 'old: true' 'new: false' >"$repository/crates/left/must-fail/is_not_so.edit"
+
 # The page keeps the figures that it has, of crates and of commands, and gets a row for the command, whose status is handed on.
 printf '%s\n' '| `sh -c exit 3` | 5 | 7 | '"$(nproc)"' |' '| `low` | 60 | 7 | 30 | 97 |' '| `left` | 120 |  |  | 120 |' '| `right` | 30 |  |  | 30 |' '| `gone` | 9000 |  |  | 9000 |' >"$repository/docs/GATE.md"
 status=0
 "$repository/dev/gate-times" sh -c 'exit 3' || status=$?
 [ "$status" -eq 3 ] || fail "a command with status 3 gives status $status"
 page=$repository/docs/GATE.md
-for line in '| `sh -c exit 3` | 5 | 7 | '"$(nproc)"' |' '| `sh -c exit 3` | 0 | 0 | '"$(nproc)"' |' '| `low` | 60 | 7 | 30 | 97 | 1 |' '| `left` | 120 |  |  | 120 | 2 |' '| `program` |  |  |  | 0 | 9 |' \
+for line in '| `sh -c exit 3` | 5 | 7 | '"$(nproc)"' |' '| `sh -c exit 3` | 0 | 0 | '"$(nproc)"' |' '| `low` | 60 | 7 | 30 | 97 | 1 |' '| `left` | 120 |  |  | 120 | 2 |' '| `program` |  |  |  | 0 | 9 |' '| `left` | `is_not_so` | that it is so |' \
     'In all, in minutes of one processor: proof 4, tests 0, edits 0, together 4.' \
     'If each proof had one processor, no run would be faster than the longest chain of proofs, which takes 3 minutes:'; do
     grep -qxF -- "$line" "$page" || fail "the page lacks: $line"

@@ -1,7 +1,6 @@
 #!/bin/sh
 # Three daemons on a network that loses, delays and repeats elect one master at a time, agree on the time, and do what the rules say. Time
-# runs so fast there that a machine which stands still for a twentieth of a second is late for an alarm; so what comes too late once is tried
-# once more, and said. Traces that aren't those of the rules are not.
+# runs so fast there that a machine which stands still for a twentieth of a second is late for an alarm.
 . "$(dirname "$0")/common.sh"
 serving_program
 # A run that fails keeps what it names.
@@ -11,11 +10,4 @@ if has cc; then
     kept=$(sed -n 's/^network: what was written is kept in //p' "$out/said")
     [ "$status" -eq 1 ] && [ -d "${kept:-none}" ] && [ -e "$(echo "$kept"/*.trace)" ] || fail "a run that fails keeps '$kept': $(cat "$out/said" "$out/told")"
 fi
-status=0
-dev/network "$program" || status=$?
-if [ "$status" -eq 1 ]; then
-    echo "$check: it failed, and is tried once more"
-    status=0
-    dev/network "$program" || status=$?
-fi
-exit "$status"
+dev/network "$program"

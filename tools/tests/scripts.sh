@@ -28,4 +28,14 @@ done <"$out/python"
 python3 -B tools/tests/names.py $(cat "$out/all") 2>"$out/told" || fail "$(cat "$out/told")"
 echo 'from tsp_texts import schedule; schedule.no_such_name' >"$out/wrong.py"
 ! python3 -B tools/tests/names.py "$out/wrong.py" 2>"$out/told" || fail 'a name that is not there is not found'
+# Only a check that waits in real time may be tried again: one that sleeps, runs a daemon or a command of dev/, or gives a time limit. The others may not.
+grep -v '^#' .ci/real-time >"$out/again"
+sort -u "$out/again" | cmp -s - "$out/again" || fail '.ci/real-time is not in order'
+while IFS= read -r name; do
+    [ -x "tools/tests/$name.sh" ] || fail ".ci/real-time names $name, which is no check"
+    grep -qE 'sleep|serving_program|timeout|systemd' "tools/tests/$name.sh" || fail ".ci/real-time names $name, which doesn't wait"
+done <"$out/again"
+for name in audit bad_inputs commands completion deb documents first-master forecast gate gateway hostile icmp learning limits lint pages plain plot premises replay round scripts sim unit wireshark; do
+    ! grep -qx "$name" "$out/again" || fail ".ci/real-time names $name, which has nothing to wait for"
+done
 echo "$check: $(wc -l <"$out/shell") of shell and $(wc -l <"$out/python") of Python"

@@ -58,6 +58,21 @@ waits_is ports o arrivals now_arrivals tried now_tried calls now_calls readings 
       tick_is = to;
     }
 
+-- the same where the counter is what it was
+pub waits_on : (ports : List PortSetup) (o : Outside) (r : Recv) (buf : List ℕ) (tick : ℕ) (arrivals : Option (List Arrival)) (tried : Option (List Tried)) (calls : Option ℕ) (readings now_readings : Option (List ℕ)) (last now_last : ℕ) →
+    now_readings ≡ readings → now_last ≡ last → Waits ports o r buf tick arrivals tried calls readings last → Waits ports o r buf tick arrivals tried calls now_readings now_last
+waits_on ports o r buf tick arrivals tried calls readings now_readings last now_last same is w = record {
+  tells = record {
+    arrivals_are = w.tells.arrivals_are;
+    tried_are = w.tells.tried_are;
+    calls_are = w.tells.calls_are;
+    readings_are = same ∙ w.tells.readings_are;
+    last_is = is ∙ w.tells.last_is;
+  };
+  given_is = w.given_is;
+  tick_is = w.tick_is;
+}
+
 -- a receive failed
 pub unheard_is : (o : Outside) (arrivals now_arrivals : Option (List Arrival)) (tried now_tried : Option (List Tried)) (calls now_calls : Option ℕ) (readings between : Option (List ℕ)) (last first last_between : ℕ) (stranger now : Bool) (r : Recv) (buf : List ℕ) →
     KnowsExactly o arrivals tried calls readings last → TakesReading readings between last first → last_between ≡ first → ReceivesOne arrivals now_arrivals stranger now r buf → r ≡ Failed → now_tried ≡ tried → now_calls ≡ option_map one_more calls →
@@ -187,3 +202,20 @@ pub finish_unlinked : (sends : List Tried) (text : List ℕ) (tried more : Optio
 finish_unlinked sends text tried more written now WriteFault f e = cc
 finish_unlinked sends text tried more written now OutOfMemory f e = cc
 finish_unlinked sends text tried more written now _ f e = f.1
+
+-- a session is where it was, if the counter is what it was
+pub at_on : (s : Session) (node : Gateway) (counters : Counters) (arrivals : Option (List Arrival)) (tried : Option (List Tried)) (calls : Option ℕ) (readings now_readings : Option (List ℕ)) (last now_last : ℕ) (written : Option (List ℕ)) →
+    now_readings ≡ readings → now_last ≡ last → IsAt s node counters arrivals tried calls readings last written → IsAt s node counters arrivals tried calls now_readings now_last written
+at_on s node counters arrivals tried calls readings now_readings last now_last written same is at = record {
+  stands = at.stands;
+  turns_is = at.turns_is;
+  posts_is = at.posts_is;
+  tells = record {
+    arrivals_are = at.tells.arrivals_are;
+    tried_are = at.tells.tried_are;
+    calls_are = at.tells.calls_are;
+    readings_are = same ∙ at.tells.readings_are;
+    last_is = is ∙ at.tells.last_is;
+  };
+  written_is = at.written_is;
+}

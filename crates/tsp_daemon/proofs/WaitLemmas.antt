@@ -1,5 +1,5 @@
 -- How long receives wait, turn by turn.
-use Rattle.std.proofs.Common.{ap, inl, inr, sym, subst, ◌∙◌, append_assoc, arith, ◌≡◌, ℕ, suc, ◌+◌, List, [], ◌∷◌, ◌++◌, Option, None, Some, refl}
+use Rattle.std.proofs.Common.{ap, inl, inr, sym, subst, ◌∙◌, append_assoc, append-nil, arith, ◌≡◌, ℕ, suc, ◌+◌, List, [], ◌∷◌, ◌++◌, Option, None, Some, refl}
 use Rattle.tsp_gateway.specs.{Dues.IsNodeDue, GatewayStands.GatewayStands, declared.gateway.Gateway.Gateway}
 use Rattle.tsp_io.specs.{Clocks.TakesReading, Links.Arrival, Links.NotesReceive, Links.Tried}
 use Rattle.tsp_rules.specs.NodeRows.{NodePast}
@@ -44,3 +44,8 @@ until_noted i s waits between now arrivals tried calls readings last written _ e
 pub turn_noted : (s : Session) (waits now : Option (List ℕ)) (end : ServeEnd) → NotesWait s waits now → NotesTurn s waits now end
 turn_noted s waits now OutOfMemory n = inr n
 turn_noted s waits now _ n = n
+
+-- before the first turn no receive was made
+pub none_noted : (s : Session) (waits : Option (List ℕ)) → NotesWaits s 0 waits waits
+none_noted s None = tt
+none_noted s (Some before) = ([], sym (append-nil before), refl)

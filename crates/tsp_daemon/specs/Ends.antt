@@ -3,12 +3,12 @@ use Rattle.std.specs.Prelude.{◌≡◌, ◌⊎◌, ℕ, ◌+◌, ◌<◌, ◌�
 use Rattle.std.specs.Option.{option_map}
 use Rattle.tsp_codec.specs.Taken.{taken_of}
 use Rattle.tsp_gateway.specs.{GatewayStands.GatewayStands, declared.gateway.Gateway.Gateway}
-use Rattle.tsp_io.specs.{Links.Arrival, Links.Tried, Streams.Grows, declared.link.Link.Ghosts as LinkOf, declared.link.Recv.Recv}
+use Rattle.tsp_io.specs.{Boards.Mark, Links.Arrival, Links.Tried, Streams.Grows, declared.link.Link.Ghosts as LinkOf, declared.link.Recv.Recv}
 use Rattle.tsp_io.specs.declared.link.Recv.TheVariants.{Datagram}
-use Rattle.tsp_query.specs.Ends.{Outside, KnowsExactly}
+use Rattle.tsp_query.specs.{Ends.Outside, Ends.KnowsExactly, Outside.Paged}
 use Rattle.tsp_rules.specs.{GateRows.NodeGiven, GateRows.NodeTurn, GateRows.GotOn, NodeRows.NodePast, NodeRows.PortSetup}
 use Rattle.tsp_daemon.specs.declared.end.ServeEnd.TheVariants.{Done, LinkFault, WriteFault, OutOfMemory}
-use Rattle.tsp_daemon.specs.{Posts.sends_of, Waits.NotesWaits, declared.counters.Counters.Counters, declared.end.ServeEnd.ServeEnd}
+use Rattle.tsp_daemon.specs.{Pages.MarksIfTold, Posts.sends_of, Waits.NotesWaits, declared.counters.Counters.Counters, declared.end.ServeEnd.ServeEnd}
 use Rattle.tsp_daemon.specs.Sessions.{Session, port_from, acts_in_turn, shown_by_turn, turned, after_turns, unheard, waited, Rises}
 
 -- what a node with these ports is given by the answer of a receive
@@ -95,8 +95,8 @@ abbrev pub ServesUntil : ℕ → ℕ → Session → Option (List Arrival) → O
 ServesUntil turns i s arrivals tried calls readings last written Done = (i ≡ turns) × KnowsExactly (after_turns i s).outside arrivals tried calls readings last × (written ≡ Some (after_turns i s).written)
 ServesUntil turns i s arrivals tried calls readings last written end = (i < turns) × EndsTurn (after_turns i s) arrivals tried calls readings last written end
 
--- after how many turns a session of so many ends, and how; the ticks of its steps never fell; and how many receives it
--- made, each of which waited as long as its turn says
-abbrev pub Serves : ℕ → Session → Option (List Arrival) → Option (List Tried) → Option ℕ → Option (List ℕ) → ℕ → Option (List ℕ) → Option (List ℕ) → Option (List ℕ) → ServeEnd → Type 0
-Serves turns s arrivals tried calls readings last written waits waits_now end =
-    (i : ℕ) × (received : ℕ) × ServesUntil turns i s arrivals tried calls readings last written end × Rises i s × IsReceived i received end × NotesWaits s received waits waits_now
+-- after how many turns a session of so many ends, and how; the ticks of its steps never fell; how many receives it made, each of which waited
+-- as long as its turn says; and what it wrote on its page
+abbrev pub Serves : ℕ → Session → Option (List Arrival) → Option (List Tried) → Option ℕ → Option (List ℕ) → ℕ → Option (List ℕ) → Option (List ℕ) → Option (List ℕ) → Paged → Option (List Mark) → ServeEnd → Type 0
+Serves turns s arrivals tried calls readings last written waits waits_now paged marks end =
+    (i : ℕ) × (received : ℕ) × ServesUntil turns i s arrivals tried calls readings last written end × Rises i s × IsReceived i received end × NotesWaits s received waits waits_now × MarksIfTold paged s i calls marks end

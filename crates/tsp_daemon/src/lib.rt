@@ -41,13 +41,17 @@
 //! - That each line is one write.
 #![tactic(auto)]
 
+mod changes;
 pub mod command;
 mod counters;
 pub mod end;
 pub mod exit;
+mod half;
 pub mod laws;
 mod lines;
 mod node;
+mod page;
+mod room;
 mod sends;
 pub mod serve;
 mod step;

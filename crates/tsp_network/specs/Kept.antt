@@ -1,16 +1,16 @@
 -- What is promised of every network of daemons, by which addresses its daemons know each other, and which runs of the rules are a network.
-use Rattle.std.specs.Prelude.{◌≡◌, ◌==◌, ℕ, ◌&&◌, List, ◌++◌, length, map, filter, drop, take, None, Some, slice_get, ◌≢◌, true, ◌≤◌, [], ◌∷◌}
+use Rattle.std.specs.Prelude.{◌≡◌, ◌==◌, ℕ, ◌&&◌, List, ◌++◌, length, map, filter, drop, take, None, Some, slice_get, ◌≢◌, true, ◌<◌, ◌≤◌, [], ◌∷◌}
 use Rattle.tsp_codec.specs.Canon.{canon}
-use Rattle.tsp_run.specs.{Networks.networks, Networks.network_at, Premised.KeptByText, Promises.Promises, declared.posted.Posted.Posted}
+use Rattle.tsp_run.specs.{Networks.networks, Networks.network_at, Premised.KeptByText, Promises.Promises, declared.address.Address.Address, declared.posted.Posted.Posted}
 use Rattle.tsp_run.specs.Clocked.{KeptByEvents, PossibleBy, SetByClocks, clocks_of, run_by}
 use Rattle.tsp_run.specs.{Run.posts, Run.run, Setting.SetBy}
 use Rattle.tsp_rules.specs.Guards.{is_clock_value}
 use Rattle.tsp_promises.specs.Setting.{Setting}
-use Rattle.tsp_rules.specs.{Renames.renamed_place, Values.Event, Values.Port, Values.BootAt, Values.Bytes}
+use Rattle.tsp_rules.specs.{Renames.renamed_place, Values.Event, Values.Port, Values.BootAt, Values.Bytes, Values.Take, Values.Turn}
 use Rattle.tsp_io.specs.Links.{Arrival, Tried}
 use Rattle.tsp_daemon.specs.Posts.{sends_of}
 use Rattle.tsp_network.specs.Lives.{Daemons, Life, session_of, turn_acts, turn_told, IsStarted, AreStarted}
-use Rattle.tsp_network.specs.{Events.IsNetwork, Events.MayCome, Rosters.renaming_on, Rosters.neighbours_on, Rosters.number_for}
+use Rattle.tsp_network.specs.{Events.IsNetwork, Events.MayCome, Rosters.renaming_on, Rosters.destination, Rosters.neighbours_on, Rosters.number_for}
 use Rattle.tsp_network.specs.Networks.{Network, Sent, network, daemon_tick, next_life, node_wall, turned_to}
 use Rattle.tsp_base.specs.Words.{Step, has_member}
 use Rattle.tsp_daemon.specs.Serving.{serving_binding}
@@ -70,12 +70,18 @@ abbrev pub NumbersAreAddresses : Type 0
 NumbersAreAddresses = (d : Daemons) (n : ℕ) (q : Port) (k m : ℕ) → IsStarted d n → network_at n q (networks d.header) ≡ Some k → has_member m (neighbours_on n q.0 (networks d.header)) ≡ true → m ≢ n →
     slice_get (serving_binding (d.words n)).peers (number_for n q.0 m (networks d.header)) ≡ Some (d.address k m)
 
--- daemons do what a node does at event k: if it starts, after its counter does, and with a wall clock that a daemon takes; and if octets are
--- handed to it, a daemon can take them so
+-- the daemon that runs on node n, if one does, has taken fewer turns than its words say
+abbrev pub HasTurn : Daemons → Network → ℕ → Type 0
+HasTurn d w n = (life : Life) → w.lives n ≡ Some life → length life.arrivals < (d.words n).turns
+
+-- daemons do what a node does at event k: if it starts, after its counter does, and with a wall clock that a daemon takes; and else with a turn
+-- that is left to it; and if octets are handed to it, a daemon can take them so
 abbrev pub Suits : Daemons → ℕ → Network → Event → Type 0
 Suits d k w (BootAt at node word) = (d.origin k ≤ daemon_tick d node at) × (is_clock_value (node_wall d node (next_life w node) at) ≡ true)
-Suits d k w (Bytes at node port from octets) = MayCome (networks d.header) node port from × (length octets ≤ 512)
-Suits d k w _ = Unit {0}
+Suits d k w (Turn at node) = HasTurn d w node
+Suits d k w (Take at number) =
+    (s : Sent) (a : Address) → slice_get w.sent number ≡ Some s → destination (networks d.header) s.from s.tried.0 ≡ Some a → HasTurn d w a.node
+Suits d k w (Bytes at node port from octets) = MayCome (networks d.header) node port from × (length octets ≤ 512) × HasTurn d w node
 
 -- at each of these events, the newest of which comes first
 abbrev pub AllSuit : Daemons → List Event → Type 0

@@ -16,7 +16,8 @@
 //! other), `Lives` (how daemons are started, and what they are told), `Networks` (what comes of
 //! each event), `Events` (which events can happen) and `Kept` (what is promised, by which addresses
 //! daemons know each other, and which runs are networks'). `Told` ties a life to the clause of
-//! `serve`, which speaks of an outside that is told to its end. `NetworkUse` has examples.
+//! `serve`, which speaks of an outside that is told to its end. `NetworkUse` and `ClocksUse` have
+//! examples.
 //! `docs/NETWORK.md` has them with the definitions that they use, and `docs/PROMISES.md` says in
 //! plain words what is asked of clocks, words and datagrams, and what isn't covered.
 //!
@@ -43,7 +44,10 @@
 //! - All possible events are a network's, if the daemons are started as its nodes say and each
 //!   event is one that a daemon can be told; and no others are (`runs_are_networks`).
 //! - Two daemons elect a master, which sets the other's clock and corrects it after a round
-//!   (`network_use`). What is asked of events is needed: with a counter that begins after its
+//!   (`network_use`). Two whose counters change their rates at any times, by 160 parts in a million,
+//!   do so too, also after one has started again with another wall clock (`clocks_use`): a counter
+//!   may change its rate as often as it likes (`any_paces_keep_time`). What is asked of events is
+//!   needed: with a counter that begins after its
 //!   daemon, or octets on a port where a daemon can't take them so, the history is another than
 //!   the run's (`networks_can_be_broken`), and a copy that comes to another than its addressee
 //!   breaks a promise (`misdelivered`).

@@ -26,6 +26,7 @@ returns-in-Failed-clause-serves g c = λ o wall word written k. inl (
     tells = Tells_bound o _ _ _ _ _ _ _ _ c.bind.ensures.same.0 c.bind.ensures.same.1 c.bind.ensures.counted k.tells;
     written_is = k.written_is;
     unwaited = c.bind.ensures.same.2;
+    unmarked = refl;
   })),
 )
 
@@ -38,11 +39,12 @@ returns-clause-serves g c = λ o wall word written k. inl (
     tells = Tells_bound o _ _ _ _ _ _ _ _ c.bind.ensures.same.0 c.bind.ensures.same.1 c.bind.ensures.counted k.tells;
     written_is = k.written_is;
     unwaited = c.bind.ensures.same.2;
+    unmarked = refl;
   })),
 )
 
 pub returns-in_default-clause-serves : goal.returns-in_default-clause-serves
-returns-in_default-clause-serves g c = λ o wall word written k. inl (refl, refl, inl (record { cause = refl; tells = k.tells; written_is = k.written_is; unwaited = refl }))
+returns-in_default-clause-serves g c = λ o wall word written k. inl (refl, refl, inl (record { cause = refl; tells = k.tells; written_is = k.written_is; unwaited = refl; unmarked = refl }))
 
 pub returns-in-Bound-clause-link : goal.returns-in-Bound-clause-link
 returns-in-Bound-clause-link g c = Counts-from _ _ _ _ _ (c.bind.ensures.still (λ e. cc)) (λ e. e) (λ e. e) c.serve_bound.ensures.link

@@ -1,0 +1,16 @@
+pub mod AloneLeadsProof
+pub mod AloneProof
+pub mod CauseLeads
+pub mod CauseNodes
+pub mod InTimeProof
+pub mod NeverLateProof
+pub mod NodeKeeps
+pub mod NodeWakes
+pub mod PaceProof
+pub mod PortWakes
+pub mod ProgressProof
+pub mod RunWakes
+pub mod SendsEndProof
+pub mod StandsProof
+pub mod Waking
+pub mod WatchChecks

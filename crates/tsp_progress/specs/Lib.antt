@@ -1,0 +1,13 @@
+pub mod AlarmsFit
+pub mod AloneLeads
+pub mod AloneStands
+pub mod CausesFit
+pub mod InTime
+pub mod NeverLate
+pub mod Progress
+pub mod RunsWake
+pub mod SendsEnd
+pub mod Stands
+pub mod Wakes
+pub mod Watched
+pub mod Worked

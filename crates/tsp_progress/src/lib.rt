@@ -1,0 +1,4 @@
+//! What happens, and by when, where each node is looked at in time. Nothing here runs.
+#![tactic(auto)]
+
+pub mod laws;
