@@ -18,7 +18,7 @@ sys.path[:0] = TOOLS, HERE
 import tsp_clock  # noqa: E402
 from tsp_clock import DAEMON_AT, DAEMON_FIELDS, LOOK_AT, LOOK_FIELDS, SEQUENCE, SIZE, Daemon, Look, Page  # noqa: E402
 from tsp_daemon import page as pages, trace  # noqa: E402
-from tsp_daemon.keeper import Keeper  # noqa: E402
+from tsp_daemon.keeper import Keeper, Listener  # noqa: E402
 from tsp_daemon.page import NoPage, PageFile, Taken  # noqa: E402
 from tsp_witness.datagram import octets_of  # noqa: E402
 import made_page  # noqa: E402
@@ -261,7 +261,7 @@ class Asked:
     """Questions that are answered at once, by a master whose clock is ahead by so much, and whom it names."""
 
     def __init__(self, page, ahead, names):
-        self.page, self.ahead, self.names, self.between = page, ahead, names, None
+        self.page, self.ahead, self.names, self.between, self.other = page, ahead, names, None, ()
 
     @staticmethod
     def now():
@@ -276,7 +276,10 @@ class Asked:
         reading = daemon.target_at(daemon.tick_at(self.now())) + self.ahead
         heard(reading, sent, self.now())
 
-    def ask_master(self, _, heard):
+    def ask_master(self, address, heard):
+        if address[1] == 9:
+            heard(*self.other)
+            return
         if self.between:
             self.between()
         heard(*self.names)
@@ -287,7 +290,10 @@ def looks():
     path = os.path.join(FOLDER, 'looked')
     page = PageFile(path)
     page.keep()
-    keeper = Keeper(Still(), page, [('127.0.0.1', 9), ('127.0.0.1', 10)], ['a', 'b', 'c'], 50, None)
+    told = []
+    listener = Listener()
+    listener.other_leads = lambda *names: told.append(names)
+    keeper = Keeper(Still(), page, [[('127.0.0.1', 9), ('127.0.0.1', 10)], [('127.0.0.1', 9)]], ['a', 'b', 'c', 'd'], 50, listener)
     follows = made_page.following(10 ** 15, 2)
     ahead = 5000
 
@@ -308,6 +314,16 @@ def looks():
         found = seen(('c',), lambda change=change: made_page.change(path, daemon=follows.daemon._replace(**change)))
         wanted(found.had == 0, f'a look counts though meanwhile there is {change}')
     wanted(seen(('c',), daemon=follows.daemon._replace(moved=0, steps=0, tick=1)).had == 0, 'a daemon that was never corrected looks')
+    # (another one leads, on the master's network, where the master doesn't)
+    wanted(not told, f'it tells of {told}')
+    made_page.change(path, daemon=follows.daemon)
+    keeper.seen = follows.daemon
+    for names, other, wants in (((), ('b',), [('c', 'b')]), ((), ('c',), []), ((), ('',), []), (('b',), ('b',), [('c', 'b')]), (('c',), ('b',), []), ((), ('d',), [])):
+        told.clear()
+        keeper.stamps = Asked(page, ahead, names)
+        keeper.stamps.other = other
+        keeper.look()
+        wanted(told == wants, f'where the master names {names} and another host {other} it tells of {told}')
     # (a correction since the look shifts the interval)
     seen(('c',))
     before = tsp_clock.now_of(*page.read())

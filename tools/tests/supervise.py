@@ -636,26 +636,26 @@ def rated():
         server.ready()
         clock = tsp_clock.Clock(server.path('clock'))
         until(lambda: clock.now().status == tsp_clock.WAITING, 'the page isn\'t written')
-        page, _ = clock.read()
-        wanted(page.rate == rate, f'the page has the rate {page.rate}')
+        daemon = clock.read()[0].daemon
+        wanted(daemon.rate == rate, f'the page has the rate {daemon.rate}')
         begun, misses = time.monotonic(), 0
         while time.monotonic() < begun + 1:
-            sent = time.monotonic_ns()
+            sent = time.clock_gettime_ns(daemon.counter)
             server.link.sendto(REQUEST, server.address)
-            reading, got = int.from_bytes(server.link.recv(512)[20:], 'big'), time.monotonic_ns()
-            misses += not within(page._replace(rate=0), sent, reading, got)
-            wanted(within(page, sent, reading, got), f'the daemon answers {reading}, and the page {[page.target_at(page.tick_at(now)) for now in (sent, got)]}')
+            reading, got = int.from_bytes(server.link.recv(512)[20:], 'big'), time.clock_gettime_ns(daemon.counter)
+            misses += not within(daemon._replace(rate=0), sent, reading, got)
+            wanted(within(daemon, sent, reading, got), f'the daemon answers {reading}, and the page {[daemon.target_at(daemon.tick_at(now)) for now in (sent, got)]}')
             time.sleep(0.005)
         wanted(bool(misses) == bool(rate), f'without the rate {rate} the page is {misses} times another one')
         server.end()
         told = re.findall(r'^[0-9]+ 0 0 ([0-9]+) post [0-9]+ - reply [0-9]+ 1 2 ([0-9]+)$', server.read(server.out), re.MULTILINE)
-        wanted(len(told) > 50 and all(page.target_at(int(tick)) == int(reading) for tick, reading in told), 'the page is another one than the trace')
+        wanted(len(told) > 50 and all(daemon.target_at(int(tick)) == int(reading) for tick, reading in told), 'the page is another one than the trace')
 
 
-def within(page, sent, reading, got):
-    """Whether a reading lies between what a page gives before and after it, as far as that is known."""
-    low, high = (page.target_at(page.tick_at(now)) for now in (sent, got))
-    return low - page.off - 1 <= reading <= high + page.off + 1
+def within(daemon, sent, reading, got):
+    """Whether a reading lies between what a page gives before and after it."""
+    low, high = (daemon.target_at(daemon.tick_at(now)) for now in (sent, got))
+    return low <= reading <= high
 
 
 def gone():

@@ -31,12 +31,28 @@ class Asked:
         return min(self.found, key=lambda found: found[1] - found[0])
 
 
-class Keeper:
-    """Whoever keeps a page. `peers` are the addresses of peers 1, 2 and so on, and `names` all names from the own on. `gone` is told what became of the
-    page's file."""
+class Listener:
+    """Who is told of the page, and of the network."""
 
-    def __init__(self, loop, page, peers, names, drift, gone):
-        self.loop, self.page, self.peers, self.names, self.drift, self.gone = loop, page, peers, names, drift, gone
+    def page_mended(self, what):
+        """Something had become of the page's file, which is whole again."""
+
+    def page_gone(self, fault):
+        """The page's file is gone for good."""
+
+    def other_leads(self, master, other):
+        """The master that the daemon follows doesn't lead any more, and another host does: both by their names."""
+
+
+class Keeper:
+    """Whoever keeps a page. `networks` are the addresses of the peers of each network, which have the numbers 1, 2 and so on over all of them, and `names`
+    all names from the own on."""
+
+    def __init__(self, loop, page, networks, names, drift, listener):
+        self.loop, self.page, self.names, self.drift, self.listener = loop, page, names, drift, listener
+        self.peers = [peer for peers in networks for peer in peers]
+        # (the network of each number)
+        self.place = [None, *(place for place, peers in enumerate(networks) for _ in peers)]
         self.counter, self.seen, self.before, self.asked, self.learned = RAW, None, None, None, 0
         self.stamps = Stamps(loop, lambda: time.clock_gettime_ns(self.counter))
 
@@ -66,9 +82,9 @@ class Keeper:
         try:
             found = self.page.mend()
             if found:
-                self.gone(f'the page of the network\'s time {found}; it is whole again')
+                self.listener.page_mended(found)
         except OSError as fault:
-            self.gone(fault)
+            self.listener.page_gone(fault)
 
     def daemon(self) -> Daemon:
         """The daemon's half, or None where this daemon wrote none yet."""
@@ -89,9 +105,12 @@ class Keeper:
         if daemon.role == LEADS:
             tick = daemon.tick_at(self.stamps.now())
             self.write(daemon, 0, 0, tick, 0)
-        elif daemon.role == FOLLOWS and 0 < daemon.master <= len(self.peers) and (daemon.moved or daemon.steps or daemon.tick >= QUIET):
+        elif daemon.role == FOLLOWS and 0 < daemon.master <= len(self.peers):
             self.asked = Asked(daemon)
-            self.ask()
+            if daemon.moved or daemon.steps or daemon.tick >= QUIET:
+                self.ask()
+            else:
+                self.answered()
 
     def ask(self):
         """Asks the master for its clock once more."""
@@ -104,16 +123,31 @@ class Keeper:
             if len(self.asked.found) < TIMES:
                 self.ask()
                 return
-        if self.asked.found:
-            self.stamps.ask_master(self.peers[self.asked.daemon.master - 1], self.named)
+        self.stamps.ask_master(self.peers[self.asked.daemon.master - 1], self.named)
 
     def named(self, name=None):
         """Whom the master names. A host that started again names nobody for minutes, and one that was sent away names another one: its clock, which was read
         before this, isn't that of the master any more, so the look doesn't count."""
         daemon, wanted = self.daemon(), self.names[self.asked.daemon.master]
+        if not daemon or not self.asked.is_of(daemon):
+            return
         # (a peer whose name isn't known stands by its address)
-        if daemon and self.asked.is_of(daemon) and name and (name == wanted or ':' in wanted):
-            self.write(daemon, *self.asked.best(), daemon.master)
+        if name and (name == wanted or ':' in wanted):
+            if self.asked.found:
+                self.write(daemon, *self.asked.best(), daemon.master)
+        else:
+            self.seek(daemon.master)
+
+    def seek(self, master):
+        """The master that the daemon follows is silent, or says that it leads no more: the others are asked whether one of them does."""
+        for number, name in enumerate(self.names[1:], 1):
+            if number != master and self.place[number] == self.place[master]:
+                self.stamps.ask_master(self.peers[number - 1], lambda named=None, name=name: self.found(master, name, named))
+
+    def found(self, master, name, named):
+        """A host names a master: if that is itself, the daemon follows one that is gone."""
+        if named and named == name and self.seen and self.seen.role == FOLLOWS and self.seen.master == master:
+            self.listener.other_leads(self.names[master], name)
 
     def write(self, daemon, low, high, tick, master):
         """Writes a look."""

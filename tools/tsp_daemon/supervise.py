@@ -6,6 +6,7 @@ both, and the status is then 0. A daemon that ends before it ever answered ends 
 again, but where that is no use. SIGHUP reads the hosts file again.
 """
 import os
+import random
 import signal
 import sys
 
@@ -30,6 +31,8 @@ MOST_SAID = 65536
 DRIFT = 100
 # After how many seconds a page is tried again that another supervisor keeps.
 TRY_PAGE = 5
+# A daemon is started again to follow another master within so many seconds, and not again for so many.
+SPREAD, SELDOM = 10, 600
 # Seconds: between two looks at the machine, by how many the alarm for its waking is later, between two starts at least, between two tries at most,
 # after which a daemon has held, and for the last lines.
 LOOK, WAKING, APART, LONGEST_PAUSE, HELD, LAST_LINES = 1, 0.1, 1, 60, 60, 0.3
@@ -52,7 +55,7 @@ class Supervisor:
         if self.alarm.file is not None:
             self.loop.watch(self.alarm.file, self.look)
         self.has_answered, self.was_switched, self.pause, self.started, self.left_out = False, False, APART, -APART, 0
-        self.unkept = ''
+        self.unkept, self.followed = '', -SELDOM
         self.keeper = self.kept()
         # (where the rate is to be learned)
         self.learned = learn.Kept(learn.path_of(), self.say) if os.environ.get('TSP_RATE') == learn.WORD else None
@@ -72,10 +75,15 @@ class Supervisor:
             if isinstance(fault, Taken):
                 self.loop.after('get-page', TRY_PAGE, self.keep)
             return None
-        peers = [hosts.pair_of(word) for word in self.words[6:] if word != '+']
-        names = self.names or [self.words[3], *self.words[6:]]
+        networks = [[]]
+        for word in self.words[6:]:
+            if word == '+':
+                networks.append([])
+            else:
+                networks[-1].append(hosts.pair_of(word))
+        names = self.names or [word for word in self.words[3:4] + self.words[6:] if word != '+']
         os.environ['TSP_PAGE'] = path
-        return Keeper(self.loop, page, peers, names, int(os.environ.get('TSP_DRIFT', DRIFT)), self.page_gone)
+        return Keeper(self.loop, page, networks, names, int(os.environ.get('TSP_DRIFT', DRIFT)), self)
 
     def keep(self):
         """Tries to get the page that another supervisor kept. The daemon has to start again to write it."""
@@ -83,16 +91,26 @@ class Supervisor:
         if self.keeper:
             self.begin_again('the page of the network\'s time is free now')
 
-    def page_gone(self, what):
-        """Something became of the page's file; where it can't be put back, the page is made anew, which needs another start of the daemon."""
-        if isinstance(what, str):
-            self.say(what)
-            return
+    def page_mended(self, what):
+        """Something had become of the page's file."""
+        self.say(f'the page of the network\'s time {what}; it is whole again')
+
+    def page_gone(self, fault):
+        """The page's file is gone for good: it is made anew, which needs another start of the daemon."""
         self.end_daemon()
         self.keeper.page.close()
         self.keeper = self.kept()
-        self.say(f'the page of the network\'s time is gone: {what.strerror}; it is made anew, and the daemon is started again')
+        self.say(f'the page of the network\'s time is gone ({fault.strerror}); it is made anew, and the daemon is started again')
         self.start()
+
+    def other_leads(self, master, other):
+        """The daemon follows a master that is gone, and another one leads. By the rules it would wait for its own election, and each one that is held
+        lets all others wait anew: so it is started again, and finds the other one. (not all hosts at once, and not often)"""
+        if os.environ.get('TSP_FOLLOW') == 'wait' or self.loop.now() - self.followed < SELDOM or 'follow' in self.loop.times:
+            return
+        self.followed = self.loop.now()
+        why = f'{master}, which the daemon follows, doesn\'t lead any more, and {other} does'
+        self.loop.after('follow', random.uniform(0, SPREAD), lambda: self.begin_again(why))
 
     @property
     def learning(self):
@@ -202,7 +220,7 @@ class Supervisor:
 
     def end_daemon(self):
         """Ends the daemon, if it runs."""
-        self.loop.cancel('watch', 'start')
+        self.loop.cancel('watch', 'start', 'follow')
         if self.serving:
             self.serving.end()
         if self.keeper:
