@@ -492,27 +492,39 @@ def replaced():
 
 
 def learned():
-    """The daemon counts with the rate that was learned, and takes a new one when it starts again; a file without a rate is told of; `--rate learn`
-    goes on where the hosts file is read again."""
+    """The daemon counts with the rate that was learned, and takes a new one when it starts again; a file without a rate, of another counter, or that is none,
+    is told of; `--rate learn` goes on where the hosts file is read again. Of two supervisors only the first one keeps what it learns."""
     file = Supervised.path('rate')
-    for text, rate in (('', 0), ('123456 90\n123456 20\n', 123456), ('1000001 9\n', 0)):
+    no_rate = 'it has no rate from -1000000 to 1000000, and its error'
+    for text, rate, fault in (('', 0, no_rate), ('123456 90\n123456 20\ncounter raw\n', 123456, None), ('1000001 9\n', 0, no_rate),
+                              ('123456 90\n', 0, 'it was learned of another counter than the raw one')):
         with open(file, 'w', encoding='ascii') as out:
             out.write(text)
         server = Supervised('--rate', 'learn', TSP_LEARN=file)
         first = server.ready()
         wanted(variable(first, 'TSP_RATE') == str(rate), f'the file has {text!r}, and the daemon has the rate {variable(first, "TSP_RATE")}')
-        told = f'{file}: it has no rate from -1000000 to 1000000, and its error; the rate is 0'
-        wanted((told in server.read()) == (rate == 0), f'it says {server.read()}')
+        wanted((f'{file}: {fault}; the rate is 0' in server.read()) == bool(fault), f'it says {server.read()}')
+        wanted(('more than TSP_DRIFT, 100 parts in a million' in server.read()) == (rate > 100_000), f'it says {server.read()}')
         if rate:
             server.write_hosts('b 127.0.0.1:1 slave')
             os.rename(file, file + '.1')
             with open(file, 'w', encoding='ascii') as out:
-                out.write('-5000 9\n')
+                out.write('-5000 9\ncounter raw\n')
             server.process.send_signal(signal.SIGHUP)
             until(lambda: server.daemon() not in (None, first) and server.answers(), 'the daemon isn\'t started again')
             wanted(variable(server.daemon(), 'TSP_RATE') == '-5000', 'a daemon that starts again doesn\'t take what was learned')
             wanted('the daemon counts -5000 parts in 10^9 faster than the machine' in server.read(), f'it says {server.read()}')
         server.end()
+    one = Supervised('--rate', 'learn', TSP_LEARN=file)
+    one.ready()
+    pipe = Supervised.path('pipe')
+    os.mkfifo(pipe)
+    for place, fault in ((file, 'another supervisor keeps what it learns there, so what this one learns isn\'t kept'), (pipe, 'it is no file; the rate is 0')):
+        other = Supervised('--rate', 'learn', TSP_LEARN=place)
+        other.ready()
+        wanted(f'{place}: {fault}' in other.read(), f'it says {other.read()}')
+        other.end()
+    one.end()
 
 
 def variable(pid, name):

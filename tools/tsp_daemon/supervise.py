@@ -173,6 +173,9 @@ class Supervisor:
         os.environ['TSP_RATE'] = str(rate)
         if rate:
             self.say(f'the daemon counts {rate} parts in 10^9 faster than the machine')
+        drift = int(os.environ.get('TSP_DRIFT', DRIFT))
+        if abs(rate) > 1000 * drift:
+            self.say(f'that is more than TSP_DRIFT, {drift} parts in a million, allows a counter to be wrong: are intervals wide enough?')
 
     def hear(self, lines, left_out):
         """Hands lines on. The questions of supervisors are left out, and only counted."""
