@@ -19,6 +19,7 @@ refuses 2 'COMMAND, or --status (tsp-run --help says more)' tools/tsp-run
 refuses 2 'COMMAND, or --status (tsp-run --help says more)' tools/tsp-run --all
 export TSP_FAKETIME="$out/none"
 refuses 125 "there is no $out/none: install libfaketime, or name it by TSP_FAKETIME" tools/tsp-run true
+TSP_FAKETIME=/dev/null refuses 125 '/dev/null is no library, so no program would be led' tools/tsp-run true
 unset TSP_FAKETIME
 tools/tsp-run --help | grep -q '^usage: tsp-run ' || fail 'there is no help'
 
