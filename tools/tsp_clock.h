@@ -170,7 +170,7 @@ static inline int tsp_is_sound(const tsp_daemon *d)
 /* Whether a supervisor can have written this half. */
 static inline int tsp_is_sound_look(const tsp_look *l)
 {
-    return l->had == 1 && l->drift <= 1000 && TSP_ABOVE(l->moved, TSP_FARTHEST) <= 2 * TSP_FARTHEST
+    return l->drift <= 1000 && TSP_ABOVE(l->moved, TSP_FARTHEST) <= 2 * TSP_FARTHEST
         && TSP_ABOVE(l->low, TSP_FARTHEST) <= 2 * TSP_FARTHEST && TSP_ABOVE(l->high, TSP_FARTHEST) <= 2 * TSP_FARTHEST;
 }
 
@@ -214,7 +214,7 @@ static inline int tsp_interval_of(const tsp_halves *page, int64_t tick, tsp_time
         time->earliest = time->latest = target;
         return TSP_SYNCHRONISED;
     }
-    if (!tsp_is_sound_look(l) || l->life != d->life || l->looked > (uint64_t)tick)
+    if (l->had != 1 || l->life != d->life || l->looked > (uint64_t)tick)
         return TSP_WAITING;
     time->age = tick - (int64_t)l->looked;
     spread = tsp_spread((int64_t)l->drift, time->age);
@@ -238,10 +238,10 @@ static inline int tsp_time_of(const tsp_halves *page, int64_t now, tsp_time *tim
 {
     const tsp_daemon *d = &page->daemon;
     int64_t tick;
-    if (now < 0 || !tsp_is_sound(d))
+    if (now < 0 || now >> 62 != 0 || !tsp_is_sound(d) || !tsp_is_sound_look(&page->look))
         return tsp_is_stale(d, time);
     tick = tsp_tick_at(d, now);
-    if ((uint64_t)tick > (uint64_t)TSP_LAST_TICK || (uint64_t)tick - d->alive > (uint64_t)TSP_LASTS)
+    if ((uint64_t)tick > (uint64_t)TSP_LAST_TICK || d->alive > (uint64_t)tick || (uint64_t)tick - d->alive > (uint64_t)TSP_LASTS)
         return tsp_is_stale(d, time);
     time->life = d->life;
     time->steps = d->steps;

@@ -33,8 +33,9 @@ SLEW, MILLION, BILLION = 200, 1_000_000, 1_000_000_000
 # How often a page that is being written is read again at once, and then for how many seconds after pauses of so many.
 AT_ONCE, PATIENCE, PAUSE = 64, 0.04, 0.00005
 NEVER = -1 << 63
-# The greatest numbers of a page: an origin's nanoseconds, ticks, times and drifts.
+# The greatest numbers of a page: an origin's nanoseconds, ticks, times and drifts; and the greatest nanosecond of a clock.
 MOST_ORIGIN, MOST_ORIGIN_TICK, MOST_TICK, MOST_TIME, MOST_DRIFT = 1 << 62, 1 << 51, 1 << 53, 1 << 56, 1000
+MOST_NOW = 1 << 62
 
 
 class Daemon(NamedTuple):
@@ -100,10 +101,13 @@ class Look(NamedTuple):
     learned: int = 0
     name: bytes = b''
 
+    def is_sound(self):
+        """Whether a supervisor can have written this."""
+        return self.drift <= MOST_DRIFT and all(abs(value) <= MOST_TIME for value in (self.moved, self.low, self.high))
+
     def is_of(self, daemon, tick):
-        """Whether a supervisor can have written this about a daemon until a tick."""
-        return (self.had == 1 and self.life == daemon.life and self.looked <= tick and self.drift <= MOST_DRIFT
-                and all(abs(value) <= MOST_TIME for value in (self.moved, self.low, self.high)))
+        """Whether this is of a look for a daemon, which was before a tick."""
+        return self.had == 1 and self.life == daemon.life and self.looked <= tick
 
 
 class Page(NamedTuple):
@@ -142,7 +146,7 @@ def now_of(page, now):
     """The time that a page gives at a nanosecond of the daemon's clock."""
     daemon, look = page
     tick = daemon.tick_at(now)
-    if not daemon.is_sound() or not daemon.is_alive(tick):
+    if not 0 <= now < MOST_NOW or not daemon.is_sound() or not look.is_sound() or not daemon.is_alive(tick):
         return Now(life=daemon.life, steps=daemon.steps)
     role = daemon.role if daemon.role <= LEADS else NOBODY
     said = Now(daemon.shown_at(tick), status=WAITING, life=daemon.life, steps=daemon.steps, role=role)

@@ -70,6 +70,19 @@ if unshare -rm true 2>/dev/null; then
 else
     skip 'there are no namespaces' 'a page without room'
 fi
+# The header tells what the proved functions tell, of a million pages. TSP_PAGES says of how many.
+library=crates/tsp_page_c/out/libtsp_page_c.a
+judged=''
+[ -e "$library" ] || ! has rt || (cd crates/tsp_page_c && rt lib >"$out/made" 2>&1) || fail "there is no $library: $(tail -n 3 "$out/made")"
+if [ -e "$library" ]; then
+    # shellcheck disable=SC2086
+    cc -std=c99 -O2 -Wall -Wextra -Werror -Itools -o "$out/judge" tools/tests/clock_judge.c "$library" || fail 'there is no judge of pages'
+    "$out/judge" "${TSP_PAGES:-1000000}" "${TSP_SEED:-1}" >"$out/said" || fail "the header tells something else than the proved functions: $(cat "$out/said")"
+    awk '{ for (i = 1; i < NF; i += 2) if ($i < 1000) exit 1 } END { exit NR != 1 }' "$out/said" || fail "there are too few pages of a status: $(cat "$out/said")"
+    judged=", ${TSP_PAGES:-1000000} pages as the proved functions have them"
+else
+    skip 'there is no rt' 'the header beside the proved functions'
+fi
 mkdir "$out/pages"
 python3 tools/tests/clock.py "$program" "$out/reader" "$out/pages" "${TSP_MOMENTS:-30000}" "${TSP_SEED:-1}" >"$out/told" || fail 'the page is another one'
 # A short form of dev/read-cost; how much a read may cost is looked at on a machine that has nothing else to do.
@@ -81,4 +94,4 @@ for words in '--reads 0' a '--most x'; do
     dev/read-cost $words >"$out/text" 2>"$out/said" || status=$?
     [ "$status" -eq 2 ] && [ "$(wc -l <"$out/said")" -eq 1 ] && [ ! -s "$out/text" ] || fail "'$words': status $status, $(cat "$out/said")"
 done
-echo "$check: $(cat "$out/told")$tried; a read in C takes $(sed -n 's/.*, *\([0-9.]*\) times as long/\1/p' "$out/cost" | head -n 1) times as long as clock_gettime"
+echo "$check: $(cat "$out/told")$judged$tried; a read in C takes $(sed -n 's/.*, *\([0-9.]*\) times as long/\1/p' "$out/cost" | head -n 1) times as long as clock_gettime"
