@@ -2,7 +2,7 @@
 use Rattle.std.proofs.Common.{sym, ap, subst, subst₂, ◌∙◌, arith, get_or, take, ◌≡◌, ◌<◌, ◌≤◌, ◌+◌, ℕ, ℤ, pos, ◌+ℤ◌, Bool, true, false, MatchBool, MatchOption, Option, None, List, [], ◌∷◌, length, refl, is_some, Some}
 use Rattle.std.proofs.lemmas.List.{get_or_default}
 use Rattle.tsp_rules.specs.Values.{Post, Correct, Datagram, Message, PeerId, Place, Peer, Follow}
-use Rattle.tsp_base.specs.Words.{Acts, Came, Here, Line, Seen, dids, of, view, MessageValue, HeaderValue, lives, moved, role, tick_at, Within, begun_to, is_correction, is_numbered, heard, peer_of, posted, time_in}
+use Rattle.tsp_base.specs.Words.{Acts, Came, Here, Line, Seen, dids, of, view, MessageValue, HeaderValue, lives, moved, role, Within, begun_to, is_correction, is_numbered, heard, peer_of, posted, time_in}
 use Rattle.tsp_promises.specs.{Once.Brings, Once.Obeys, Once.ObeysAt, Once.SpacedAt, ClockAt.clock_at, CorrectFits.amount_of, Fits.node_of, Setting.Setting}
 use Rattle.tsp_promises.proofs.{OwnFitsProof.view-line, SendPlaces.post_unique, SendPlaces.posted-mono, SendPlaces.posted-post, SendPlaces.same-number}
 use Rattle.tsp_history.proofs.HistoryLemmas.{history-more}

@@ -1,9 +1,9 @@
 -- The history of a daemon's node fits, whoever sends to it: its boot and each turn add a step that does.
-use Rattle.std.proofs.Common.{sym, ap, ◌∙◌, subst, arith, inr, ◌≡◌, ℕ, zero, suc, ◌+◌, ◌*◌, ◌<◌, ◌≤◌, ◌==◌, if◌then◌else◌, ℤ, pos, negsuc, nat_abs, Bool, true, false, List, [], ◌∷◌, length, None, Some, slice_index_or, refl}
+use Rattle.std.proofs.Common.{sym, ap, ◌∙◌, subst, arith, inr, ◌≡◌, ℕ, zero, suc, ◌+◌, ◌*◌, ◌<◌, ◌≤◌, ◌==◌, if◌then◌else◌, ℤ, Bool, true, false, List, [], ◌∷◌, length, None, Some, slice_index_or, refl}
 use Rattle.std.proofs.lemmas.Bool.{ne_eqb}
 use Rattle.tsp_args.specs.{Serves.IsServe, declared.serve.ServeWords.ServeWords}
 use Rattle.tsp_rules.specs.Values.{Placed, PeerId, Place, Peer, Stranger, Port}
-use Rattle.tsp_base.specs.Words.{Acts, Begins, Booted, Cause, Line, Step, Turned, dids, of, view, first_port, joined, line_of, time_of, up, posted, tick_at}
+use Rattle.tsp_base.specs.Words.{Acts, Begins, Booted, Cause, Line, Step, Turned, dids, of, view, first_port, joined, line_of, time_of, up, posted}
 use Rattle.tsp_base.proofs.PlaceLemmas.{Within-all}
 use Rattle.tsp_gateway.specs.{GateConfigs.peers_of_ports, PortOf.has_other_peer, PortOf.port_of_from, Rooms.room_of_ports}
 use Rattle.tsp_io.specs.{Links.Arrival, declared.addr.Addr.Addr}
@@ -55,11 +55,6 @@ joined-posts step x (p ∷ rest) h =
     let more = joined-posts step x rest (line_of step x p.port (Acts p.act) ∷ h) in
     let one = posted_more (Acts p.act) (posted (dids h)) in
     omega (arith, more, one)
-
--- a clock without drift ticks as true time does
-flat : (r : ℤ) (x : ℕ) → nat_abs r ≤ 0 → x ≡ tick_at r x
-flat (pos r) x small = let none : r ≡ 0 = omega (arith, small) in rw none (omega arith)
-flat (negsuc r) x small = absurd (omega (arith, small))
 
 -- each port has the daemon's number
 own-setups : (done : ℕ) (ports : List (List Addr)) (k : ℕ) → (slice_index_or (setups_from done ports) k no_port).own.0 ≡ 0
@@ -215,7 +210,7 @@ module _ {s : ServeWords} {setting : Setting} {tick : ℕ} {wall : ℤ} (is : Is
       let g : NodeGiven = GotOn q from taken in
       let mid : NodePast = turn_begun g x past in
       let ok = got_ok setting (step_of (turn_cause g) x) x past.lines (did_in (step_of (turn_cause g) x) x Begins ∷ dids past.lines) mid q from taken
-          (four past r.0.ports) given r.1 tt in (
+      (four past r.0.ports) given r.1 tt in (
         one-step n t x past (turn_cause g) (answers_all g) r.0 later turns (λ fresh. (answers_all_lead g).run x mid (given, fresh)) ok,
         up-after x (turn_cause g) past (answers_all g x mid) r.1,
       )

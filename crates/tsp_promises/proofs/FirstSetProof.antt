@@ -1,5 +1,5 @@
 -- How far a clock is behind its master's after a SETTIME.
-use Rattle.std.proofs.Common.{sym, ap, arith, subst, subst₂, mul-le-mul_left, ◌∙◌, ◌≡◌, ◌≤◌, ◌≤ℤ◌, ℕ, ◌+◌, ◌-◌, ◌*◌, ℤ, pos, ◌+ℤ◌, ◌-ℤ◌, true, List, ◌∷◌, refl}
+use Rattle.std.proofs.Common.{sym, ap, arith, subst, subst₂, mul-le-mul_left, ◌∙◌, ◌≡◌, ◌≤◌, ◌≤ℤ◌, ℕ, ◌+◌, ◌-◌, ◌*◌, ℤ, pos, ◌+ℤ◌, ◌-ℤ◌, nat_abs, true, List, ◌∷◌, refl}
 use Rattle.std.proofs.lemmas.Int.{ints}
 use Rattle.tsp_rules.specs.Values.{Message, Peer, LAST, LIFE}
 use Rattle.tsp_base.specs.Words.{Did, Line, of, dids, plain, view, target, up, Within, Undisturbed, peer_of, time_in, width}
@@ -73,6 +73,9 @@ low-sum b tm tf tk tc t f c v w e o p x y = rw e (omega (arith, ints))
 high-sum : (b : ℤ) (tm tf tk tc t f c v w : ℕ) → b ≡ (pos tm -ℤ pos tf) -ℤ (pos tk -ℤ pos tc) → f ≤ c → c ≤ t → tm ≤ tf + (t - f) + v → tc + (t - c) ≤ tk + w → b ≤ℤ pos (c - f + (v + w))
 high-sum b tm tf tk tc t f c v w e o p x y = rw e (omega (arith, ints))
 
+both-sides : (b : ℤ) (n w : ℕ) → (pos n -ℤ pos w) ≤ℤ b → b ≤ℤ pos (n + w) → pos (nat_abs (b -ℤ pos n)) ≤ℤ pos w
+both-sides b n w low high = omega (arith, ints, low, high)
+
 not-ahead : (b : ℤ) (tm tf tk : ℕ) → b ≡ (pos tm -ℤ pos tf) -ℤ (pos tk -ℤ pos tk) → tf ≤ tm → pos 0 ≤ℤ b
 not-ahead b tm tf tk e x = rw e (omega (arith, ints))
 
@@ -92,10 +95,9 @@ later setting m c past h f s t by =
     let rk = setting.tick k in
     let v = width setting.drift (t - a) in
     let w = width setting.drift (t - b) in
-    record {
-      low = low-sum (behind setting m c h t) (rm t) (rm a) (rk t) (rk b) t a b v w (d.gap t) order by one.1 two.0;
-      high = high-sum (behind setting m c h t) (rm t) (rm a) (rk t) (rk b) t a b v w (d.gap t) order by one.0 two.1;
-    }
+    let low = low-sum (behind setting m c h t) (rm t) (rm a) (rk t) (rk b) t a b v w (d.gap t) order by one.1 two.0 in
+    let high = high-sum (behind setting m c h t) (rm t) (rm a) (rk t) (rk b) t a b v w (d.gap t) order by one.0 two.1 in
+    record { near = both-sides (behind setting m c h t) (b - a) (v + w) low high }
 
 at-once : (setting : Setting) (m : ℕ) (c : Line) (past h : List Line) → Fits setting h → (s : SetBy m c past h) → BehindAtOnce setting m c past h s
 at-once setting m c past h f s =

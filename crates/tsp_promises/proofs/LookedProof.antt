@@ -1,8 +1,8 @@
 -- Why a look at a clock bounds how far that clock is ahead later.
-use Rattle.std.proofs.Common.{arith, subst, mul-le-mul_left, ◌≡◌, ℕ, ◌+◌, ◌-◌, ◌*◌, ◌/◌, ◌≤◌, ℤ, pos, ◌-ℤ◌, ◌+ℤ◌, ◌≤ℤ◌, List}
+use Rattle.std.proofs.Common.{sym, arith, subst, mul-le-mul_left, ◌≡◌, ℕ, ◌+◌, ◌-◌, ◌*◌, ◌/◌, ◌≤◌, ℤ, pos, ◌-ℤ◌, ◌+ℤ◌, ◌≤ℤ◌, List}
 use Rattle.std.proofs.lemmas.Int.{ints}
 use Rattle.tsp_base.specs.Words.{Line, width}
-use Rattle.tsp_promises.specs.Looked.{Look, ticks_since, width_by_ticks, IsAhead, Looked}
+use Rattle.tsp_promises.specs.Looked.{Look, width_by_ticks, IsAhead, Looked}
 use Rattle.tsp_promises.{proofs.Clocks.tick-mono, proofs.ClockProof.offset, proofs.MasterMoved.offset_kept, specs.Fits.Fits, specs.Setting.Setting}
 
 -- the drift of a span, rounded up
@@ -66,10 +66,10 @@ looked-from setting h fits k m t look b le =
 pub looked : (setting : Setting) (h : List Line) → Fits setting h → Looked setting h
 looked setting h fits k m t look = (
   looked-from setting h fits k m t look (width setting.drift (t - look.middle)) (omega arith),
-  λ short. looked-from setting h fits k m t look (width_by_ticks setting.drift (ticks_since setting look))
-      (by_ticks setting.drift (t - look.middle) (ticks_since setting look) setting.small (reach) short),
+  λ x is short. looked-from setting h fits k m t look (width_by_ticks setting.drift x)
+      (by_ticks setting.drift (t - look.middle) x setting.small (subst (λ y. t - look.middle ≤ y + part setting.drift (t - look.middle)) (sym is) reach) short),
 ) where
-  reach : t - look.middle ≤ ticks_since setting look + part setting.drift (t - look.middle)
+  reach : t - look.middle ≤ (setting.tick k t - setting.tick k look.first) + part setting.drift (t - look.middle)
   reach =
       let n : look.middle ≤ t = let i = look.begins in let j = look.ends in let q = look.passed in omega arith in
       let mid = sharp_over setting k look.middle t n in

@@ -9,8 +9,8 @@ pub data Network : Type 0 where
   Named : (k : ℕ) → Network
   Alone : (n : ℕ) → (q : ℕ) → Network
 
--- a counter keeps this drift (parts in a million): it never falls, and over x microseconds of true time it advances by x, give or take the
--- drift, rounded up
+-- a counter keeps this drift (parts in a million): it never falls, and over each span of true time (microseconds) it advances by that span,
+-- give or take the drift of it, rounded up
 pub record KeepsTime (drift : ℕ) (tick : ℕ → ℕ) : Type 0 where
   pub rises : (s x : ℕ) → tick s ≤ tick (s + x)
   pub fast : (s x : ℕ) → tick (s + x) ≤ tick s + x + (drift * x + 999999) / 1000000
