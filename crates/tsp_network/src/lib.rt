@@ -49,8 +49,9 @@
 //!   do so too, also after one has started again with another wall clock (`clocks_use`): a counter
 //!   may change its rate as often as it likes (`any_paces_keep_time`). What is asked of events is
 //!   needed: with a counter that begins after its daemon, or octets on a port where a daemon can't
-//!   take them so, the history is another than the run's (`networks_can_be_broken`), and a copy
-//!   that comes to another than its addressee breaks a promise (`misdelivered`).
+//!   take them so, the history is another than the run's (`networks_can_be_broken`); a copy that
+//!   comes to another than its addressee breaks a promise (`misdelivered`); and so does one wall
+//!   clock for all lives, where there were two (`lives_count`).
 //!
 //! # What is neither proved nor tested
 //!
