@@ -1,7 +1,8 @@
 -- What a daemon writes on its page.
-use Rattle.std.specs.Prelude.{◌≡◌, ◌⊎◌, ℕ, zero, suc, ◌+◌, ◌-◌, ◌*◌, ◌%◌, ◌^◌, ◌≤◌, ◌==◌, ◌||◌, nat_abs, nat_le, min, ℤ, pos, negsuc, ◌-ℤ◌, Bool, true, false, if◌then◌else◌}
+use Rattle.std.specs.Prelude.{◌≡◌, ◌⊎◌, ℕ, zero, suc, ◌+◌, ◌-◌, ◌*◌, ◌%◌, ◌^◌, ◌≤◌, ◌==◌, ◌||◌, nat_abs, nat_le, min, ℤ, pos, negsuc, ◌-ℤ◌, Bool, true, false}
+use Rattle.std.specs.Prelude.{if◌then◌else◌}
 use Rattle.std.specs.Prelude.{List, [], ◌∷◌, ◌++◌, Option, None, Some}
-use Rattle.std.specs.{Int.w64, Int.to_le_bytes, Option.option_map}
+use Rattle.std.specs.{Int.w64, Int.to_le_bytes}
 use Rattle.tsp_base.specs.Words.{dids, last_correct, rest, target, word}
 use Rattle.tsp_gateway.specs.Standings.{standing}
 use Rattle.tsp_gateway.specs.declared.standing.Standing.{Standing, TheVariants.Follows, TheVariants.Leads}

@@ -56,7 +56,8 @@ pub record HasBadWall (o : Outside) (wall : ℤ) (written : List ℕ) (waits : O
   pub unmarked : now.page ≡ page
 
 -- the wall clock is in its range, and the daemon ends as its session does
-pub record IsServed (s : ServeWords) (o : Outside) (wall : ℤ) (word : ℕ) (written : List ℕ) (waits : Option (List ℕ)) (page : Paged) (now : Observed) (served : DaemonExit) : Type 0 where
+pub record IsServed (s : ServeWords) (o : Outside) (wall : ℤ) (word : ℕ) (written : List ℕ) (waits : Option (List ℕ)) (page : Paged) (now : Observed)
+    (served : DaemonExit) : Type 0 where
   pub within : is_clock_value wall ≡ true
   pub end : ServeEnd
   pub served_is : served ≡ served_of end
@@ -71,16 +72,19 @@ pub record IsServed (s : ServeWords) (o : Outside) (wall : ℤ) (word : ℕ) (wr
   pub marked : MarksIfTold page (first_session s o wall word written) taken now.calls now.page.marks end
   pub boarded : KeepsPage page now.page
   -- what its node did in these turns keeps all that is promised without premises
-  pub kept : (setting : Setting) → SetByWords s (read_once o).last wall setting → HistoryKept setting (after_turns taken (first_session s o wall word written)).past.lines
+  pub kept : (setting : Setting) → SetByWords s (read_once o).last wall setting →
+      HistoryKept setting (after_turns taken (first_session s o wall word written)).past.lines
 
 -- what comes of a daemon once its link is bound
 abbrev pub BoundServes : ServeWords → Outside → ℤ → ℕ → List ℕ → Option (List ℕ) → Paged → Observed → DaemonExit → Type 0
 BoundServes s o wall word written waits page now served =
-    IsRefused (read_once o) written waits page now served ⊎ HasBadWall o wall written waits page now served ⊎ IsServed s o wall word written waits page now served
+    IsRefused (read_once o) written waits page now served ⊎ HasBadWall o wall written waits page now served ⊎
+    IsServed s o wall word written waits page now served
 
 -- the same, if all of the outside is told at its beginning
 abbrev pub BoundServesIfTold : ServeWords → Observed → Observed → DaemonExit → Type 0
-BoundServesIfTold s before now served = (o : Outside) (wall : ℤ) (word : ℕ) (written : List ℕ) → Knows o wall word written before → BoundServes s o wall word written before.waits before.page now served
+BoundServesIfTold s before now served = (o : Outside) (wall : ℤ) (word : ℕ) (written : List ℕ) → Knows o wall word written before →
+    BoundServes s o wall word written before.waits before.page now served
 
 -- the bind failed: no tick was read, and nothing was sent or written
 pub record ServesNothing (o : Outside) (written : List ℕ) (waits : Option (List ℕ)) (page : Paged) (now : Observed) (served : DaemonExit) : Type 0 where
@@ -100,8 +104,10 @@ ServesUnbound o written waits page now served =
 abbrev pub ServesAs : ServeWords → Outside → ℤ → ℕ → List ℕ → Observed → Observed → DaemonExit → Type 0
 ServesAs s o wall word written before now served =
     ((now.binds ≡ before.binds) × (now.left_at_wall ≡ before.left_at_wall) × ServesUnbound o written before.waits before.page now served)
-    ⊎ (NotesReceive before.binds now.binds (serving_binding s) × (now.left_at_wall ≡ Some (Some (read_once o).readings)) × BoundServes s (after_bind o) wall word written before.waits before.page now served)
+    ⊎ (NotesReceive before.binds now.binds (serving_binding s) × (now.left_at_wall ≡ Some (Some (read_once o).readings)) ×
+    BoundServes s (after_bind o) wall word written before.waits before.page now served)
 
 -- the same, if all of the outside is told at its beginning
 abbrev pub ServesIfTold : ServeWords → Observed → Observed → DaemonExit → Type 0
-ServesIfTold s before now served = (o : Outside) (wall : ℤ) (word : ℕ) (written : List ℕ) → Knows o wall word written before → ServesAs s o wall word written before now served
+ServesIfTold s before now served = (o : Outside) (wall : ℤ) (word : ℕ) (written : List ℕ) → Knows o wall word written before →
+    ServesAs s o wall word written before now served
