@@ -266,3 +266,13 @@ alone_leads m setting late world f w a slack = Everywhere-from (AloneLeadsAt m l
     (stands_on (m n) seen wakes.acts (rising setting q (of n before) (own_fits setting n before whole.1)))
     (paced setting late before whole.1 attended.1 (m n) n q wakes.acts)
     (Everywhere-at (AttendedAt late) l before world a within begins q) start idle stood-is other)
+
+-- whether a place is one of this port
+abbrev pub is_here : List Seen → Bool
+is_here (Here d ∷ idle) = true
+is_here _ = false
+
+-- what is said of a port that has a role, where it has one
+pub has_role : (place : List Seen) (x most : ℕ) → ((start : Did) (idle : List Seen) → place ≡ Here start ∷ idle → x ≤ most) → is_here place ≡ true → x ≤ most
+has_role (Here d ∷ idle) x most k e = k d idle refl
+has_role _ x most k e = wrong e

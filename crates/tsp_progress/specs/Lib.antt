@@ -3,6 +3,7 @@ pub mod AloneLeads
 pub mod AloneStands
 pub mod CausesFit
 pub mod InTime
+pub mod Needed
 pub mod NeverLate
 pub mod Progress
 pub mod RunsWake

@@ -114,3 +114,9 @@ pub fn runs_progress()
 pub fn clocked_runs_progress()
     ensures { ClockedRunsProgress }
 {}
+
+ghost use Rattle.tsp_progress.specs.Needed.{Needed};
+/// Each premise is needed: small histories and runs without it, of which the promise isn't so.
+pub fn needed()
+    ensures { Needed }
+{}
