@@ -1,20 +1,29 @@
 -- Each row of a port puts its acts in the order that they need.
 use Rattle.std.proofs.Common.{true≢false, ◌∙◌, ◌≡◌, ℕ, ℤ, ◌+◌, Bool, true, false, List, [], ◌∷◌, Option, None, Some, inl, inr, is_some, map, refl}
-use Rattle.tsp_rules.specs.Values.{Act, Took, Become, Arm, Ring, Late, Back, Quit, Abandon, Alarm, Quiet, Search, Elect, Window, Probe, CloseAlarm, ResolveAlarm, Round, PeerId, Place, Port, Role, Loose, Follow, Candidate, Master, Kind, Election, MasterReq, MasterUp, QuitKind, Taken, WINDOW, ROUND, PROBE, CLOSE, WAIT, SPAN}
-use Rattle.tsp_base.specs.Words.{Acts, Deed, Did, Estimate, MessageValue, Past, Received, Row, Seen, Leads, arms, for_each, grown, nothing, others, puts, posts_to_others, either_by, reading, taken, taken_after, ◌followed_by◌}
+use Rattle.tsp_rules.specs.Values.{Act, Took, Become, Arm, Ring, Late, Back, Quit, Abandon, Alarm, Quiet, Search, Elect, Window, Probe, CloseAlarm}
+use Rattle.tsp_rules.specs.Values.{ResolveAlarm, Round, PeerId, Place, Port, Role, Loose, Follow, Candidate, Master, Kind, Election, MasterReq, MasterUp}
+use Rattle.tsp_rules.specs.Values.{QuitKind, Taken, WINDOW, ROUND, PROBE, CLOSE, WAIT, SPAN}
+use Rattle.tsp_base.specs.Words.{Acts, Deed, Did, Estimate, MessageValue, Past, Received, Row, Seen, Leads, arms, for_each, grown, nothing, others, puts}
+use Rattle.tsp_base.specs.Words.{posts_to_others, either_by, reading, taken, taken_after, ◌followed_by◌}
 use Rattle.tsp_base.proofs.LeadsLemmas.{Leads_then, Leads_either, Leads_reading, Leads_nothing, Leads_puts, Leads_each, Leads_from, Leads_to}
 use Rattle.tsp_group.specs.{Groups.group_of, declared.group.Group.Group}
 use Rattle.tsp_rules.specs.CandidateRows.{has_won, lead_row, yields, window_rings}
 use Rattle.tsp_rules.specs.CommonRows.{arms_elect, backs_own, candidature_row, own_at, searches}
 use Rattle.tsp_rules.specs.SlaveRows.{quiet_rings, rings_or_late, search_rings, loosens, elect_rings}
-use Rattle.tsp_rules.specs.{ResolveRows.resolve_rings, ResolveRows.quits_rivals, ClockRows.adjusts, ClockRows.can_adjust, GateRows.loosens_master, GateRows.repost, GateRows.reposts, GateRows.sends_loops}
-use Rattle.tsp_rules.specs.RoundRows.{Standing, round_rings, begins_or_waits, round_begins, asks, asks_slaves, probe_rings, asks_measured, arms_next, abandons, has_more, measured_at, close_act, close_rings, closes, closes_with, corrects_by, corrects_peer, estimates, mean_by, moves, round_at}
+use Rattle.tsp_rules.specs.{ResolveRows.resolve_rings, ResolveRows.quits_rivals, ClockRows.adjusts, ClockRows.can_adjust, GateRows.loosens_master}
+use Rattle.tsp_rules.specs.{GateRows.repost, GateRows.reposts, GateRows.sends_loops}
+use Rattle.tsp_rules.specs.RoundRows.{Standing, round_rings, begins_or_waits, round_begins, asks, asks_slaves, probe_rings, asks_measured, arms_next, abandons}
+use Rattle.tsp_rules.specs.RoundRows.{has_more, measured_at, close_act, close_rings, closes, closes_with, corrects_by, corrects_peer, estimates, mean_by, moves}
+use Rattle.tsp_rules.specs.RoundRows.{round_at}
 use Rattle.tsp_rules.specs.Guards.{delay_at, is_due, is_in_time, is_own, may_stand_at, follows_at, table_at, rivals_at}
 use Rattle.tsp_rules.specs.SendRows.{begins, begins_to_others, due_sends, others_at}
 use Rattle.tsp_rules.specs.Answers.{alarm_rings, handles, rings, takes}
-use Rattle.tsp_rules.proofs.Emits.{Sort, Posting, Numbering, Moving, Asking, Emits, Keeps_by, is_in, is_part, sort_of, sort_of_kind, Emits_posts_to_others, Emits_adjusts}
-use Rattle.tsp_rules.proofs.{EmitsBuilt.emits_built, EmitsBuilt.nothing_owed, Unchanged.unchanged, Built.At, Built.Built, Built.Corrects, RowCodes.Asks, BuiltGate.built_sends_loops}
-use Rattle.tsp_rules.proofs.{BuiltShared.built_begins, BuiltSends.built_due_sends, BuiltSends.send_sorts, BuiltRounds.correct_sorts, BuiltRounds.built_corrects_by}
+use Rattle.tsp_rules.proofs.Emits.{Sort, Posting, Numbering, Moving, Asking, Emits, Keeps_by, is_in, is_part, sort_of, sort_of_kind, Emits_posts_to_others}
+use Rattle.tsp_rules.proofs.Emits.{Emits_adjusts}
+use Rattle.tsp_rules.proofs.{EmitsBuilt.emits_built, EmitsBuilt.nothing_owed, Unchanged.unchanged, Built.At, Built.Built, Built.Corrects, RowCodes.Asks}
+use Rattle.tsp_rules.proofs.{BuiltGate.built_sends_loops}
+use Rattle.tsp_rules.proofs.{BuiltShared.built_begins, BuiltSends.built_due_sends, BuiltSends.send_sorts, BuiltRounds.correct_sorts}
+use Rattle.tsp_rules.proofs.{BuiltRounds.built_corrects_by}
 use Rattle.tsp_progress.specs.CausesFit.{CausesFit, Heard, Unheard, backs_itself_now, elects_by, loosens_by, newest_is, searches_by, seeks_by, wins_by}
 use Rattle.tsp_progress.specs.AlarmsFit.{stands_now}
 use Rattle.tsp_progress.proofs.{PortWakes.no_near, PortWakes.out_of, Waking.near_sorts}
@@ -51,7 +60,8 @@ took_leads from t = Leads_puts (Took from t) (λ x past h. record { causes = (in
 
 pub takes_cause : (steer charge : Bool) (from : Place) (t : Taken) → Leads Caused (takes steer charge from t) Caused
 unfolding takes
-takes_cause steer charge from t = Leads_then {Q = Hearing} (puts (Took from t)) (either_by (is_own from) nothing (handles steer charge from t)) (took_leads from t)
+takes_cause steer charge from t = Leads_then {Q = Hearing} (puts (Took from t)) (either_by (is_own from) nothing (handles steer charge from t))
+    (took_leads from t)
     (Leads_to unhear (heard_row (either_by (is_own from) nothing (handles steer charge from t))))
 
 pub gives_up_cause : Leads Hearing loosens_master Caused
@@ -106,9 +116,13 @@ other-cause _ e = refl
 
 emits-cause : (sorts : List Sort) (row : Row) → no_near sorts ≡ true → Emits sorts row → Leads Caused row Caused
 unfolding puts
-emits-cause sorts row apart e = record { run = λ x past h. Keeps_by {T = ℕ} sorts (λ p n. Caused n p) row (λ a i y p n k. keeps-cause a (other-cause a (out_of sorts apart (sort_of a) i)) y p k) e x past x h }
+emits-cause sorts row apart e = record {
+  run = λ x past h. Keeps_by {T = ℕ} sorts (λ p n. Caused n p) row
+      (λ a i y p n k. keeps-cause a (other-cause a (out_of sorts apart (sort_of a) i)) y p k) e x past x h;
+}
 
-built-cause : {sorts : List Sort} {k c : ℕ} {r r' : Row} → is_part sorts sorts ≡ true → no_near sorts ≡ true → Built unchanged nothing_owed sorts k c r r' → Leads Caused r Caused
+built-cause : {sorts : List Sort} {k c : ℕ} {r r' : Row} → is_part sorts sorts ≡ true → no_near sorts ≡ true → Built unchanged nothing_owed sorts k c r r' →
+    Leads Caused r Caused
 built-cause {sorts} {r = r} own apart d = emits-cause sorts r apart (emits_built own d)
 
 to-others : (kind : Kind) → is_in (sort_of_kind kind) (Posting ∷ Numbering ∷ []) ≡ true → Leads Caused (posts_to_others kind 0) Caused
@@ -144,7 +158,8 @@ MaySearch x past = CausesFit past.seen × (newest_is searches_by past.seen ≡ t
 
 searches-cause : Leads MaySearch searches Caused
 unfolding searches arms MaySearch
-searches-cause = Leads_then {Q = Caused} (arms Search WINDOW) (posts_to_others MasterReq 0) (record { run = λ x past h. (inr h.1, h.0) }) (to-others MasterReq refl)
+searches-cause = Leads_then {Q = Caused} (arms Search WINDOW) (posts_to_others MasterReq 0) (record { run = λ x past h. (inr h.1, h.0) })
+    (to-others MasterReq refl)
 
 elects-cause : {deed : Deed} → seeks_by deed ≡ true → Leads (Newest deed) arms_elect Caused
 unfolding arms_elect arms
@@ -156,8 +171,10 @@ yields-cause e = Leads_then {Q = Newest (Acts (Become Loose))} (puts (Become Loo
 
 quiet-cause : Leads Caused quiet_rings Caused
 unfolding quiet_rings MaySearch
-quiet-cause = Leads_then {Q = Newest (Acts (Ring Quiet))} (puts (Ring Quiet)) (puts (Become Loose) followed_by searches) (newest (Ring Quiet) (λ x past h. h) refl)
-    (Leads_then {Q = Newest (Acts (Become Loose))} (puts (Become Loose)) searches (loosens-cause refl) (Leads_from (λ x past h. (h.causes, h.is searches_by)) searches-cause))
+quiet-cause = Leads_then {Q = Newest (Acts (Ring Quiet))} (puts (Ring Quiet)) (puts (Become Loose) followed_by searches)
+    (newest (Ring Quiet) (λ x past h. h) refl)
+    (Leads_then {Q = Newest (Acts (Become Loose))} (puts (Become Loose)) searches (loosens-cause refl) (Leads_from (λ x past h. (h.causes, h.is searches_by))
+    searches-cause))
 
 -- Elect may be armed
 Seeking : ℕ → Past → Type 0
@@ -189,7 +206,8 @@ backs-cause = Leads_reading own_at (λ own. puts (Back own)) (λ own. Leads_puts
 
 elections-cause : Leads Caused (begins_to_others Election) Caused
 unfolding begins_to_others
-elections-cause = Leads_reading others_at (for_each (begins Election)) (λ ps. Leads_from (λ x past h. h.0) (Leads_each (begins Election) ps (λ p. built-cause {sorts = Numbering ∷ []} refl refl (built_begins Election p tt refl refl))))
+elections-cause = Leads_reading others_at (for_each (begins Election)) (λ ps. Leads_from (λ x past h. h.0)
+    (Leads_each (begins Election) ps (λ p. built-cause {sorts = Numbering ∷ []} refl refl (built_begins Election p tt refl refl))))
 
 candidature-cause : Leads (Newest (Acts (Ring Elect))) candidature_row Caused
 unfolding candidature_row Stood BackedNow arms
@@ -206,31 +224,38 @@ loosening-cause = Leads_either follows_at (puts (Become Loose)) nothing
 
 elect-cause : Leads Caused elect_rings Caused
 unfolding elect_rings
-elect-cause = Leads_either (is_in_time Elect) (puts (Ring Elect) followed_by either_by may_stand_at candidature_row (loosens followed_by searches)) (puts (Late Elect) followed_by arms_elect)
-    (Leads_then {Q = Newest (Acts (Ring Elect))} (puts (Ring Elect)) (either_by may_stand_at candidature_row (loosens followed_by searches)) (newest (Ring Elect) (λ x past h. h.0) refl)
+elect-cause = Leads_either (is_in_time Elect) (puts (Ring Elect) followed_by either_by may_stand_at candidature_row (loosens followed_by searches))
+    (puts (Late Elect) followed_by arms_elect)
+    (Leads_then {Q = Newest (Acts (Ring Elect))} (puts (Ring Elect)) (either_by may_stand_at candidature_row (loosens followed_by searches))
+    (newest (Ring Elect) (λ x past h. h.0) refl)
     (Leads_either may_stand_at candidature_row (loosens followed_by searches) (Leads_from (λ x past h. h.0) candidature-cause)
     (Leads_from (λ x past h. h.0) (Leads_then {Q = MaySearch} loosens searches loosening-cause searches-cause))))
     (Leads_then {Q = Newest (Acts (Late Elect))} (puts (Late Elect)) arms_elect (newest (Late Elect) (λ x past h. h.0) refl) (elects-cause refl))
 
 leads-cause : Leads (Newest (Acts (Ring Window))) lead_row Caused
 unfolding lead_row
-leads-cause = Leads_then {Q = Caused} (puts (Become Master)) (arms Round ROUND followed_by posts_to_others MasterUp 0) (Leads_puts (Become Master) (λ x past h. (inr (h.is wins_by), h.causes)))
+leads-cause = Leads_then {Q = Caused} (puts (Become Master)) (arms Round ROUND followed_by posts_to_others MasterUp 0)
+    (Leads_puts (Become Master) (λ x past h. (inr (h.is wins_by), h.causes)))
     (Leads_then {Q = Caused} (arms Round ROUND) (posts_to_others MasterUp 0) (free-arms Round ROUND (λ at. refl)) (to-others MasterUp refl))
 
 window-cause : Leads Caused window_rings Caused
 unfolding window_rings
 window-cause = Leads_either (is_in_time Window) (puts (Ring Window) followed_by either_by has_won lead_row yields) (puts (Late Window) followed_by yields)
     (Leads_then {Q = Newest (Acts (Ring Window))} (puts (Ring Window)) (either_by has_won lead_row yields) (newest (Ring Window) (λ x past h. h.0) refl)
-    (Leads_either has_won lead_row yields (Leads_from (λ x past h. h.0) leads-cause) (Leads_from (λ x past h. h.0) (yields-cause {deed = Acts (Ring Window)} refl))))
+    (Leads_either has_won lead_row yields (Leads_from (λ x past h. h.0) leads-cause)
+    (Leads_from (λ x past h. h.0) (yields-cause {deed = Acts (Ring Window)} refl))))
     (Leads_then {Q = Newest (Acts (Late Window))} (puts (Late Window)) yields (newest (Late Window) (λ x past h. h.0) refl) (yields-cause refl))
 
 -- the other alarms
 
 resolve-cause : Leads Caused resolve_rings Caused
 unfolding resolve_rings quits_rivals
-resolve-cause = Leads_either (is_in_time ResolveAlarm) (puts (Ring ResolveAlarm) followed_by reading rivals_at (for_each (begins QuitKind))) (puts (Late ResolveAlarm))
-    (Leads_from (λ x past h. h.0) (Leads_then {Q = Caused} (puts (Ring ResolveAlarm)) (reading rivals_at (for_each (begins QuitKind))) (free_puts (Ring ResolveAlarm) refl)
-    (Leads_reading rivals_at (for_each (begins QuitKind)) (λ ps. Leads_from (λ x past h. h.0) (Leads_each (begins QuitKind) ps (λ p. built-cause {sorts = Numbering ∷ []} refl refl (built_begins QuitKind p tt refl refl)))))))
+resolve-cause = Leads_either (is_in_time ResolveAlarm) (puts (Ring ResolveAlarm) followed_by reading rivals_at (for_each (begins QuitKind)))
+    (puts (Late ResolveAlarm))
+    (Leads_from (λ x past h. h.0) (Leads_then {Q = Caused} (puts (Ring ResolveAlarm)) (reading rivals_at (for_each (begins QuitKind)))
+    (free_puts (Ring ResolveAlarm) refl)
+    (Leads_reading rivals_at (for_each (begins QuitKind)) (λ ps. Leads_from (λ x past h. h.0)
+    (Leads_each (begins QuitKind) ps (λ p. built-cause {sorts = Numbering ∷ []} refl refl (built_begins QuitKind p tt refl refl)))))))
     (Leads_from (λ x past h. h.0) (free_puts (Late ResolveAlarm) refl))
 
 asks-cause : (p : PeerId) → Leads Caused (asks p) Caused
@@ -240,23 +265,30 @@ round-cause : (wait : Bool) → Leads Caused (round_rings wait) Caused
 unfolding round_rings begins_or_waits round_begins asks_slaves
 round-cause wait = Leads_either (is_in_time Round) (puts (Ring Round) followed_by begins_or_waits wait) (puts (Late Round) followed_by arms Round ROUND)
     (Leads_from (λ x past h. h.0) (Leads_then {Q = Caused} (puts (Ring Round)) (begins_or_waits wait) (free_puts (Ring Round) refl) (by_wait wait)))
-    (Leads_from (λ x past h. h.0) (Leads_then {Q = Caused} (puts (Late Round)) (arms Round ROUND) (free_puts (Late Round) refl) (free-arms Round ROUND (λ at. refl))))
+    (Leads_from (λ x past h. h.0) (Leads_then {Q = Caused} (puts (Late Round)) (arms Round ROUND) (free_puts (Late Round) refl)
+    (free-arms Round ROUND (λ at. refl))))
   where
     by_wait : (b : Bool) → Leads Caused (begins_or_waits b) Caused
     by_wait true = free-arms Round WAIT (λ at. refl)
-    by_wait false = Leads_then {Q = Caused} (arms Round ROUND) (arms Probe PROBE followed_by (arms CloseAlarm CLOSE followed_by (posts_to_others MasterUp 0 followed_by reading table_at (for_each asks)))) (free-arms Round ROUND (λ at. refl))
-        (Leads_then {Q = Caused} (arms Probe PROBE) (arms CloseAlarm CLOSE followed_by (posts_to_others MasterUp 0 followed_by reading table_at (for_each asks))) (free-arms Probe PROBE (λ at. refl))
-        (Leads_then {Q = Caused} (arms CloseAlarm CLOSE) (posts_to_others MasterUp 0 followed_by reading table_at (for_each asks)) (free-arms CloseAlarm CLOSE (λ at. refl))
+    by_wait false = Leads_then {Q = Caused} (arms Round ROUND) (arms Probe PROBE followed_by
+        (arms CloseAlarm CLOSE followed_by (posts_to_others MasterUp 0 followed_by reading table_at (for_each asks)))) (free-arms Round ROUND (λ at. refl))
+        (Leads_then {Q = Caused} (arms Probe PROBE) (arms CloseAlarm CLOSE followed_by (posts_to_others MasterUp 0 followed_by reading table_at
+        (for_each asks))) (free-arms Probe PROBE (λ at. refl))
+        (Leads_then {Q = Caused} (arms CloseAlarm CLOSE) (posts_to_others MasterUp 0 followed_by reading table_at (for_each asks))
+        (free-arms CloseAlarm CLOSE (λ at. refl))
         (Leads_then {Q = Caused} (posts_to_others MasterUp 0) (reading table_at (for_each asks)) (to-others MasterUp refl)
         (Leads_reading table_at (for_each asks) (λ ps. Leads_from (λ x past h. h.0) (Leads_each asks ps asks-cause))))))
 
 probe-cause : Leads Caused probe_rings Caused
 unfolding probe_rings asks_measured arms_next abandons
-probe-cause = Leads_either (is_in_time Probe) (puts (Ring Probe) followed_by (reading measured_at (for_each asks) followed_by either_by has_more (arms Probe PROBE) nothing)) (puts (Late Probe) followed_by puts Abandon)
-    (Leads_from (λ x past h. h.0) (Leads_then {Q = Caused} (puts (Ring Probe)) (reading measured_at (for_each asks) followed_by either_by has_more (arms Probe PROBE) nothing) (free_puts (Ring Probe) refl)
+probe-cause = Leads_either (is_in_time Probe) (puts (Ring Probe) followed_by (reading measured_at (for_each asks) followed_by either_by has_more
+    (arms Probe PROBE) nothing)) (puts (Late Probe) followed_by puts Abandon)
+    (Leads_from (λ x past h. h.0) (Leads_then {Q = Caused} (puts (Ring Probe)) (reading measured_at (for_each asks) followed_by either_by has_more
+    (arms Probe PROBE) nothing) (free_puts (Ring Probe) refl)
     (Leads_then {Q = Caused} (reading measured_at (for_each asks)) (either_by has_more (arms Probe PROBE) nothing)
     (Leads_reading measured_at (for_each asks) (λ ps. Leads_from (λ x past h. h.0) (Leads_each asks ps asks-cause)))
-    (Leads_either has_more (arms Probe PROBE) nothing (Leads_from (λ x past h. h.0) (free-arms Probe PROBE (λ at. refl))) (Leads_from (λ x past h. h.0) Leads_nothing)))))
+    (Leads_either has_more (arms Probe PROBE) nothing (Leads_from (λ x past h. h.0) (free-arms Probe PROBE (λ at. refl)))
+    (Leads_from (λ x past h. h.0) Leads_nothing)))))
     (Leads_from (λ x past h. h.0) (Leads_then {Q = Caused} (puts (Late Probe)) (puts Abandon) (free_puts (Late Probe) refl) (free_puts Abandon refl)))
 
 moves-cause : (own : Bool) (mean : ℤ) → Leads Caused (moves own mean) Caused
@@ -272,16 +304,21 @@ corrects-cause mean p best = built-cause {sorts = correct_sorts} refl refl (buil
 
 closes-cause : (own : Bool) (g : Group) (round : List Standing) → Leads Caused (closes_with own g round) Caused
 unfolding closes_with abandons corrects_peer
-closes-cause own g round = Leads_either (can_adjust (mean_by own g)) (puts (close_act own g) followed_by (moves own (mean_by own g) followed_by for_each (λ s. corrects_by (mean_by own g) s.peer s.best) round)) (puts Abandon)
-    (Leads_from (λ x past h. h.0) (Leads_then {Q = Caused} (puts (close_act own g)) (moves own (mean_by own g) followed_by for_each (λ s. corrects_by (mean_by own g) s.peer s.best) round) (free_puts (close_act own g) refl)
+closes-cause own g round = Leads_either (can_adjust (mean_by own g)) (puts (close_act own g) followed_by
+    (moves own (mean_by own g) followed_by for_each (λ s. corrects_by (mean_by own g) s.peer s.best) round)) (puts Abandon)
+    (Leads_from (λ x past h. h.0) (Leads_then {Q = Caused} (puts (close_act own g))
+    (moves own (mean_by own g) followed_by for_each (λ s. corrects_by (mean_by own g) s.peer s.best) round) (free_puts (close_act own g) refl)
     (Leads_then {Q = Caused} (moves own (mean_by own g)) (for_each (λ s. corrects_by (mean_by own g) s.peer s.best) round) (moves-cause own (mean_by own g))
     (Leads_each (λ (s : Standing). corrects_by (mean_by own g) s.peer s.best) round (λ s. corrects-cause (mean_by own g) s.peer s.best)))))
     (Leads_from (λ x past h. h.0) (free_puts Abandon refl))
 
 close-cause : (own : Bool) → Leads Caused (close_rings own) Caused
 unfolding close_rings closes abandons
-close-cause own = Leads_either (is_in_time CloseAlarm) (reading round_at (λ round. puts (Ring CloseAlarm) followed_by closes_with own (group_of SPAN (estimates round)) round)) (puts (Late CloseAlarm) followed_by puts Abandon)
-    (Leads_from (λ x past h. h.0) (Leads_reading round_at _ (λ round. Leads_from (λ x past h. h.0) (Leads_then {Q = Caused} (puts (Ring CloseAlarm)) (closes_with own (group_of SPAN (estimates round)) round) (free_puts (Ring CloseAlarm) refl) (closes-cause own (group_of SPAN (estimates round)) round)))))
+close-cause own = Leads_either (is_in_time CloseAlarm) (reading round_at (λ round. puts (Ring CloseAlarm) followed_by closes_with own
+    (group_of SPAN (estimates round)) round)) (puts (Late CloseAlarm) followed_by puts Abandon)
+    (Leads_from (λ x past h. h.0) (Leads_reading round_at _ (λ round. Leads_from (λ x past h. h.0) (Leads_then {Q = Caused} (puts (Ring CloseAlarm))
+    (closes_with own (group_of SPAN (estimates round)) round) (free_puts (Ring CloseAlarm) refl) (closes-cause own (group_of SPAN (estimates round))
+    round)))))
     (Leads_from (λ x past h. h.0) (Leads_then {Q = Caused} (puts (Late CloseAlarm)) (puts Abandon) (free_puts (Late CloseAlarm) refl) (free_puts Abandon refl)))
 
 alarm-cause : (own wait : Bool) (a : Alarm) → Leads Caused (alarm_rings own wait a) Caused
@@ -297,4 +334,5 @@ alarm-cause own wait Round = round-cause wait
 
 pub rings_cause : (own wait : Bool) (a : Alarm) → Leads Caused (rings own wait a) Caused
 unfolding rings
-rings_cause own wait a = Leads_either (is_due a) (alarm_rings own wait a) nothing (Leads_from (λ x past h. h.0) (alarm-cause own wait a)) (Leads_from (λ x past h. h.0) Leads_nothing)
+rings_cause own wait a = Leads_either (is_due a) (alarm_rings own wait a) nothing (Leads_from (λ x past h. h.0) (alarm-cause own wait a))
+    (Leads_from (λ x past h. h.0) Leads_nothing)

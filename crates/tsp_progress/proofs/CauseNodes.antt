@@ -46,9 +46,11 @@ booting m x seen = CausesFit seen × (((held seen).boot ≡ x) × (role seen ≡
 booting-family : Family booting
 booting-family = record { boots = λ m step x seen w. ((inr tt, w.0), (refl, refl)); aside = λ m d x seen w. w }
 
-starts-cause : Leads (λ x past. CausesFit past.seen × (((held past.seen).boot ≡ x) × (role past.seen ≡ Starting))) (puts (Become Starting) followed_by arms Quiet QUIET) (λ x past. CausesFit past.seen × (((held past.seen).boot ≡ x) × (role past.seen ≡ Starting)))
+starts-cause : Leads (λ x past. CausesFit past.seen × (((held past.seen).boot ≡ x) × (role past.seen ≡ Starting)))
+    (puts (Become Starting) followed_by arms Quiet QUIET) (λ x past. CausesFit past.seen × (((held past.seen).boot ≡ x) × (role past.seen ≡ Starting)))
 unfolding arms
-starts-cause = Leads_then {Q = λ x past. CausesFit past.seen × (((held past.seen).boot ≡ x) × (role past.seen ≡ Starting))} (puts (Become Starting)) (arms Quiet QUIET)
+starts-cause = Leads_then {Q = λ x past. CausesFit past.seen × (((held past.seen).boot ≡ x) × (role past.seen ≡ Starting))} (puts (Become Starting))
+    (arms Quiet QUIET)
     (Leads_puts (Become Starting) (λ x past h. ((inr h.1.1, h.0), (h.1.0, refl))))
     (record { run = λ x past h. ((inr h.1.0, h.0), h.1) })
 
@@ -61,10 +63,14 @@ unfolding boots_all on puts reading_all
 boots_caused = record {
   run = λ x past all r.
       ((All_after {P = Each caused} {Q = Each booting} {R = Each booting} (on first_port (puts Boot)) (reading_all all_ports (for_ports boots_on))
-      (record { run = λ x past all r. subst (λ b. booting (node_manner past) x (seen_as b (line_of past.step x first_port (Acts Boot)).did ∷ view r past.lines)) (sym (or_right (first_port.0 == r.0) true refl)) ((inr tt, all r), (refl, refl)) })
+      (record {
+        run = λ x past all r. subst (λ b. booting (node_manner past) x (seen_as b (line_of past.step x first_port (Acts Boot)).did ∷ view r past.lines))
+            (sym (or_right (first_port.0 == r.0) true refl)) ((inr tt, all r), (refl, refl));
+      })
       (record { run = λ x past all. (list_each booting booting-family boots_on (ports_from 0 past.ports) boots-on-cause).run x past all })).run x past all r).0;
 }
 
 -- a step's beginning
 pub begins_caused : (step : Step) (x : ℕ) (past : NodePast) → Each caused x past → Each caused x (in_node_step step x past)
-begins_caused step x past all r = subst (λ b. CausesFit (seen_as b (line_of step x first_port Begins).did ∷ view r past.lines)) (sym (or_right (first_port.0 == r.0) true refl)) (inr tt, all r)
+begins_caused step x past all r = subst (λ b. CausesFit (seen_as b (line_of step x first_port Begins).did ∷ view r past.lines))
+    (sym (or_right (first_port.0 == r.0) true refl)) (inr tt, all r)

@@ -1,6 +1,7 @@
 -- What each act on an alarm owes to its port's past.
 use Rattle.std.specs.Prelude.{◌≡◌, ◌≢◌, ◌≤◌, ◌<◌, ◌⊎◌, ℕ, ◌+◌, ℤ, Bool, true, false, List, [], ◌∷◌, Some}
-use Rattle.tsp_rules.specs.Values.{Become, Arm, Ring, Late, Back, Abandon, Close, Alarm, Quiet, Window, Elect, Search, Round, Probe, CloseAlarm, ResolveAlarm, PeerId, Role, Loose, Candidate, Master, QUIET, WINDOW, PROBE, CLOSE, ROUND, WAIT, SLACK, HOLD, ELECT_MIN}
+use Rattle.tsp_rules.specs.Values.{Become, Arm, Ring, Late, Back, Abandon, Close, Alarm, Quiet, Window, Elect, Search, Round, Probe, CloseAlarm, ResolveAlarm}
+use Rattle.tsp_rules.specs.Values.{PeerId, Role, Loose, Candidate, Master, QUIET, WINDOW, PROBE, CLOSE, ROUND, WAIT, SLACK, HOLD, ELECT_MIN}
 use Rattle.tsp_rules.specs.Guards.{delay}
 use Rattle.tsp_base.specs.Words.{Deed, Acts, Did, Held, Seen, Here, Elsewhere, armed, deadline, held, is_past, plain, word}
 

@@ -1,6 +1,7 @@
 -- A run that is looked at in time, written out, and runs that aren't.
 use Rattle.std.specs.Prelude.{◌≡◌, ℕ, pos, true, false, List, [], ◌∷◌, codes, None, Some}
-use Rattle.tsp_rules.specs.Values.{Act, Boot, Post, Become, Arm, Ring, Back, Close, Correct, Gave, Quiet, Elect, Search, Window, Round, Probe, CloseAlarm, Message, Event, BootAt, Turn, Election, MasterReq, MasterUp, Peer, Starting, Loose, Candidate, Master, SLACK}
+use Rattle.tsp_rules.specs.Values.{Act, Boot, Post, Become, Arm, Ring, Back, Close, Correct, Gave, Quiet, Elect, Search, Window, Round, Probe, CloseAlarm}
+use Rattle.tsp_rules.specs.Values.{Message, Event, BootAt, Turn, Election, MasterReq, MasterUp, Peer, Starting, Loose, Candidate, Master, SLACK}
 use Rattle.tsp_base.specs.Words.{HeaderValue, bare, peer_of as peer}
 use Rattle.tsp_run.specs.{Refusals.Valid, Run.run, Run.told, declared.line.Line.Line}
 use Rattle.tsp_progress.specs.InTime.{CandidatureEnds, RoundCloses, RoundRecurs, SearchEnds, StartEnds}
