@@ -1,5 +1,5 @@
 -- A port that hears nothing is master soon.
-use Rattle.std.proofs.Common.{sym, ap, arith, true≢false, ◌∙◌, ◌≡◌, ◌≤◌, ◌⊎◌, inl, inr, ℕ, ◌+◌, Bool, true, false, if◌then◌else◌, List, [], ◌∷◌, None, is_some}
+use Rattle.std.proofs.Common.{sym, ap, arith, true≢false, ◌∙◌, ◌≡◌, ◌≤◌, ◌⊎◌, inl, inr, ℕ, ◌+◌, Bool, true, false, if◌then◌else◌, List, [], ◌∷◌, None}
 use Rattle.std.proofs.Common.{refl}
 use Rattle.tsp_rules.specs.Values.{Act, Boot, Took, Become, Arm, Ring, Late, Alarm, Quiet, Search, Elect, Window, Probe, CloseAlarm, ResolveAlarm, Round}
 use Rattle.tsp_rules.specs.Values.{PeerId, Role, Starting, Loose, Follow, Candidate, Master, WINDOW, SLACK}
@@ -11,7 +11,7 @@ use Rattle.tsp_promises.proofs.{EverywhereLemmas.Everywhere-at, EverywhereLemmas
 use Rattle.tsp_progress.specs.AlarmsFit.{AlarmFits, AlarmsFit, LateFits, Manner, NextFits, NextTo, RingFits}
 use Rattle.tsp_progress.specs.AloneLeads.{AloneLeads, AloneLeadsAt, is_word, last_word}
 use Rattle.tsp_progress.specs.AloneStands.{is_news, news, patience}
-use Rattle.tsp_progress.specs.CausesFit.{CausesFit, Heard, Unheard, elects_by, loosens_by, newest_is, searches_by, seeks_by, wins_by}
+use Rattle.tsp_progress.specs.CausesFit.{CausesFit, Heard, Unheard, elects_by, loosens_by, newest_is, searches_by, seeks_by, stirred, stirs_in, wins_by}
 use Rattle.tsp_progress.specs.{Stands.StandsOn, Wakes.Wakes, Wakes.Woken, Wakes.WokenAt, Watched.Attended, Watched.AttendedAt, Watched.Watched}
 use Rattle.tsp_progress.proofs.AloneProof.{Paced, PacedAt, Waiting, idle_waits, soon_before, waiting}
 use Rattle.tsp_progress.proofs.InTimeProof.{none_some}
@@ -44,7 +44,7 @@ record Hears (late w r x boot : ℕ) (took : Bool) (rl : Role) (d : Deadlines) (
   pub phase : (r ≡ w) ⊎ Leading late w r rl d elected sought searched loosened won
 
 abbrev Hearing : ℕ → List Seen → Type 0
-Hearing late seen = Hears late (last_word seen) (news seen) (tick_of (plain seen)) (held seen).boot (is_some (taken seen)) (role seen) (armed seen)
+Hearing late seen = Hears late (last_word seen) (news seen) (tick_of (plain seen)) (held seen).boot (stirred (taken seen)) (role seen) (armed seen)
     (newest_is elects_by seen) (newest_is seeks_by seen) (newest_is searches_by seen) (newest_is loosens_by seen) (newest_is wins_by seen)
 
 wrong : {A : Type 0} → false ≡ true → A
@@ -54,27 +54,31 @@ wrong e = absurd (true≢false (sym e))
 clash : {A : Type 0} {b : Bool} → b ≡ false → b ≡ true → A
 clash n e = absurd (true≢false (sym e ∙ n))
 
+unheard : {late w r x boot : ℕ} {took : Bool} {rl : Role} {dl : Deadlines} {el sk se lo wi : Bool} → Hears late w r x boot took rl dl el sk se lo wi →
+    Hears late w r x boot false rl dl el sk se lo wi
+unheard h = record { word_le = h.word_le; boot_le = h.boot_le; heard = λ e. wrong e; phase = h.phase }
+
 module _ (late : ℕ) (slack : late ≤ SLACK) (m : Manner) (d : Did) (before : List Seen) (strict : m.strict ≡ false) (level : d.tick ≡
     tick_of (plain before)) (pace : Paced late before) (waits : Waiting late before) (inv : Hearing late before) where
   abbrev After : Deed → Type 0
   After deed = Hears late (if is_word deed then d.tick else last_word before) (if is_news deed then d.tick else news before) d.tick
-      (held_after deed d.tick (held before)).boot (is_some (taken_after deed (taken before)))
+      (held_after deed d.tick (held before)).boot (stirred (taken_after deed (taken before)))
       (role_after deed (role before)) (armed_after deed (armed before)) (elects_by deed) (seeks_by deed) (searches_by deed) (loosens_by deed) (wins_by deed)
 
   news-le : news before ≤ d.tick
   news-le = let le = waits.news_le in omega (arith, le, level)
 
-  heard-now : is_some (taken before) ≡ true → last_word before ≡ d.tick
+  heard-now : stirred (taken before) ≡ true → last_word before ≡ d.tick
   heard-now e = inv.heard e ∙ sym level
 
   -- what was heard came in this step
-  both-now : is_some (taken before) ≡ true → news before ≡ last_word before
+  both-now : stirred (taken before) ≡ true → news before ≡ last_word before
   both-now e = waits.heard e ∙ sym (inv.heard e)
 
   -- an act that is neither news nor a boot, in this phase
   phased : (rl : Role) (dl : Deadlines) (el sk se lo wi : Bool) → ((news before ≡ last_word before) ⊎
       Leading late (last_word before) (news before) rl dl el sk se lo wi) → Hears late (last_word before) (news before) d.tick (held before).boot
-      (is_some (taken before)) rl dl el sk se lo wi
+      (stirred (taken before)) rl dl el sk se lo wi
   phased rl dl el sk se lo wi p = record { word_le = inv.word_le; boot_le = inv.boot_le; heard = heard-now; phase = p }
 
   -- the alarms that a leading port has off
@@ -83,7 +87,7 @@ module _ (late : ℕ) (slack : late ≤ SLACK) (m : Manner) (d : Did) (before : 
     pub search : (armed before).search ≡ None → dl.search ≡ None
     pub elect : (armed before).elect ≡ None → dl.elect ≡ None
 
-  goes-on : (dl : Deadlines) → Quieter dl → Hears late (last_word before) (news before) d.tick (held before).boot (is_some (taken before)) (role before) dl
+  goes-on : (dl : Deadlines) → Quieter dl → Hears late (last_word before) (news before) d.tick (held before).boot (stirred (taken before)) (role before) dl
       false false false false false
   goes-on dl k = phased (role before) dl false false false false false (elim inv.phase [
     | inl same ↦ inl same
@@ -110,6 +114,12 @@ module _ (late : ℕ) (slack : late ≤ SLACK) (m : Manner) (d : Did) (before : 
 
   boot-le : (held before).boot ≤ d.tick
   boot-le = let a = inv.boot_le in let b = inv.word_le in let c = news-le in omega (arith, a, b, c)
+
+  -- a datagram
+  took : (b : Bool) → Hears late (if b then d.tick else last_word before) (if b then d.tick else news before) d.tick (held before).boot b (role before)
+      (armed before) false false false false false
+  took true = worded (role before) (armed before) (held before).boot boot-le true false false false false false
+  took false = unheard (goes-on (armed before) (record { quiet = λ e. e; search = λ e. e; elect = λ e. e }))
 
   -- the port stands for election
   stands : (Heard before ⊎ (newest_is elects_by before ≡ true)) → After (Acts (Become Candidate))
@@ -237,7 +247,7 @@ module _ (late : ℕ) (slack : late ≤ SLACK) (m : Manner) (d : Did) (before : 
 
   acts : (a : Act) → NextTo m before (Acts a) → AlarmFits (Acts a) d before → (Heard before ⊎ Unheard (Acts a) d before) → After (Acts a)
   acts Boot n f c = worded Starting none_armed d.tick (omega arith) _ false false false false false
-  acts (Took from t) n f c = worded (role before) (armed before) (held before).boot boot-le true false false false false false
+  acts (Took from t) n f c = took (stirs_in t)
   acts (Become r) n f c = becomes r n c
   acts (Arm a at) n f c = arms a at c
   acts (Ring a) n f c = rings a f
@@ -267,17 +277,13 @@ still late w r x y boot took rl dl el sk se lo wi now h = record {
   ];
 }
 
-unheard : {late w r x boot : ℕ} {took : Bool} {rl : Role} {dl : Deadlines} {el sk se lo wi : Bool} → Hears late w r x boot took rl dl el sk se lo wi →
-    Hears late w r x boot false rl dl el sk se lo wi
-unheard h = record { word_le = h.word_le; boot_le = h.boot_le; heard = λ e. wrong e; phase = h.phase }
-
 module _ (late : ℕ) (slack : late ≤ SLACK) (m : Manner) (may : m.may ≡ true) (strict : m.strict ≡ false) where
   one-more : (d : Did) (before : List Seen) → PacedAt late (Here d) before → Paced late before → NextTo m before d.deed → AlarmFits d.deed d before →
       (Heard before ⊎ Unheard d.deed d before) → Waiting late before → Hearing late before → Hearing late (Here d ∷ before)
   one-more d before p pace next fits cause waits inv = by_deed d.deed refl next fits cause where
     by_deed : (deed : Deed) → d.deed ≡ deed → NextTo m before deed → AlarmFits deed d before → (Heard before ⊎ Unheard deed d before) →
         Hears late (if is_word deed then d.tick else last_word before) (if is_news deed then d.tick else news before) d.tick
-        (held_after deed d.tick (held before)).boot (is_some (taken_after deed (taken before)))
+        (held_after deed d.tick (held before)).boot (stirred (taken_after deed (taken before)))
         (role_after deed (role before)) (armed_after deed (armed before)) (elects_by deed) (seeks_by deed) (searches_by deed) (loosens_by deed) (wins_by deed)
     by_deed Begins is n f c = still late (last_word before) (news before) _ d.tick _ false (role before) (armed before) _ _ _ _ _ (λ e. wrong e) (unheard inv)
     by_deed (Acts a) is n f c = acts late slack m d before strict (p.level a is) pace waits inv a n f c
@@ -288,7 +294,7 @@ module _ (late : ℕ) (slack : late ≤ SLACK) (m : Manner) (may : m.may ≡ tru
       (hearing before f.1.1 c.1 s.1 p.1)
   hearing (Elsewhere d ∷ before) f c s p =
       let h = hearing before f.1 c s p.1 in
-      still late (last_word before) (news before) _ d.tick _ (is_some (taken before)) (role before) (armed before) _ _ _ _ _ (λ e. h.heard e ∙
+      still late (last_word before) (news before) _ d.tick _ (stirred (taken before)) (role before) (armed before) _ _ _ _ _ (λ e. h.heard e ∙
       sym (p.0.aside d refl)) (unheard h)
 
   -- so a port that is no master doesn't wait for long

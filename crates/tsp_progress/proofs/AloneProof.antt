@@ -2,7 +2,7 @@
 use Rattle.std.proofs.Common.{sym, ap, subst, arith, true≢false, ◌∙◌, ◌≡◌, ◌≤◌, ◌≢◌, ◌⊎◌, inl, inr, ℕ, ◌+◌, ◌||◌, le-leb, ◌%◌, ◌<◌, Bool, true, false}
 use Rattle.std.proofs.Common.{if◌then◌else◌, List, [], ◌∷◌, Option, None, Some, is_some, refl}
 use Rattle.std.proofs.{Math.Nat.mod-lt, lemmas.Bool.or_right}
-use Rattle.tsp_rules.specs.Values.{Act, Boot, Took, Taken, Place, Become, Arm, Ring, Late, Back, Quit, Abandon, Alarm, Quiet, Search, Elect, Window, Probe}
+use Rattle.tsp_rules.specs.Values.{Act, Boot, Took, Become, Arm, Ring, Late, Back, Quit, Abandon, Alarm, Quiet, Search, Elect, Window, Probe}
 use Rattle.tsp_rules.specs.Values.{CloseAlarm, ResolveAlarm, Round, PeerId, Role, Starting, Loose, Follow, Candidate, Master, ELECT_MIN, ELECT_SPREAD, WINDOW}
 use Rattle.tsp_rules.specs.Values.{QUIET, SLACK}
 use Rattle.tsp_rules.specs.{CommonRows.is_idle, Guards.delay}
@@ -11,6 +11,7 @@ use Rattle.tsp_base.specs.Words.{held_after, is_past, plain, role, taken, taken_
 use Rattle.tsp_progress.specs.AlarmsFit.{AlarmFits, AlarmsFit, ArmFits, LateFits, Manner, RingFits, stands_by, stands_now}
 use Rattle.tsp_progress.specs.AloneStands.{is_news, news, patience}
 use Rattle.tsp_progress.specs.CausesFit.{CausesFit, Heard, Unheard, backs_by, backs_itself_now, elects_by, loosens_by, newest_is, searches_by, seeks_by}
+use Rattle.tsp_progress.specs.CausesFit.{stirred, stirs_in}
 use Rattle.tsp_progress.specs.{Stands.AfterElect, Stands.StandsOn, Wakes.Wakes, Watched.Watched}
 use Rattle.tsp_progress.proofs.InTimeProof.{none_some, value_of}
 
@@ -73,7 +74,7 @@ pub record Waits (late r x : ℕ) (h : Held) (d : Deadlines) (took moved waited 
   pub stands : stood ≡ true → r ≡ x
 
 abbrev pub Waiting : ℕ → List Seen → Type 0
-Waiting late seen = Waits late (news seen) (tick_of (plain seen)) (held seen) (armed seen) (is_some (taken seen)) (newest_is moves_by seen)
+Waiting late seen = Waits late (news seen) (tick_of (plain seen)) (held seen) (armed seen) (stirred (taken seen)) (newest_is moves_by seen)
     (newest_is waits_by seen) (newest_is elects_by seen) (stands_now seen || backs_itself_now seen)
 
 no-send : {A : Type 0} {at : ℕ} → None ≡ Some at → A
@@ -85,19 +86,39 @@ pub soon_before : (late : ℕ) (before : List Seen) → Paced late before → (a
 soon_before late [] p a at e = omega arith
 soon_before late (s ∷ older) p a at e = p.0.soon a at e
 
+-- nothing that stirs was taken
+unheard : {late r x : ℕ} {h : Held} {d : Deadlines} {took moved waited elected stood : Bool} → Waits late r x h d took moved waited elected stood →
+    Waits late r x h d false moved waited elected stood
+unheard w = record {
+  news_le = w.news_le;
+  heard = λ e. absurd (true≢false (sym e));
+  boot_le = w.boot_le;
+  quit_le = w.quit_le;
+  quiet = w.quiet;
+  window = w.window;
+  search = w.search;
+  ahead = w.ahead;
+  elect = w.elect;
+  moves = w.moves;
+  waits = w.waits;
+  elects = w.elects;
+  rings = w.rings;
+  stands = w.stands;
+}
+
 -- one deed more
 module _ (late : ℕ) (slack : late ≤ SLACK) (m : Manner) (may : m.may ≡ true) (d : Did) (before : List Seen) (level : d.tick ≡
     tick_of (plain before)) (paced : Paced late before) (inv : Waiting late before) where
   -- after this deed
   abbrev After : Deed → Type 0
   After deed = Waits late (if is_news deed then d.tick else news before) d.tick (held_after deed d.tick (held before)) (armed_after deed (armed before))
-      (is_some (taken_after deed (taken before))) (moves_by deed) (waits_by deed) (elects_by deed)
+      (stirred (taken_after deed (taken before))) (moves_by deed) (waits_by deed) (elects_by deed)
       (stands_now (Here (record d { deed = deed }) ∷ before) || backs_itself_now (Here (record d { deed = deed }) ∷ before))
 
   r-le : news before ≤ d.tick
   r-le = let le = inv.news_le in omega (arith, le, level)
 
-  heard-now : (is_some (taken before) ≡ true) → news before ≡ d.tick
+  heard-now : (stirred (taken before) ≡ true) → news before ≡ d.tick
   heard-now e = inv.heard e ∙ sym level
 
   quit-le : (q : ℕ) → (held before).quit ≡ Some q → q ≤ d.tick
@@ -126,7 +147,7 @@ module _ (late : ℕ) (slack : late ≤ SLACK) (m : Manner) (may : m.may ≡ tru
       (moved ≡ true → d.tick ≤ news before + (first_elect late + late)) → (waited ≡ true → d.tick ≤ news before + (then_search late + late)) →
       (elected ≡ true → (d.tick ≤ news before + (first_elect late + late)) ⊎ (is_past h.quit ELECT_MIN d.tick ≡ true)) →
       (elected ≡ true → d.tick ≤ news before + (then_elect late + late)) → (stood ≡ true → news before ≡ d.tick) →
-      Waits late (news before) d.tick h dl (is_some (taken before)) moved waited elected stood
+      Waits late (news before) d.tick h dl (stirred (taken before)) moved waited elected stood
   kept dl k h boot quit moved waited elected stood mv wt el rg st = record {
     news_le = r-le;
     heard = heard-now;
@@ -152,12 +173,12 @@ module _ (late : ℕ) (slack : late ≤ SLACK) (m : Manner) (may : m.may ≡ tru
   as-it-was = record { quiet = λ at e. e; window = λ at e. e; search = λ at e. e; elect = λ at e. e }
 
   plain-act : (dl : Deadlines) → Kept dl → (h : Held) → h.boot ≡ (held before).boot → h.quit ≡ (held before).quit →
-      Waits late (news before) d.tick h dl (is_some (taken before)) false false false false
+      Waits late (news before) d.tick h dl (stirred (taken before)) false false false false
   plain-act dl k h boot quit = kept dl k h boot quit false false false false not-done not-done not-done not-done not-done
 
   -- a change of the role that is no news
   changed : (moved : Bool) → (moved ≡ true → d.tick ≤ news before + (first_elect late + late)) →
-      Waits late (news before) d.tick (held before) none_armed (is_some (taken before)) moved false false false
+      Waits late (news before) d.tick (held before) none_armed (stirred (taken before)) moved false false false
   changed moved mv = record {
     news_le = r-le;
     heard = heard-now;
@@ -218,9 +239,9 @@ module _ (late : ℕ) (slack : late ≤ SLACK) (m : Manner) (may : m.may ≡ tru
     stands = λ f. refl;
   }
 
-  -- a datagram: what is armed is within its time from now
-  took : (from : Place) (t : Taken) → After (Acts (Took from t))
-  took from t = record {
+  -- a datagram: if it stirs, what is armed is within its time from now
+  took : (b : Bool) → Waits late (if b then d.tick else news before) d.tick (held before) (armed before) b false false false false
+  took true = record {
     news_le = omega arith;
     heard = λ e. refl;
     boot_le = (let le = inv.boot_le in let r = r-le in omega (arith, le, r));
@@ -236,6 +257,7 @@ module _ (late : ℕ) (slack : late ≤ SLACK) (m : Manner) (may : m.may ≡ tru
     rings = λ f. absurd (true≢false (sym f));
     stands = λ f. refl;
   }
+  took false = unheard (plain-act (armed before) as-it-was (held before) refl refl)
 
   -- after Elect rang without a candidature it isn't long since the news
   not-stood : (deed : Deed) → AfterElect m before deed → deed ≢ Acts (Become Candidate) → newest_is elects_by before ≡ true →
@@ -481,7 +503,7 @@ module _ (late : ℕ) (slack : late ≤ SLACK) (m : Manner) (may : m.may ≡ tru
   -- an act
   acts : (a : Act) → AfterElect m before (Acts a) → AlarmFits (Acts a) d before → (Heard before ⊎ Unheard (Acts a) d before) → After (Acts a)
   acts Boot after f c = booted
-  acts (Took from t) after f c = took from t
+  acts (Took from t) after f c = took (stirs_in t)
   acts (Become r) after f c = becomes r after c
   acts (Arm a at) after f c = arms a at after f c
   acts (Ring a) after f c = rings a f
@@ -513,7 +535,7 @@ begun late d before order inv = record {
 
 -- after an act on another port
 aside : (late : ℕ) (d : Did) (before : List Seen) → d.tick ≡ tick_of (plain before) → Waiting late before →
-    Waits late (news before) d.tick (held before) (armed before) (is_some (taken before)) false false false false
+    Waits late (news before) d.tick (held before) (armed before) (stirred (taken before)) false false false false
 aside late d before level inv = record {
   news_le = (let le = inv.news_le in omega (arith, le, level));
   heard = λ e. inv.heard e ∙ sym level;
@@ -556,7 +578,7 @@ module _ (late : ℕ) (slack : late ≤ SLACK) (m : Manner) (may : m.may ≡ tru
   one-more d before p paced after fits cause inv = by_deed d.deed refl after fits cause where
     by_deed : (deed : Deed) → d.deed ≡ deed → AfterElect m before deed → AlarmFits deed d before → (Heard before ⊎ Unheard deed d before) →
         Waits late (if is_news deed then d.tick else news before) d.tick (held_after deed d.tick (held before)) (armed_after deed (armed before))
-        (is_some (taken_after deed (taken before))) (moves_by deed) (waits_by deed) (elects_by deed)
+        (stirred (taken_after deed (taken before))) (moves_by deed) (waits_by deed) (elects_by deed)
         (stands_by deed || (if backs_by deed then stands_now before else false))
     by_deed Begins is after fits cause = begun late d before p.order inv
     by_deed (Acts a) is after fits cause = acts late slack m may d before (p.level a is) paced inv a after fits cause

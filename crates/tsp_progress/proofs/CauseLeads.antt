@@ -1,10 +1,5 @@
 -- Each row of a port puts its acts in the order that they need.
-use Rattle.std.proofs.Common.{true≢false, ◌∙◌, ◌≡◌, ℕ, ℤ, ◌+◌, Bool, true, false, List, [], ◌∷◌, Option, None, Some, inl, inr, is_some, map, refl}
-use Rattle.tsp_rules.specs.Values.{Act, Took, Become, Arm, Ring, Late, Back, Quit, Abandon, Alarm, Quiet, Search, Elect, Window, Probe, CloseAlarm}
-use Rattle.tsp_rules.specs.Values.{ResolveAlarm, Round, PeerId, Place, Port, Role, Loose, Follow, Candidate, Master, Kind, Election, MasterReq, MasterUp}
-use Rattle.tsp_rules.specs.Values.{QuitKind, Taken, WINDOW, ROUND, PROBE, CLOSE, WAIT, SPAN}
-use Rattle.tsp_base.specs.Words.{Acts, Deed, Did, Estimate, MessageValue, Past, Received, Row, Seen, Leads, arms, for_each, grown, nothing, others, puts}
-use Rattle.tsp_base.specs.Words.{posts_to_others, either_by, reading, taken, taken_after, ◌followed_by◌}
+use Rattle.std.proofs.Common.{sym, ap, true≢false, ◌∙◌, ◌≡◌, ℕ, ℤ, ◌+◌, Bool, true, false, List, [], ◌∷◌, Option, None, Some, inl, inr, map, refl}
 use Rattle.tsp_base.proofs.LeadsLemmas.{Leads_then, Leads_either, Leads_reading, Leads_nothing, Leads_puts, Leads_each, Leads_from, Leads_to}
 use Rattle.tsp_group.specs.{Groups.group_of, declared.group.Group.Group}
 use Rattle.tsp_rules.specs.CandidateRows.{has_won, lead_row, yields, window_rings}
@@ -18,8 +13,6 @@ use Rattle.tsp_rules.specs.RoundRows.{round_at}
 use Rattle.tsp_rules.specs.Guards.{delay_at, is_due, is_in_time, is_own, may_stand_at, follows_at, table_at, rivals_at}
 use Rattle.tsp_rules.specs.SendRows.{begins, begins_to_others, due_sends, others_at}
 use Rattle.tsp_rules.specs.Answers.{alarm_rings, handles, rings, takes}
-use Rattle.tsp_rules.proofs.Emits.{Sort, Posting, Numbering, Moving, Asking, Emits, Keeps_by, is_in, is_part, sort_of, sort_of_kind, Emits_posts_to_others}
-use Rattle.tsp_rules.proofs.Emits.{Emits_adjusts}
 use Rattle.tsp_rules.proofs.{EmitsBuilt.emits_built, EmitsBuilt.nothing_owed, Unchanged.unchanged, Built.At, Built.Built, Built.Corrects, RowCodes.Asks}
 use Rattle.tsp_rules.proofs.{BuiltGate.built_sends_loops}
 use Rattle.tsp_rules.proofs.{BuiltShared.built_begins, BuiltSends.built_due_sends, BuiltSends.send_sorts, BuiltRounds.correct_sorts}
@@ -27,6 +20,26 @@ use Rattle.tsp_rules.proofs.{BuiltRounds.built_corrects_by}
 use Rattle.tsp_progress.specs.CausesFit.{CausesFit, Heard, Unheard, backs_itself_now, elects_by, loosens_by, newest_is, searches_by, seeks_by, wins_by}
 use Rattle.tsp_progress.specs.AlarmsFit.{stands_now}
 use Rattle.tsp_progress.proofs.{PortWakes.no_near, PortWakes.out_of, Waking.near_sorts}
+use Rattle.tsp_rules.specs.Values.{Act, Took, Become, Arm, Ring, Late, Back, Quit, Abandon, Alarm, Quiet, Search, Elect, Window, Probe, CloseAlarm}
+use Rattle.tsp_rules.specs.Values.{ResolveAlarm, Round, PeerId, Place, Peer, Stranger, Port, Role, Starting, Loose, Follow, Candidate, Master, Kind, Accept}
+use Rattle.tsp_rules.specs.Values.{Ack, AdjTime, Conflict, Date, DateAck, DateReq, Election, LoopKind, MasterAck, MasterReq, MasterUp, Msite, MsiteReq}
+use Rattle.tsp_rules.specs.Values.{QuitKind, Refuse, ResolveKind, SetDate, SetDateReq, SetTime, SlaveUp, Test, TraceOff, TraceOn, Taken, Good, Bad, Message}
+use Rattle.tsp_rules.specs.Values.{Stamp, Request, Reply, WINDOW, ROUND, PROBE, CLOSE, WAIT, SPAN}
+use Rattle.tsp_base.specs.Words.{Acts, Deed, Did, Estimate, MessageValue, Past, Received, Row, Seen, Leads, arms, for_each, grown, nothing, others, posts, puts}
+use Rattle.tsp_base.specs.Words.{posts_to_others, either_by, reading, taken, taken_after, ◌followed_by◌}
+use Rattle.tsp_rules.proofs.Emits.{Sort, Posting, Numbering, Moving, Asking, Acking, Counting, Correcting, Tabling, Tracing, Passing, Sampling, Taking, Emits}
+use Rattle.tsp_rules.proofs.Emits.{Keeps_by, is_in, is_part, sort_of, sort_of_kind, Emits_posts, Emits_posts_to_others, Emits_adjusts}
+use Rattle.tsp_rules.specs.CandidateRows.{candidate_takes, candidate_takes_kind}
+use Rattle.tsp_rules.specs.{SlaveRows.slave_takes, SlaveRows.slave_takes_kind, MasterRows.master_takes, MasterRows.master_takes_kind, ResolveRows.resolves}
+use Rattle.tsp_rules.specs.{SendRows.acknowledges, DateRows.date_request_of, DateRows.date_acked}
+use Rattle.tsp_rules.specs.{Guards.is_armed, Guards.is_heard, Guards.role_at}
+use Rattle.tsp_rules.specs.Answers.{says_in, peer_says, peer_replies, from_peer, handles_kind, is_left}
+use Rattle.tsp_rules.proofs.BuiltShared.{built_acknowledges, built_names_master, built_says_master, built_traces, built_replies}
+use Rattle.tsp_rules.proofs.BuiltAnswers.{date_sorts, built_date_of, built_date_request_of, built_date_acked, built_handles, built_peer_replies, says_sorts}
+use Rattle.tsp_rules.proofs.BuiltAnswers.{taken_sorts}
+use Rattle.tsp_rules.proofs.{BuiltRoles.built_accepted_by, BuiltRoles.built_joins, BuiltRoles.yield_sorts, BuiltGate.built_loosens_master}
+use Rattle.tsp_rules.proofs.{Unchanged.place_unchanged, EmitsBuilt.nothing_taken, Built.Wider}
+use Rattle.tsp_progress.specs.CausesFit.{stirred, stirs, stirs_in}
 
 abbrev pub Caused : ℕ → Past → Type 0
 Caused x past = CausesFit past.seen
@@ -41,31 +54,27 @@ pub record Newest (deed : Deed) (x : ℕ) (past : Past) : Type 0 where
   pub causes : CausesFit past.seen
   pub is : (test : Deed → Bool) → newest_is test past.seen ≡ test deed
 
--- after a datagram anything may come
-heard-after : (a : Act) (o : Option Received) → is_some o ≡ true → is_some (taken_after (Acts a) o) ≡ true
-heard-after (Took from t) o e = refl
-heard-after _ o e = e
+-- acts that take nothing
+untaken : (sorts : List Sort) → is_in Taking sorts ≡ false → (a : Act) → is_in (sort_of a) sorts ≡ true → (o : Option Received) → taken_after (Acts a) o ≡ o
+untaken sorts none (Took from t) e o = absurd (true≢false (sym e ∙ none))
+untaken sorts none _ e o = refl
 
-pub heard_row : (row : Row) → Leads Hearing row Hearing
-heard_row row = record { run = λ x past h. each x past (row x past) h } where
-  each : (x : ℕ) (past : Past) (acts : List Act) → Hearing x past → Hearing x (grown x past acts)
-  each x past [] h = h
-  each x past (a ∷ rest) h = each x (grown x past (a ∷ [])) rest (record { causes = (inl h.heard, h.causes); heard = heard-after a (taken past.seen) h.heard })
+-- after such a message anything may come
+pub heard_row : (sorts : List Sort) (row : Row) → is_in Taking sorts ≡ false → Emits sorts row → Leads Hearing row Hearing
+unfolding puts
+heard_row sorts row none e = record {
+  run = λ x past h. Keeps_by {T = ℕ} sorts (λ p n. Hearing n p) row
+      (λ a i y p n k. record { causes = (inl k.heard, k.causes); heard = ap stirred (untaken sorts none a i (taken p.seen)) ∙ k.heard }) e x past x h;
+}
 
 pub unhear : (x : ℕ) (past : Past) → Hearing x past → Caused x past
 unhear x past h = h.causes
 
-pub took_leads : (from : Place) (t : Taken) → Leads Caused (puts (Took from t)) Hearing
-took_leads from t = Leads_puts (Took from t) (λ x past h. record { causes = (inr tt, h); heard = refl })
-
-pub takes_cause : (steer charge : Bool) (from : Place) (t : Taken) → Leads Caused (takes steer charge from t) Caused
-unfolding takes
-takes_cause steer charge from t = Leads_then {Q = Hearing} (puts (Took from t)) (either_by (is_own from) nothing (handles steer charge from t))
-    (took_leads from t)
-    (Leads_to unhear (heard_row (either_by (is_own from) nothing (handles steer charge from t))))
+pub took_leads : (from : Place) (t : Taken) → stirs_in t ≡ true → Leads Caused (puts (Took from t)) Hearing
+took_leads from t e = Leads_puts (Took from t) (λ x past h. record { causes = (inr tt, h); heard = e })
 
 pub gives_up_cause : Leads Hearing loosens_master Caused
-gives_up_cause = Leads_to unhear (heard_row loosens_master)
+gives_up_cause = Leads_to unhear (heard_row yield_sorts loosens_master refl (emits_built refl built_loosens_master))
 
 -- acts that owe nothing
 abbrev pub owes_cause : Act → Bool
@@ -140,6 +149,120 @@ reposts_cause m = record { run = λ x past h. each x past (others past.own past.
   each : (x : ℕ) (past : Past) (ps : List PeerId) → Caused x past → Caused x (grown x past (map (repost m) ps))
   each x past [] h = h
   each x past (p ∷ ps) h = each x (grown x past (repost m p ∷ [])) ps (keeps-cause (repost m p) refl x past h)
+
+-- what comes of messages of other kinds
+
+abbrev all_handled_sorts : List Sort
+all_handled_sorts = Tracing ∷ Passing ∷ Sampling ∷ says_sorts
+
+post-cause : (p : PeerId) (kind : Kind) (number : ℕ) → is_in (sort_of_kind kind) (Posting ∷ Numbering ∷ []) ≡ true → Leads Caused (posts p kind number) Caused
+post-cause p kind number e = emits-cause (Posting ∷ Numbering ∷ []) (posts p kind number) refl (Emits_posts p kind number e)
+
+acks-cause : (p : PeerId) (number : ℕ) → Leads Caused (acknowledges p number) Caused
+acks-cause p number = built-cause {sorts = Acking ∷ []} refl refl (built_acknowledges p number tt)
+
+slave-cause : (p : PeerId) (m : MessageValue) (k : Kind) → stirs k ≡ false → Leads Caused (slave_takes_kind p m k) Caused
+unfolding slave_takes_kind
+slave-cause p m MasterUp e = absurd (true≢false e)
+slave-cause p m MasterAck e = absurd (true≢false e)
+slave-cause p m Election e = absurd (true≢false e)
+slave-cause p m AdjTime e = absurd (true≢false e)
+slave-cause p m SetTime e = absurd (true≢false e)
+slave-cause p m QuitKind e = absurd (true≢false e)
+slave-cause p m Ack e = acks-cause p m.number
+slave-cause p m _ e = Leads_nothing
+
+candidate-cause : (p : PeerId) (m : MessageValue) (k : Kind) → stirs k ≡ false → Leads Caused (candidate_takes_kind p m k) Caused
+unfolding candidate_takes_kind
+candidate-cause p m MasterUp e = absurd (true≢false e)
+candidate-cause p m MasterAck e = absurd (true≢false e)
+candidate-cause p m Election e = absurd (true≢false e)
+candidate-cause p m Refuse e = absurd (true≢false e)
+candidate-cause p m QuitKind e = absurd (true≢false e)
+candidate-cause p m Accept e = built-cause {sorts = Acking ∷ Counting ∷ []} refl refl (built_accepted_by p m.number tt)
+candidate-cause p m Ack e = acks-cause p m.number
+candidate-cause p m _ e = Leads_nothing
+
+resolves-cause : Leads Caused resolves Caused
+unfolding resolves
+resolves-cause = Leads_either (is_armed ResolveAlarm) nothing (arms ResolveAlarm WINDOW followed_by posts_to_others ResolveKind 0)
+    (Leads_from (λ x past h. h.0) Leads_nothing)
+    (Leads_from (λ x past h. h.0) (Leads_then {Q = Caused} (arms ResolveAlarm WINDOW) (posts_to_others ResolveKind 0)
+        (free-arms ResolveAlarm WINDOW (λ at. refl)) (to-others ResolveKind refl)))
+
+master-cause : (p : PeerId) (m : MessageValue) (k : Kind) → stirs k ≡ false → Leads Caused (master_takes_kind p m k) Caused
+unfolding master_takes_kind
+master-cause p m MasterUp e = absurd (true≢false e)
+master-cause p m MasterAck e = absurd (true≢false e)
+master-cause p m Election e = absurd (true≢false e)
+master-cause p m QuitKind e = absurd (true≢false e)
+master-cause p m MasterReq e = post-cause p MasterAck m.number refl
+master-cause p m ResolveKind e = post-cause p MasterAck m.number refl
+master-cause p m SlaveUp e = built-cause {sorts = Correcting ∷ Tabling ∷ []} refl refl (built_joins p m.number tt tt)
+master-cause p m Conflict e = Leads_then {Q = Caused} (posts p Ack m.number) resolves (post-cause p Ack m.number refl) resolves-cause
+master-cause p m Ack e = acks-cause p m.number
+master-cause p m _ e = Leads_nothing
+
+says-cause : (p : PeerId) (m : MessageValue) (r : Role) → stirs m.kind ≡ false → Leads Caused (says_in p m r) Caused
+unfolding says_in slave_takes candidate_takes master_takes
+says-cause p m Starting e = Leads_nothing
+says-cause p m Candidate e = candidate-cause p m m.kind e
+says-cause p m Master e = master-cause p m m.kind e
+says-cause p m _ e = slave-cause p m m.kind e
+
+peer-cause : (from : Place) (row : PeerId → Row) → ((p : PeerId) → Leads Caused (row p) Caused) → Leads Caused (from_peer from row) Caused
+unfolding from_peer
+peer-cause (Peer p) row d = Leads_either (is_heard p) (row p) nothing (Leads_from (λ x past h. h.0) (d p)) (Leads_from (λ x past h. h.0) Leads_nothing)
+peer-cause Stranger row d = Leads_nothing
+
+peer-says : (m : MessageValue) (p : PeerId) → stirs m.kind ≡ false → Leads Caused (peer_says m p) Caused
+unfolding peer_says
+peer-says m p e = Leads_reading role_at (says_in p m) (λ r. Leads_from (λ x past h. h.0) (says-cause p m r e))
+
+kind-cause : (charge : Bool) (from : Place) (m : MessageValue) (k : Kind) → m.kind ≡ k → stirs k ≡ false → Leads Caused (handles_kind charge from m k) Caused
+unfolding handles_kind
+kind-cause charge from m Msite is e = built-cause {sorts = Posting ∷ []} refl refl (built_names_master from m.number (place_unchanged from) tt tt)
+kind-cause charge from m MsiteReq is e = built-cause {sorts = Posting ∷ []} refl refl (built_says_master from m.number (place_unchanged from) tt tt)
+kind-cause charge from m TraceOn is e = built-cause {sorts = Tracing ∷ Posting ∷ []} refl refl (built_traces from m.number (place_unchanged from) tt tt true)
+kind-cause charge from m TraceOff is e = built-cause {sorts = Tracing ∷ Posting ∷ []} refl refl (built_traces from m.number (place_unchanged from) tt tt false)
+kind-cause charge from m Test is e = absurd (true≢false e)
+kind-cause charge from m Date is e = built-cause {sorts = date_sorts} refl refl (built_date_of charge m tt tt from (place_unchanged from) tt)
+kind-cause charge from m SetDate is e = built-cause {sorts = date_sorts} refl refl (built_date_of charge m tt tt from (place_unchanged from) tt)
+kind-cause charge from m DateReq is e = peer-cause from (date_request_of charge m) (λ p. built-cause {sorts = date_sorts} refl refl
+    (built_date_request_of charge m tt tt p tt))
+kind-cause charge from m SetDateReq is e = peer-cause from (date_request_of charge m) (λ p. built-cause {sorts = date_sorts} refl refl
+    (built_date_request_of charge m tt tt p tt))
+kind-cause charge from m DateAck is e = peer-cause from (date_acked m) (λ p. built-cause {sorts = Acking ∷ []} refl refl (built_date_acked m p tt))
+kind-cause charge from m LoopKind is e = Leads_nothing
+kind-cause charge from m _ is e = peer-cause from (peer_says m) (λ p. peer-says m p (ap stirs is ∙ e))
+
+handles-cause : (steer charge : Bool) (from : Place) (t : Taken) → stirs_in t ≡ false → Leads Caused (handles steer charge from t) Caused
+unfolding handles
+handles-cause steer charge from (Bad fault) e = Leads_nothing
+handles-cause steer charge from (Good (Message m)) e = Leads_either (is_left steer m.kind) nothing (handles_kind charge from m m.kind)
+    (Leads_from (λ x past h. h.0) Leads_nothing) (Leads_from (λ x past h. h.0) (kind-cause charge from m m.kind refl e))
+handles-cause steer charge from (Good (Stamp (Request word counter))) e = built-cause {sorts = Posting ∷
+    []} refl refl (built_replies from word counter (place_unchanged from) tt tt)
+handles-cause steer charge from (Good (Stamp (Reply r))) e = peer-cause from (peer_replies r) (λ p. built-cause {sorts = Sampling ∷
+    []} refl refl (built_peer_replies r p tt tt))
+
+handles-heard : (steer charge : Bool) (from : Place) (t : Taken) → Leads Hearing (handles steer charge from t) Hearing
+handles-heard steer charge from t = heard_row all_handled_sorts (handles steer charge from t) refl
+    (emits_built refl (Wider (handled-part t) (built_handles steer charge from t (place_unchanged from) tt (nothing_taken t)))) where
+  handled-part : (t : Taken) → is_part (taken_sorts t) all_handled_sorts ≡ true
+  handled-part (Good (Message m)) = refl
+  handled-part _ = refl
+
+pub takes_cause : (steer charge : Bool) (from : Place) (t : Taken) → Leads Caused (takes steer charge from t) Caused
+unfolding takes
+takes_cause steer charge from t = by_case (stirs_in t) refl where
+  by_case : (b : Bool) → stirs_in t ≡ b → Leads Caused (puts (Took from t) followed_by either_by (is_own from) nothing (handles steer charge from t)) Caused
+  by_case true e = Leads_then {Q = Hearing} (puts (Took from t)) (either_by (is_own from) nothing (handles steer charge from t)) (took_leads from t e)
+      (Leads_to unhear (Leads_either (is_own from) nothing (handles steer charge from t) (Leads_from (λ x past h. h.0) Leads_nothing)
+          (Leads_from (λ x past h. h.0) (handles-heard steer charge from t))))
+  by_case false e = Leads_then {Q = Caused} (puts (Took from t)) (either_by (is_own from) nothing (handles steer charge from t)) (free_puts (Took from t) refl)
+      (Leads_either (is_own from) nothing (handles steer charge from t) (Leads_from (λ x past h. h.0) Leads_nothing)
+          (Leads_from (λ x past h. h.0) (handles-cause steer charge from t e)))
 
 -- an act that owes nothing, as the newest
 newest : {P : ℕ → Past → Type 0} (a : Act) → ((x : ℕ) (past : Past) → P x past → Caused x past) → owes_cause a ≡ false → Leads P (puts a) (Newest (Acts a))

@@ -1,13 +1,13 @@
 -- What a node does in a step over all its ports puts its acts in the order that they need.
-use Rattle.std.proofs.Common.{sym, subst, ◌≡◌, ℕ, ◌==◌, true, List, ◌∷◌, inr, refl}
+use Rattle.std.proofs.Common.{sym, ap, subst, ◌≡◌, ℕ, ◌==◌, true, List, ◌∷◌, inr, refl}
 use Rattle.std.proofs.lemmas.Bool.{or_right}
-use Rattle.tsp_rules.specs.Values.{Boot, Become, Abandon, Quiet, Port, Starting, QUIET}
+use Rattle.tsp_rules.specs.Values.{Boot, Good, Message, Become, Abandon, Quiet, Port, Starting, QUIET}
 use Rattle.tsp_base.specs.Words.{Acts, Begins, Seen, Step, Leads, arms, first_port, held, line_of, puts, role, seen_as, view, ◌followed_by◌}
 use Rattle.tsp_base.proofs.{LeadsLemmas.Leads_puts, LeadsLemmas.Leads_then}
 use Rattle.tsp_rules.specs.GateRows.{NodeGiven, all_ports, answers_all, boots_all, boots_on, ports_from}
 use Rattle.tsp_rules.specs.NodeRows.{NodePast, for_ports, in_node_step, on, reading_all}
 use Rattle.tsp_promises.proofs.GateSteps.{All_after, LeadsAll}
-use Rattle.tsp_progress.specs.{AlarmsFit.Manner, CausesFit.CausesFit, CausesFit.Heard}
+use Rattle.tsp_progress.specs.{AlarmsFit.Manner, CausesFit.CausesFit, CausesFit.Heard, CausesFit.stirs}
 use Rattle.tsp_progress.proofs.CauseLeads.{free_puts, gives_up_cause, loops_cause, reposts_cause, rings_cause, sends_cause, takes_cause, took_leads}
 use Rattle.tsp_progress.proofs.NodeKeeps.{Each, Family, Keeps, answers_keep, list_each, node_manner, on_each}
 
@@ -28,7 +28,7 @@ causes_keep = record {
   sends = sends_cause;
   rings = rings_cause;
   takes = takes_cause;
-  took = λ from t. record { run = λ x past h. let k = (took_leads from t).run x past h in (k.causes, k.heard) };
+  took = λ from m is. record { run = λ x past h. let k = (took_leads from (Good (Message m)) (ap stirs is)).run x past h in (k.causes, k.heard) };
   gives_up = record { run = λ x past h. gives_up_cause.run x past (record { causes = h.0; heard = h.1 }) };
   abandons = free_puts Abandon refl;
   loops = loops_cause;

@@ -70,7 +70,7 @@ pub record Keeps (P H : Manner → ℕ → List Seen → Type 0) : Type 0 where
   pub sends : Leads (At P) due_sends (At P)
   pub rings : (own wait : Bool) (a : Alarm) → Leads (At P) (rings own wait a) (At P)
   pub takes : (steer charge : Bool) (from : Place) (t : Taken) → Leads (At P) (takes steer charge from t) (At P)
-  pub took : (from : Place) (t : Taken) → Leads (At P) (puts (Took from t)) (At H)
+  pub took : (from : Place) (m : MessageValue) → m.kind ≡ LoopKind → Leads (At P) (puts (Took from (Good (Message m)))) (At H)
   pub gives_up : Leads (At H) loosens_master (At P)
   pub abandons : Leads (At P) (puts Abandon) (At P)
   pub loops : (q : Port) → Leads (At P) (sends_loops q) (At P)
@@ -175,20 +175,22 @@ module _ (P H : Manner → ℕ → List Seen → Type 0) (k : Keeps P H) where
   heeds_keep q m true = record { run = λ x past h. (loop_keep q (judge past.name (length past.ports) q m)).run x past h }
   heeds_keep q m false = record { run = λ x past h. h.0 }
 
-  took_keep : (q : Port) (from : Place) (t : Taken) → LeadsAll (Each P) (on q (puts (Took from t))) (TookOn q)
+  took_keep : (q : Port) (from : Place) (m : MessageValue) → m.kind ≡ LoopKind → LeadsAll (Each P) (on q (puts (Took from (Good (Message m))))) (TookOn q)
   unfolding on
-  took_keep q from t = record {
-    run = λ x past all. (
-      (on_keep q (puts (Took from t)) (Leads_to k.weaken (k.took from t))).run x past all,
-      subst (λ (z : Past). H (node_manner past) x z.seen) (sym (on_own q x past (puts (Took from t) x (on_port q past))))
-          ((k.took from t).run x (on_port q past) (all q)),
-    );
-  }
+  took_keep q from m is =
+      let t = Good (Message m) in
+      record {
+        run = λ x past all. (
+          (on_keep q (puts (Took from t)) (Leads_to k.weaken (k.took from m is))).run x past all,
+          subst (λ (z : Past). H (node_manner past) x z.seen) (sym (on_own q x past (puts (Took from t) x (on_port q past))))
+              ((k.took from m is).run x (on_port q past) (all q)),
+        );
+      }
 
-  takes_loop_keep : (q : Port) (from : Place) (m : MessageValue) → LeadsAll (Each P) (takes_loop q from m) (Each P)
+  takes_loop_keep : (q : Port) (from : Place) (m : MessageValue) → m.kind ≡ LoopKind → LeadsAll (Each P) (takes_loop q from m) (Each P)
   unfolding takes_loop
-  takes_loop_keep q from m = All_after (on q (puts (Took from (Good (Message m))))) (reading_all (hears_on from q) (heeds_loop q m))
-      (took_keep q from (Good (Message m))) (All_reading (hears_on from q) (heeds_loop q m) (heeds_keep q m))
+  takes_loop_keep q from m is = All_after (on q (puts (Took from (Good (Message m))))) (reading_all (hears_on from q) (heeds_loop q m))
+      (took_keep q from m is) (All_reading (hears_on from q) (heeds_loop q m) (heeds_keep q m))
 
   takes_message_keep : (q : Port) (from : Place) (m : MessageValue) → LeadsAll (Each P) (takes_message q from m) (Each P)
   unfolding takes_message
@@ -198,14 +200,14 @@ module _ (P H : Manner → ℕ → List Seen → Type 0) (k : Keeps P H) where
         (stirring_keep q (stirred_ports q m.kind) row (k.takes (steers q x past) (in_charge q x past) from (Good (Message m)))).run x past all;
   }
 
-  takes_kind_keep : (q : Port) (from : Place) (m : MessageValue) (k : Kind) → LeadsAll (Each P) (takes_kind q from m k) (Each P)
+  takes_kind_keep : (q : Port) (from : Place) (m : MessageValue) (k : Kind) → m.kind ≡ k → LeadsAll (Each P) (takes_kind q from m k) (Each P)
   unfolding takes_kind
-  takes_kind_keep q from m LoopKind = takes_loop_keep q from m
-  takes_kind_keep q from m _ = takes_message_keep q from m
+  takes_kind_keep q from m LoopKind is = takes_loop_keep q from m is
+  takes_kind_keep q from m _ is = takes_message_keep q from m
 
   takes_keep : (q : Port) (from : Place) (t : Taken) → LeadsAll (Each P) (takes_on q from t) (Each P)
   unfolding takes_on
-  takes_keep q from (Good (Message m)) = takes_kind_keep q from m m.kind
+  takes_keep q from (Good (Message m)) = takes_kind_keep q from m m.kind refl
   takes_keep q from (Good (Stamp s)) = on_keep q (takes true true from (Good (Stamp s))) (k.takes true true from (Good (Stamp s)))
   takes_keep q from (Bad fault) = on_keep q (takes true true from (Bad fault)) (k.takes true true from (Bad fault))
 

@@ -1,7 +1,7 @@
 -- What a node does in a step over all its ports keeps armed what each port's role asks for.
 use Rattle.std.proofs.Common.{sym, subst, ◌≡◌, ℕ, ◌==◌, true, List, [], ◌∷◌, map, refl}
 use Rattle.std.proofs.lemmas.Bool.{or_right}
-use Rattle.tsp_rules.specs.Values.{Boot, Took, Become, Abandon, Quiet, PeerId, Port, Starting, QUIET, Loose}
+use Rattle.tsp_rules.specs.Values.{Boot, Took, Become, Abandon, Quiet, PeerId, Port, Starting, QUIET, Loose, Good, Message}
 use Rattle.tsp_base.specs.Words.{Acts, Did, Here, Elsewhere, Begins, MessageValue, Past, Seen, Step, Leads, arms, first_port, grown, held, line_of, nothing}
 use Rattle.tsp_base.specs.Words.{others, puts, seen_as, view, ◌followed_by◌}
 use Rattle.tsp_base.proofs.{LeadsLemmas.Leads_either, LeadsLemmas.Leads_from, LeadsLemmas.Leads_nothing, LeadsLemmas.Leads_puts, LeadsLemmas.Leads_then}
@@ -68,7 +68,7 @@ awake_keeps = record {
   sends = sends_far;
   rings = rings_far;
   takes = takes_far;
-  took = λ from t. far (Took from t) refl;
+  took = λ from m is. far (Took from (Good (Message m))) refl;
   gives_up = gives_up_far;
   abandons = far Abandon refl;
   loops = λ q. calm {sorts = Posting ∷ []} refl refl (built_sends_loops q tt);

@@ -91,7 +91,8 @@ none-open ps p (Here d ∷ before) n o = let both = and_parts (writes_to ps d.de
       by_off true e = refl
       by_off false e = e
 
-      by_deed : (deed : Deed) → writes_to ps deed ≡ true → open_to p before ≡ [] → open_to_after p deed (acting before) (Here d ∷ before) (open_to p before) ≡ []
+      by_deed : (deed : Deed) → writes_to ps deed ≡ true → open_to p before ≡ [] → open_to_after p deed (acting before) (Here d ∷ before) (open_to p before) ≡
+          []
       by_deed (Acts Boot) w e = refl
       by_deed (Acts (Become r)) w e = refl
       by_deed (Acts (Post (Peer q) (Message m))) w e = by_peer q (q.0 == p.0) (is_numbered m.kind && acting before) refl w e
