@@ -188,7 +188,7 @@ unfolding resolves
 resolves-cause = Leads_either (is_armed ResolveAlarm) nothing (arms ResolveAlarm WINDOW followed_by posts_to_others ResolveKind 0)
     (Leads_from (λ x past h. h.0) Leads_nothing)
     (Leads_from (λ x past h. h.0) (Leads_then {Q = Caused} (arms ResolveAlarm WINDOW) (posts_to_others ResolveKind 0)
-        (free-arms ResolveAlarm WINDOW (λ at. refl)) (to-others ResolveKind refl)))
+    (free-arms ResolveAlarm WINDOW (λ at. refl)) (to-others ResolveKind refl)))
 
 master-cause : (p : PeerId) (m : MessageValue) (k : Kind) → stirs k ≡ false → Leads Caused (master_takes_kind p m k) Caused
 unfolding master_takes_kind
@@ -249,9 +249,9 @@ handles-cause steer charge from (Good (Stamp (Reply r))) e = peer-cause from (pe
 handles-heard : (steer charge : Bool) (from : Place) (t : Taken) → Leads Hearing (handles steer charge from t) Hearing
 handles-heard steer charge from t = heard_row all_handled_sorts (handles steer charge from t) refl
     (emits_built refl (Wider (handled-part t) (built_handles steer charge from t (place_unchanged from) tt (nothing_taken t)))) where
-  handled-part : (t : Taken) → is_part (taken_sorts t) all_handled_sorts ≡ true
-  handled-part (Good (Message m)) = refl
-  handled-part _ = refl
+      handled-part : (t : Taken) → is_part (taken_sorts t) all_handled_sorts ≡ true
+      handled-part (Good (Message m)) = refl
+      handled-part _ = refl
 
 pub takes_cause : (steer charge : Bool) (from : Place) (t : Taken) → Leads Caused (takes steer charge from t) Caused
 unfolding takes
@@ -259,10 +259,10 @@ takes_cause steer charge from t = by_case (stirs_in t) refl where
   by_case : (b : Bool) → stirs_in t ≡ b → Leads Caused (puts (Took from t) followed_by either_by (is_own from) nothing (handles steer charge from t)) Caused
   by_case true e = Leads_then {Q = Hearing} (puts (Took from t)) (either_by (is_own from) nothing (handles steer charge from t)) (took_leads from t e)
       (Leads_to unhear (Leads_either (is_own from) nothing (handles steer charge from t) (Leads_from (λ x past h. h.0) Leads_nothing)
-          (Leads_from (λ x past h. h.0) (handles-heard steer charge from t))))
+      (Leads_from (λ x past h. h.0) (handles-heard steer charge from t))))
   by_case false e = Leads_then {Q = Caused} (puts (Took from t)) (either_by (is_own from) nothing (handles steer charge from t)) (free_puts (Took from t) refl)
       (Leads_either (is_own from) nothing (handles steer charge from t) (Leads_from (λ x past h. h.0) Leads_nothing)
-          (Leads_from (λ x past h. h.0) (handles-cause steer charge from t e)))
+      (Leads_from (λ x past h. h.0) (handles-cause steer charge from t e)))
 
 -- an act that owes nothing, as the newest
 newest : {P : ℕ → Past → Type 0} (a : Act) → ((x : ℕ) (past : Past) → P x past → Caused x past) → owes_cause a ≡ false → Leads P (puts a) (Newest (Acts a))

@@ -28,7 +28,10 @@ use Rattle.tsp_base.specs.Words.{peer_of}
 use Rattle.tsp_progress.specs.Worked.{one_may, until_closes}
 use Rattle.tsp_run.specs.Run.{run}
 use Rattle.std.specs.Prelude.{[], ◌∷◌}
-use Rattle.tsp_progress.proofs.WatchChecks.{attended-by}
+use Rattle.std.proofs.Common.{subst, sym}
+use Rattle.tsp_base.specs.Words.{of, view}
+use Rattle.tsp_progress.specs.Watched.{Watched}
+use Rattle.tsp_progress.proofs.WatchChecks.{attended-by, watched-by}
 use Rattle.tsp_progress.proofs.laws.prompt_use.Goals as goal
 
 -- the rules give what is told
@@ -49,4 +52,7 @@ returns c = record {
   valid = (refl, (refl, (refl, (refl, (refl, (refl, (refl, (refl, (refl, (refl, (refl, (refl, (refl, tt)))))))))))));
   attended = attended-by 0 (peer_of 1 ∷ []) (run one_may until_closes) refl;
   told_is = refl;
+  told_to = λ setting set q.
+      subst (λ x. Watched 0 x (view q (of 0 (run one_may until_closes)))) (sym (set.tick_is 0 638000000))
+      (watched-by 0 (peer_of 1 ∷ []) 638000000 (of 0 (run one_may until_closes)) refl q);
 }
