@@ -1,5 +1,6 @@
 -- Each row of a port keeps what its role asks for armed.
-use Rattle.std.proofs.Common.{sym, ap, subst, true≢false, ◌∙◌, ◌≡◌, ◌≢◌, ◌+◌, ℕ, ◌==◌, ◌||◌, ◌&&◌, ◌⊎◌, ◌*◌, ◌≤◌, not, nat_le, nat_lt, eqb-true, le-leb, length}
+use Rattle.std.proofs.Common.{sym, pos, ap, subst, true≢false, ◌∙◌, ◌≡◌, ◌≢◌, ◌+◌, ℕ, ◌==◌, ◌||◌, ◌&&◌, ◌⊎◌, ◌*◌, ◌≤◌, not, nat_le, nat_lt, eqb-true, le-leb}
+use Rattle.std.proofs.Common.{length}
 use Rattle.std.proofs.Common.{inl, inr, ℤ, Bool, true, false, if◌then◌else◌, List, [], ◌∷◌, Option, None, Some, refl}
 use Rattle.std.proofs.lemmas.Bool.{and_parts, not-true, or_right}
 use Rattle.tsp_rules.specs.Values.{Become, Ring, Late, Back, Quit, Acked, Took, Abandon, Alarm, Quiet, Search, Elect, Window, Probe, CloseAlarm, ResolveAlarm}
@@ -36,6 +37,7 @@ use Rattle.tsp_rules.proofs.{BuiltSends.built_due_sends, BuiltSends.send_sorts}
 use Rattle.tsp_rules.proofs.BuiltRounds.{correct_sorts, built_corrects_by}
 use Rattle.tsp_progress.specs.AlarmsFit.{AlarmsFit, Arms, IsFree, NextTo, asks_next}
 use Rattle.tsp_progress.proofs.Waking.{Arming, Awake, Backed, Became, Due, Nearly, Off, Rang, Ready, Unled, arming, arming_by, arms_any_elect, arms_close}
+use Rattle.tsp_progress.proofs.Waking.{Closed, closes_by, closes_still, corrects_by_mean}
 use Rattle.tsp_progress.proofs.Waking.{arms_probe, arms_resolve, arms_round, arms_search, arms_wait, backs_another, backs_itself, becomes, candidate_windows}
 use Rattle.tsp_progress.proofs.Waking.{far, far_by, far_row, follow_elects, idle_after, is_lasting, late_off, lead_after, loose_elects, loose_searches, manner}
 use Rattle.tsp_progress.proofs.Waking.{master_rounds, near_sorts, quiet_off, ready, ready_by, rings_off, settled_by, window_late, window_off}
@@ -47,7 +49,7 @@ no_near (s ∷ rest) = not (is_in s near_sorts) && no_near rest
 
 -- what is said of a sort is said of its code
 near-code : (s t : Sort) → (code s == code t) ≡ true → is_in t near_sorts ≡ false → is_in s near_sorts ≡ false
-near-code s t e n = subst (λ c. ((c == 0) || ((c == 6) || ((c == 7) || ((c == 8) || ((c == 9) || ((c == 11) || ((c == 12) || false))))))) ≡
+near-code s t e n = subst (λ c. ((c == 0) || ((c == 6) || ((c == 7) || ((c == 8) || ((c == 9) || ((c == 11) || ((c == 12) || ((c == 18) || false)))))))) ≡
     false) (sym (eqb-true (code s) (code t) e)) n
 
 pub out_of : (sorts : List Sort) → no_near sorts ≡ true → (s : Sort) → is_in s sorts ≡ true → is_in s near_sorts ≡ false
@@ -401,27 +403,39 @@ probe_far = Leads_either (is_in_time Probe) (puts (Ring Probe) followed_by (read
 
 -- a round's close
 
-moves_far : (own : Bool) (mean : ℤ) → Leads Awake (moves own mean) Awake
-unfolding moves
-moves_far true mean = emit (Moving ∷ []) (adjusts mean) refl (Emits_adjusts mean refl)
-moves_far false mean = Leads_nothing
-
 corrects_far : (mean : ℤ) (p : PeerId) (best : Option Estimate) → Leads Awake (corrects_by mean p best) Awake
 corrects_far mean p best = calm {sorts = correct_sorts} refl refl (built_corrects_by mean p tt best (owed best)) where
   owed : (b : Option Estimate) → Corrects nothing_owed mean b
   owed None = tt
   owed (Some b) = (tt, λ e. tt)
 
-closes_far : (own : Bool) (g : Group) (round : List Standing) → Leads (Off CloseAlarm (Acts (Ring CloseAlarm))) (closes_with own g round) Awake
-unfolding closes_with abandons corrects_peer
-closes_far own g round = Leads_either (can_adjust (mean_by own g)) (puts (close_act own g) followed_by
-    (moves own (mean_by own g) followed_by for_each (λ s. corrects_by (mean_by own g) s.peer s.best) round)) (puts Abandon)
-    (Leads_from (λ x past h. h.0) (Leads_then {Q = Awake} (puts (close_act own g))
-    (moves own (mean_by own g) followed_by for_each (λ s. corrects_by (mean_by own g) s.peer s.best) round)
-    (far_by CloseAlarm (close_act own g) refl (λ m x older. inl (g.count, (g.lo, (g.width, (mean_by own g, refl))))))
-    (Leads_then {Q = Awake} (moves own (mean_by own g)) (for_each (λ s. corrects_by (mean_by own g) s.peer s.best) round) (moves_far own (mean_by own g))
-    (Leads_each (λ (s : Standing). corrects_by (mean_by own g) s.peer s.best) round (λ s. corrects_far (mean_by own g) s.peer s.best)))))
+closes_own : (g : Group) (round : List Standing) → Leads (Off CloseAlarm (Acts (Ring CloseAlarm))) (closes_with true g round) Awake
+unfolding closes_with abandons corrects_peer moves
+closes_own g round = let mean = mean_by true g in
+    Leads_either (can_adjust mean) (puts (close_act true g) followed_by (adjusts mean followed_by for_each (λ s. corrects_by mean s.peer s.best) round))
+        (puts Abandon)
+    (Leads_from (λ x past h. h.0) (Leads_then {Q = Closed mean} (puts (close_act true g))
+        (adjusts mean followed_by for_each (λ s. corrects_by mean s.peer s.best) round)
+    (closes_by g.count g.lo g.width mean)
+    (Leads_then {Q = Awake} (adjusts mean) (for_each (λ s. corrects_by mean s.peer s.best) round) (corrects_by_mean mean)
+    (Leads_each (λ (s : Standing). corrects_by mean s.peer s.best) round (λ s. corrects_far mean s.peer s.best)))))
     (Leads_from (λ x past h. h.0) (far_by CloseAlarm Abandon refl (λ m x older. inr refl)))
+
+closes_other : (g : Group) (round : List Standing) → Leads (Off CloseAlarm (Acts (Ring CloseAlarm))) (closes_with false g round) Awake
+unfolding closes_with abandons corrects_peer moves
+closes_other g round =
+    Leads_either (can_adjust (pos 0)) (puts (close_act false g) followed_by (nothing followed_by for_each (λ s. corrects_by (pos 0) s.peer s.best) round))
+        (puts Abandon)
+    (Leads_from (λ x past h. h.0) (Leads_then {Q = Awake} (puts (close_act false g)) (nothing followed_by for_each (λ s. corrects_by (pos 0) s.peer s.best)
+        round)
+    (closes_still g.count g.lo g.width)
+    (Leads_then {Q = Awake} nothing (for_each (λ s. corrects_by (pos 0) s.peer s.best) round) Leads_nothing
+    (Leads_each (λ (s : Standing). corrects_by (pos 0) s.peer s.best) round (λ s. corrects_far (pos 0) s.peer s.best)))))
+    (Leads_from (λ x past h. h.0) (far_by CloseAlarm Abandon refl (λ m x older. inr refl)))
+
+closes_far : (own : Bool) (g : Group) (round : List Standing) → Leads (Off CloseAlarm (Acts (Ring CloseAlarm))) (closes_with own g round) Awake
+closes_far true g round = closes_own g round
+closes_far false g round = closes_other g round
 
 close_far : (own : Bool) → Leads (Due CloseAlarm) (close_rings own) Awake
 unfolding close_rings closes abandons

@@ -1,14 +1,17 @@
 -- What single acts make of a port that has armed what its role asks for.
-use Rattle.std.proofs.Common.{sym, ap, arith, subst, true≢false, ◌∙◌, ◌≡◌, ◌≢◌, ◌≤◌, ℕ, ◌+◌, ◌||◌, Bool, true, false, List, [], ◌∷◌, Option, None, Some, inl}
+use Rattle.std.proofs.Common.{sym, ap, ℤ, pos, arith, subst, true≢false, ◌∙◌, ◌≡◌, ◌≢◌, ◌≤◌, ℕ, ◌+◌, ◌||◌, Bool, true, false, List, [], ◌∷◌, Option, None, Some}
+use Rattle.std.proofs.Common.{inl}
 use Rattle.std.proofs.Common.{inr, is_some, refl, leb-true, leb-false}
-use Rattle.std.proofs.lemmas.Bool.{or_right}
+use Rattle.std.proofs.lemmas.Bool.{not-false, or_right}
 use Rattle.tsp_rules.specs.Values.{Act, Boot, Become, Arm, Ring, Late, Back, Alarm, Quiet, Search, Elect, Window, Probe, CloseAlarm, ResolveAlarm, Round}
-use Rattle.tsp_rules.specs.Values.{PeerId, Role, Starting, Loose, Follow, Candidate, Master, SLACK, QUIET, WINDOW, ROUND, WAIT, PROBE, CLOSE}
+use Rattle.tsp_rules.specs.ClockRows.{adjusts}
+use Rattle.tsp_rules.specs.Values.{Close, Correct, PeerId, Role, Starting, Loose, Follow, Candidate, Master, SLACK, QUIET, WINDOW, ROUND, WAIT, PROBE, CLOSE}
 use Rattle.tsp_base.specs.Words.{Acts, Deed, Did, Here, Elsewhere, Seen, Past, Row, Leads, role, armed, deadline, held, stood, grown, arms, puts, plain, word}
 use Rattle.tsp_base.proofs.LeadsLemmas.{Leads_puts, Leads_reading}
 use Rattle.tsp_rules.specs.{CommonRows.arms_elect, Guards.delay, Guards.delay_at, Guards.is_due, Guards.is_in_time, Guards.is_met, Guards.is_over}
-use Rattle.tsp_rules.proofs.Emits.{Sort, Booting, Leading, Following, Changing, Backing, Alarming, Rounding, Emits, Keeps_by, is_in, sort_of}
-use Rattle.tsp_progress.specs.AlarmsFit.{AlarmsFit, ArmFits, LateFits, Manner, NextFits, NextTo, RingFits, BackNext, asks_next, is_candidate, owes_next}
+use Rattle.tsp_rules.proofs.Emits.{Sort, Booting, Leading, Following, Changing, Backing, Alarming, Rounding, Closing, Emits, Keeps_by, is_in, sort_of}
+use Rattle.tsp_progress.specs.AlarmsFit.{AlarmsFit, ArmFits, LateFits, Manner, NextFits, NextTo, RingFits, BackNext, CloseNext, asks_next, is_zero}
+use Rattle.tsp_progress.specs.AlarmsFit.{is_candidate, owes_next}
 use Rattle.tsp_progress.specs.AlarmsFit.{stands_by, stands_now}
 use Rattle.tsp_progress.specs.{CausesFit.CausesFit, Wakes.Wakes, Wakes.Windowed}
 
@@ -101,6 +104,7 @@ free-next m (Acts (Late _)) x older next e = tt
 free-next m (Acts (Become Candidate)) x older next e = absurd (true≢false e)
 free-next m (Acts (Become _)) x older next e = tt
 free-next m (Acts (Back p)) x older next e = absurd (true≢false e)
+free-next m (Acts (Close count lo size mean)) x older next e = subst (λ b. CloseNext b mean next) (sym (not-false (is_zero mean) e)) tt
 free-next m _ x older next e = tt
 
 pub free_to : (m : Manner) (seen : List Seen) (next : Deed) → owes_next seen ≡ false → NextTo m seen next
@@ -126,6 +130,7 @@ is_far (Arm a at) = false
 is_far (Ring a) = false
 is_far (Late a) = false
 is_far (Back p) = false
+is_far (Close count lo size mean) = false
 is_far _ = true
 
 windowed-keeps : (d : Did) (seen : List Seen) → stood (Here d ∷ seen) ≡ stood seen → (armed (Here d ∷ seen)).window ≡ (armed seen).window → Windowed seen →
@@ -140,6 +145,7 @@ far-waking (Arm a at) e x past n w = absurd (true≢false (sym e))
 far-waking (Ring a) e x past n w = absurd (true≢false (sym e))
 far-waking (Late a) e x past n w = absurd (true≢false (sym e))
 far-waking (Back p) e x past n w = absurd (true≢false (sym e))
+far-waking (Close count lo size mean) e x past n w = absurd (true≢false (sym e))
 far-waking _ e x past n w = record {
   acts = (tt, (n, w.acts));
   starting = w.starting;
@@ -156,6 +162,7 @@ far-free (Arm a at) e x past = absurd (true≢false (sym e))
 far-free (Ring a) e x past = absurd (true≢false (sym e))
 far-free (Late a) e x past = absurd (true≢false (sym e))
 far-free (Back p) e x past = absurd (true≢false (sym e))
+far-free (Close count lo size mean) e x past = absurd (true≢false (sym e))
 far-free _ e x past = refl
 
 -- they leave what is armed alone
@@ -167,7 +174,7 @@ far a e = Leads_puts a (keeps a e)
 
 -- acts of other sorts are far
 abbrev pub near_sorts : List Sort
-near_sorts = Booting ∷ Leading ∷ Following ∷ Changing ∷ Backing ∷ Alarming ∷ Rounding ∷ []
+near_sorts = Booting ∷ Leading ∷ Following ∷ Changing ∷ Backing ∷ Alarming ∷ Rounding ∷ Closing ∷ []
 
 far-arm : (a : Alarm) (at : ℕ) → is_in (sort_of (Arm a at)) near_sorts ≡ false → is_far (Arm a at) ≡ true
 far-arm Probe at e = absurd (true≢false e)
@@ -196,6 +203,7 @@ other-far (Arm a at) e = far-arm a at e
 other-far (Ring a) e = far-ring a e
 other-far (Late a) e = far-late a e
 other-far (Back p) e = absurd (true≢false e)
+other-far (Close count lo size mean) e = absurd (true≢false e)
 other-far _ e = refl
 
 -- a row of other sorts
@@ -296,6 +304,11 @@ master_rounds = record {
     free = refl;
   };
 }
+
+-- a round closed with this mean, and the clock is to be moved by it
+pub record Closed (mean : ℤ) (x : ℕ) (past : Past) : Type 0 where
+  pub waking : Waking (manner past) true true past.seen
+  pub next : (stepped : Bool) (shown : ℤ) → NextTo (manner past) past.seen (Acts (Correct mean stepped shown))
 
 -- the port stood for election now, and backed itself
 pub record Backed (x : ℕ) (past : Past) : Type 0 where
@@ -697,3 +710,33 @@ far_by a act far k = Leads_puts act (λ x past h. record {
   waking = far-waking act far x past (h.rang.next (Acts act) (k (manner past) x h.rang.older)) h.waking;
   free = far-free act far x past;
 })
+
+close-waking : (count : ℕ) (lo size mean : ℤ) (x : ℕ) (past : Past) → NextTo (manner past) past.seen (Acts (Close count lo size mean)) →
+    Waking (manner past) true true past.seen → Waking (manner past) true true (grown x past (Close count lo size mean ∷ [])).seen
+close-waking count lo size mean x past n w = record { acts = (tt, (n, w.acts)); starting = w.starting;
+    candidate = λ r. windowed-keeps _ past.seen refl refl (w.candidate r); loose = w.loose; follow = w.follow; master = w.master }
+
+close-next : (mean : ℤ) (stepped : Bool) (shown : ℤ) → CloseNext (is_zero mean) mean (Acts (Correct mean stepped shown))
+close-next mean stepped shown = by_zero (is_zero mean) where
+  by_zero : (b : Bool) → CloseNext b mean (Acts (Correct mean stepped shown))
+  by_zero true = tt
+  by_zero false = (stepped, (shown, refl))
+
+-- a round closes with any mean
+pub closes_by : (count : ℕ) (lo size mean : ℤ) → Leads (Off CloseAlarm (Acts (Ring CloseAlarm))) (puts (Close count lo size mean)) (Closed mean)
+closes_by count lo size mean = Leads_puts (Close count lo size mean) (λ x past h. record {
+  waking = close-waking count lo size mean x past (h.rang.next (Acts (Close count lo size mean)) (inl (count, (lo, (size, (mean, refl)))))) h.waking;
+  next = λ stepped shown. close-next mean stepped shown;
+})
+
+-- with the mean 0 nothing is asked
+pub closes_still : (count : ℕ) (lo size : ℤ) → Leads (Off CloseAlarm (Acts (Ring CloseAlarm))) (puts (Close count lo size (pos 0))) Awake
+closes_still count lo size = Leads_puts (Close count lo size (pos 0)) (λ x past h. record {
+  waking = close-waking count lo size (pos 0) x past (h.rang.next (Acts (Close count lo size (pos 0))) (inl (count, (lo, (size, (pos 0, refl)))))) h.waking;
+  free = refl;
+})
+
+-- the clock is moved by the mean
+pub corrects_by_mean : (mean : ℤ) → Leads (Closed mean) (adjusts mean) Awake
+unfolding adjusts
+corrects_by_mean mean = record { run = λ x past h. record { waking = far-waking _ refl x past (h.next _ _) h.waking; free = refl } }

@@ -1,6 +1,7 @@
 -- What each act on an alarm owes to its port's past.
-use Rattle.std.specs.Prelude.{◌≡◌, ◌≢◌, ◌≤◌, ◌<◌, ◌⊎◌, ℕ, ◌+◌, ℤ, Bool, true, false, List, [], ◌∷◌, Some}
-use Rattle.tsp_rules.specs.Values.{Become, Arm, Ring, Late, Back, Abandon, Close, Alarm, Quiet, Window, Elect, Search, Round, Probe, CloseAlarm, ResolveAlarm}
+use Rattle.std.specs.Prelude.{◌≡◌, ◌≢◌, ◌≤◌, ◌<◌, ◌⊎◌, ℕ, ◌+◌, ℤ, nat_abs, ◌==◌, not, Bool, true, false, List, [], ◌∷◌, Some}
+use Rattle.tsp_rules.specs.Values.{Become, Arm, Ring, Late, Back, Abandon, Close, Correct, Alarm, Quiet, Window, Elect, Search, Round, Probe, CloseAlarm}
+use Rattle.tsp_rules.specs.Values.{ResolveAlarm}
 use Rattle.tsp_rules.specs.Values.{PeerId, Role, Loose, Candidate, Master, QUIET, WINDOW, PROBE, CLOSE, ROUND, WAIT, SLACK, HOLD, ELECT_MIN}
 use Rattle.tsp_rules.specs.Guards.{delay}
 use Rattle.tsp_base.specs.Words.{Deed, Acts, Did, Held, Seen, Here, Elsewhere, armed, deadline, held, is_past, plain, word}
@@ -67,6 +68,14 @@ pub record WindowNext (m : Manner) (next : Deed) : Type 0 where
 abbrev pub IsClose : Deed → Type 0
 IsClose next = (count : ℕ) × ((lo : ℤ) × ((size : ℤ) × ((mean : ℤ) × (next ≡ Acts (Close count lo size mean)))))
 
+-- after a Close with a mean other than 0 the clock is moved by the mean
+abbrev pub CloseNext : Bool → ℤ → Deed → Type 0
+CloseNext true mean next = Unit {0}
+CloseNext false mean next = (stepped : Bool) × ((shown : ℤ) × (next ≡ Acts (Correct mean stepped shown)))
+
+abbrev pub is_zero : ℤ → Bool
+is_zero mean = nat_abs mean == 0
+
 abbrev pub is_candidate : Role → Bool
 is_candidate Candidate = true
 is_candidate _ = false
@@ -105,6 +114,7 @@ NextFits m (Acts (Late Round)) x older next = Arms Round next
 NextFits m (Acts (Ring CloseAlarm)) x older next = IsClose next ⊎ (next ≡ Acts Abandon)
 NextFits m (Acts (Late CloseAlarm)) x older next = next ≡ Acts Abandon
 NextFits m (Acts (Late Probe)) x older next = next ≡ Acts Abandon
+NextFits m (Acts (Close count lo size mean)) x older next = CloseNext (is_zero mean) mean next
 NextFits m (Acts (Become r)) x older next = StandNext (is_candidate r) next
 NextFits m (Acts (Back p)) x older next = BackNext (stands_now older) next
 NextFits m _ x older next = Unit {0}
@@ -117,6 +127,7 @@ asks_next (Acts (Ring alarm)) = true
 asks_next (Acts (Late Quiet)) = false
 asks_next (Acts (Late ResolveAlarm)) = false
 asks_next (Acts (Late alarm)) = true
+asks_next (Acts (Close count lo size mean)) = not (is_zero mean)
 asks_next (Acts (Become r)) = is_candidate r
 asks_next (Acts (Back p)) = true
 asks_next _ = false
