@@ -124,8 +124,8 @@ started-is (Here d ∷ before) = by_deed d.deed (started-is before) where
 -- how far ahead
 ahead-most : (a : Alarm) (arm : Did) (idle : List Seen) (at : ℕ) → ArmFits a arm idle at → at ≤ arm.tick + longest a
 ahead-most Elect arm idle at f = let less = mod-lt (word (plain idle)) {m = ELECT_SPREAD} (omega arith) in omega (arith, f, less)
-ahead-most Round arm idle at (inl f) = omega (arith, f)
-ahead-most Round arm idle at (inr f) = omega (arith, f)
+ahead-most Round arm idle at (inl f, by) = omega (arith, f)
+ahead-most Round arm idle at (inr f, by) = omega (arith, f)
 ahead-most Quiet arm idle at f = omega (arith, f)
 ahead-most Search arm idle at f = omega (arith, f)
 ahead-most Window arm idle at f = omega (arith, f)

@@ -14,8 +14,8 @@ use Rattle.tsp_progress.proofs.InTimeProof.{none_is, none_some, value_of, with_o
 
 -- alarms are armed ahead
 ahead-least : (a : Alarm) (arm : Did) (idle : List Seen) (at : ℕ) → ArmFits a arm idle at → arm.tick ≤ at
-ahead-least Round arm idle at (inl f) = omega (arith, f)
-ahead-least Round arm idle at (inr f) = omega (arith, f)
+ahead-least Round arm idle at (inl f, by) = omega (arith, f)
+ahead-least Round arm idle at (inr f, by) = omega (arith, f)
 ahead-least Elect arm idle at f = omega (arith, f)
 ahead-least Quiet arm idle at f = omega (arith, f)
 ahead-least Search arm idle at f = omega (arith, f)

@@ -8,6 +8,7 @@ use Rattle.tsp_rules.specs.Values.{Round, PeerId, Place, Peer, Stranger, Role, S
 use Rattle.tsp_rules.specs.Values.{Date, DateAck, DateReq, Election, LoopKind, MasterAck, MasterReq, MasterUp, Msite, MsiteReq, QuitKind, Refuse, ResolveKind}
 use Rattle.tsp_rules.specs.Values.{SetDate, SetDateReq, SetTime, SlaveUp, Test, TraceOff, TraceOn, WINDOW, ROUND, PROBE, CLOSE, SPAN, Message, Stamp, Taken}
 use Rattle.tsp_rules.specs.Values.{Good, Bad, Request, Reply, Arm, HOLD, ELECT_MIN}
+use Rattle.tsp_base.specs.Words.{Seen}
 use Rattle.tsp_base.specs.Words.{Acts, Deed, Estimate, Past, backers, held, may_back_after, MessageValue, Row, Leads, arms, puts, nothing, posts, posts_back}
 use Rattle.tsp_base.specs.Words.{posts_to_others, for_each, grown, reading, either_by, role, time_in, ◌followed_by◌}
 use Rattle.tsp_base.proofs.LeadsLemmas.{Leads_then, Leads_either, Leads_reading, Leads_nothing, Leads_puts, Leads_each, Leads_from, Leads_to}
@@ -36,11 +37,11 @@ use Rattle.tsp_rules.proofs.{BuiltRoles.built_accepted_by, BuiltRoles.built_join
 use Rattle.tsp_rules.proofs.{BuiltSends.built_due_sends, BuiltSends.send_sorts}
 use Rattle.tsp_rules.proofs.BuiltRounds.{correct_sorts, built_corrects_by}
 use Rattle.tsp_progress.specs.AlarmsFit.{AlarmsFit, Arms, IsFree, NextTo, asks_next}
-use Rattle.tsp_progress.proofs.Waking.{Arming, Awake, Backed, Became, Due, Nearly, Off, Rang, Ready, Unled, arming, arming_by, arms_any_elect, arms_close}
-use Rattle.tsp_progress.proofs.Waking.{Closed, closes_by, closes_still, corrects_by_mean}
-use Rattle.tsp_progress.proofs.Waking.{arms_probe, arms_resolve, arms_round, arms_search, arms_wait, backs_another, backs_itself, becomes, candidate_windows}
-use Rattle.tsp_progress.proofs.Waking.{far, far_by, far_row, follow_elects, idle_after, is_lasting, late_off, lead_after, loose_elects, loose_searches, manner}
-use Rattle.tsp_progress.proofs.Waking.{master_rounds, near_sorts, quiet_off, ready, ready_by, rings_off, settled_by, window_late, window_off}
+use Rattle.tsp_progress.proofs.Waking.{Arming, Awake, Backed, Became, Closed, Due, Nearly, Off, ProbeArmed, Probing, Rang, Ready, RoundArmed, Unled, arming}
+use Rattle.tsp_progress.proofs.Waking.{arming_by, arms_any_elect, arms_probe, arms_resolve, arms_search, backs_another, backs_itself, becomes, begin_round}
+use Rattle.tsp_progress.proofs.Waking.{candidate_windows, close_round, closes_by, closes_still, corrects_by_mean, far, far_by, far_row, follow_elects}
+use Rattle.tsp_progress.proofs.Waking.{idle_after, is_lasting, keeps, late_off, late_round, lead_after, loose_elects, loose_searches, manner, master_rounds}
+use Rattle.tsp_progress.proofs.Waking.{near_sorts, probe_round, quiet_off, ready, ready_by, rings_off, settled_by, wait_round, window_late, window_off}
 
 -- whether none of these sorts is a change of the role or an act on an alarm
 abbrev pub no_near : List Sort → Bool
@@ -349,23 +350,24 @@ quit_begins : (p : PeerId) → Leads Awake (begins QuitKind p) Awake
 quit_begins p = calm {sorts = Numbering ∷ []} refl refl (built_begins QuitKind p tt refl refl)
 
 -- an alarm that asks nothing of the next act
-ring_asks : (a : Alarm) → asks_next (Acts (Ring a)) ≡ false → is_lasting a ≡ true →
+ring_asks : (a : Alarm) → ((x : ℕ) (older : List Seen) → asks_next (Acts (Ring a)) x older ≡ false) → is_lasting a ≡ true →
     Leads (λ x past. Due a x past × (is_in_time a x past ≡ true)) (puts (Ring a)) (Nearly (idle_after a) (lead_after a))
 unfolding puts
-ring_asks a silent lasts = record { run = λ x past h. settled_by a x (grown x past (Ring a ∷ [])) silent ((rings_off a lasts).run x past h) }
+ring_asks a silent lasts = record { run = λ x past h. settled_by a x (grown x past (Ring a ∷ [])) (silent x past.seen) ((rings_off a lasts).run x past h) }
 
-late_asks : (a : Alarm) → asks_next (Acts (Late a)) ≡ false → is_lasting a ≡ true → a ≢ Quiet →
+late_asks : (a : Alarm) → ((x : ℕ) (older : List Seen) → asks_next (Acts (Late a)) x older ≡ false) → is_lasting a ≡ true → a ≢ Quiet →
     Leads (λ x past. Due a x past × (is_in_time a x past ≡ false)) (puts (Late a)) (Nearly (idle_after a) (lead_after a))
 unfolding puts
-late_asks a silent lasts other = record { run = λ x past h. settled_by a x (grown x past (Late a ∷ [])) silent ((late_off a lasts other).run x past h) }
+late_asks a silent lasts other = record { run = λ x past h. settled_by a x (grown x past (Late a ∷ [])) (silent x past.seen)
+    ((late_off a lasts other).run x past h) }
 
 resolve_far : Leads (Due ResolveAlarm) resolve_rings Awake
 unfolding resolve_rings quits_rivals
 resolve_far = Leads_either (is_in_time ResolveAlarm) (puts (Ring ResolveAlarm) followed_by reading rivals_at (for_each (begins QuitKind)))
     (puts (Late ResolveAlarm))
-    (Leads_then {Q = Awake} (puts (Ring ResolveAlarm)) (reading rivals_at (for_each (begins QuitKind))) (ring_asks ResolveAlarm refl refl)
+    (Leads_then {Q = Awake} (puts (Ring ResolveAlarm)) (reading rivals_at (for_each (begins QuitKind))) (ring_asks ResolveAlarm (λ x older. refl) refl)
     (Leads_reading rivals_at (for_each (begins QuitKind)) (λ ps. Leads_from (λ x past h. h.0) (Leads_each (begins QuitKind) ps quit_begins))))
-    (late_asks ResolveAlarm refl refl (λ e. let bad : ⊥ = cc in bad))
+    (late_asks ResolveAlarm (λ x older. refl) refl (λ e. let bad : ⊥ = cc in bad))
 
 slaves_far : Leads Awake asks_slaves Awake
 unfolding asks_slaves
@@ -375,31 +377,36 @@ slaves_far = Leads_reading table_at (for_each asks) (λ ps. Leads_from (λ x pas
 round_far : (wait : Bool) → Leads (Due Round) (round_rings wait) Awake
 unfolding round_rings begins_or_waits round_begins
 round_far wait = Leads_either (is_in_time Round) (puts (Ring Round) followed_by begins_or_waits wait) (puts (Late Round) followed_by arms Round ROUND)
-    (Leads_then {Q = Off Round (Acts (Ring Round))} (puts (Ring Round)) (begins_or_waits wait) (rings_off Round refl)
-    (Leads_from (arming_by Round Round (λ m x older at. (at, refl))) (by_wait wait)))
-    (Leads_then {Q = Off Round (Acts (Late Round))} (puts (Late Round)) (arms Round ROUND) (late_off Round refl (λ e. let bad : ⊥ = cc in bad))
-    (Leads_from (arming_by Round Round (λ m x older at. (at, refl))) arms_round))
+    (Leads_then {Q = Off Round (Acts (Ring Round))} (puts (Ring Round)) (begins_or_waits wait) (rings_off Round refl) (by_wait wait))
+    (Leads_then {Q = Off Round (Acts (Late Round))} (puts (Late Round)) (arms Round ROUND) (late_off Round refl (λ e. let bad : ⊥ = cc in bad)) late_round)
   where
-    by_wait : (b : Bool) → Leads (Arming Round true false) (begins_or_waits b) Awake
-    by_wait true = arms_wait
-    by_wait false = Leads_then {Q = Awake} (arms Round ROUND) (arms Probe PROBE followed_by
-        (arms CloseAlarm CLOSE followed_by (posts_to_others MasterUp 0 followed_by asks_slaves))) arms_round
-        (Leads_then {Q = Awake} (arms Probe PROBE) (arms CloseAlarm CLOSE followed_by (posts_to_others MasterUp 0 followed_by asks_slaves)) arms_probe
-        (Leads_then {Q = Awake} (arms CloseAlarm CLOSE) (posts_to_others MasterUp 0 followed_by asks_slaves) arms_close
+    by_wait : (b : Bool) → Leads (Off Round (Acts (Ring Round))) (begins_or_waits b) Awake
+    by_wait true = wait_round
+    by_wait false = Leads_then {Q = RoundArmed} (arms Round ROUND) (arms Probe PROBE followed_by
+        (arms CloseAlarm CLOSE followed_by (posts_to_others MasterUp 0 followed_by asks_slaves))) begin_round
+        (Leads_then {Q = ProbeArmed} (arms Probe PROBE) (arms CloseAlarm CLOSE followed_by (posts_to_others MasterUp 0 followed_by asks_slaves)) probe_round
+        (Leads_then {Q = Awake} (arms CloseAlarm CLOSE) (posts_to_others MasterUp 0 followed_by asks_slaves) close_round
         (Leads_then {Q = Awake} (posts_to_others MasterUp 0) asks_slaves (to_others_far MasterUp refl) slaves_far)))
+
+-- the measured are asked again
+asks_probing : (p : PeerId) → Leads Probing (asks p) Probing
+unfolding asks
+asks_probing p = record { run = λ x past h. record { awake = keeps _ refl x past h.awake; other = refl } }
+
+rings_probing : Leads (λ x past. Due Probe x past × (is_in_time Probe x past ≡ true)) (puts (Ring Probe)) Probing
+unfolding puts
+rings_probing = record { run = λ x past h. record { awake = (ring_asks Probe (λ y older. refl) refl).run x past h; other = refl } }
 
 probe_far : Leads (Due Probe) probe_rings Awake
 unfolding probe_rings asks_measured arms_next abandons
 probe_far = Leads_either (is_in_time Probe) (puts (Ring Probe) followed_by (reading measured_at (for_each asks) followed_by either_by has_more
     (arms Probe PROBE) nothing)) (puts (Late Probe) followed_by puts Abandon)
-    (Leads_then {Q = Awake} (puts (Ring Probe)) (reading measured_at (for_each asks) followed_by either_by has_more (arms Probe PROBE) nothing)
-    (ring_asks Probe refl refl)
-    (Leads_then {Q = Awake} (reading measured_at (for_each asks)) (either_by has_more (arms Probe PROBE) nothing)
-    (Leads_reading measured_at (for_each asks) (λ ps. Leads_from (λ x past h. h.0)
-    (Leads_each asks ps (λ p. calm {sorts = Asking ∷ []} refl refl (At (Asks p tt) refl)))))
-    (Leads_either has_more (arms Probe PROBE) nothing (Leads_from (λ x past h. h.0) arms_probe) (Leads_from (λ x past h. h.0) Leads_nothing))))
+    (Leads_then {Q = Probing} (puts (Ring Probe)) (reading measured_at (for_each asks) followed_by either_by has_more (arms Probe PROBE) nothing) rings_probing
+    (Leads_then {Q = Probing} (reading measured_at (for_each asks)) (either_by has_more (arms Probe PROBE) nothing)
+    (Leads_reading measured_at (for_each asks) (λ ps. Leads_from (λ x past h. h.0) (Leads_each asks ps asks_probing)))
+    (Leads_either has_more (arms Probe PROBE) nothing (Leads_from (λ x past h. h.0) arms_probe) (Leads_from (λ x past h. h.0.awake) Leads_nothing))))
     (Leads_then {Q = Off Probe (Acts (Late Probe))} (puts (Late Probe)) (puts Abandon) (late_off Probe refl (λ e. let bad : ⊥ = cc in bad))
-    (far_by Probe Abandon refl (λ m x older. refl)))
+        (far_by Probe Abandon refl (λ m x older. refl)))
 
 -- a round's close
 
@@ -413,9 +420,9 @@ closes_own : (g : Group) (round : List Standing) → Leads (Off CloseAlarm (Acts
 unfolding closes_with abandons corrects_peer moves
 closes_own g round = let mean = mean_by true g in
     Leads_either (can_adjust mean) (puts (close_act true g) followed_by (adjusts mean followed_by for_each (λ s. corrects_by mean s.peer s.best) round))
-        (puts Abandon)
+    (puts Abandon)
     (Leads_from (λ x past h. h.0) (Leads_then {Q = Closed mean} (puts (close_act true g))
-        (adjusts mean followed_by for_each (λ s. corrects_by mean s.peer s.best) round)
+    (adjusts mean followed_by for_each (λ s. corrects_by mean s.peer s.best) round)
     (closes_by g.count g.lo g.width mean)
     (Leads_then {Q = Awake} (adjusts mean) (for_each (λ s. corrects_by mean s.peer s.best) round) (corrects_by_mean mean)
     (Leads_each (λ (s : Standing). corrects_by mean s.peer s.best) round (λ s. corrects_far mean s.peer s.best)))))
@@ -425,9 +432,9 @@ closes_other : (g : Group) (round : List Standing) → Leads (Off CloseAlarm (Ac
 unfolding closes_with abandons corrects_peer moves
 closes_other g round =
     Leads_either (can_adjust (pos 0)) (puts (close_act false g) followed_by (nothing followed_by for_each (λ s. corrects_by (pos 0) s.peer s.best) round))
-        (puts Abandon)
+    (puts Abandon)
     (Leads_from (λ x past h. h.0) (Leads_then {Q = Awake} (puts (close_act false g)) (nothing followed_by for_each (λ s. corrects_by (pos 0) s.peer s.best)
-        round)
+    round)
     (closes_still g.count g.lo g.width)
     (Leads_then {Q = Awake} nothing (for_each (λ s. corrects_by (pos 0) s.peer s.best) round) Leads_nothing
     (Leads_each (λ (s : Standing). corrects_by (pos 0) s.peer s.best) round (λ s. corrects_far (pos 0) s.peer s.best)))))

@@ -170,13 +170,13 @@ step m d before rise inv next fits = by_back (backs_now before) refl where
   ]
 
 -- a deed that asks nothing is no backing
-asks-back : (deed : Deed) → asks_next deed ≡ false → backs deed ≡ false
-asks-back (Acts (Back p)) e = absurd (true≢false e)
-asks-back _ e = refl
+asks-back : (deed : Deed) (x : ℕ) (older : List Seen) → asks_next deed x older ≡ false → backs deed ≡ false
+asks-back (Acts (Back p)) x older e = absurd (true≢false e)
+asks-back _ x older e = refl
 
 not-back : (seen : List Seen) → owes_next seen ≡ false → backs_now seen ≡ false
 not-back [] e = refl
-not-back (Here d ∷ before) e = asks-back d.deed e
+not-back (Here d ∷ before) e = asks-back d.deed d.tick before e
 not-back (Elsewhere d ∷ before) e = refl
 
 elects : (m : Manner) (seen : List Seen) → AlarmsFit m seen → Rising seen → Elects seen

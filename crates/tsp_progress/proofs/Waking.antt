@@ -1,8 +1,8 @@
 -- What single acts make of a port that has armed what its role asks for.
 use Rattle.std.proofs.Common.{sym, ap, ℤ, pos, arith, subst, true≢false, ◌∙◌, ◌≡◌, ◌≢◌, ◌≤◌, ℕ, ◌+◌, ◌||◌, Bool, true, false, List, [], ◌∷◌, Option, None, Some}
 use Rattle.std.proofs.Common.{inl}
-use Rattle.std.proofs.Common.{inr, is_some, refl, leb-true, leb-false}
-use Rattle.std.proofs.lemmas.Bool.{not-false, or_right}
+use Rattle.std.proofs.Common.{inr, is_some, refl, leb-true, leb-false, nat_le}
+use Rattle.std.proofs.lemmas.Bool.{and_left, and_right, lt-leb, not-false, or_right}
 use Rattle.tsp_rules.specs.Values.{Act, Boot, Become, Arm, Ring, Late, Back, Alarm, Quiet, Search, Elect, Window, Probe, CloseAlarm, ResolveAlarm, Round}
 use Rattle.tsp_rules.specs.ClockRows.{adjusts}
 use Rattle.tsp_rules.specs.Values.{Close, Correct, PeerId, Role, Starting, Loose, Follow, Candidate, Master, SLACK, QUIET, WINDOW, ROUND, WAIT, PROBE, CLOSE}
@@ -10,7 +10,8 @@ use Rattle.tsp_base.specs.Words.{Acts, Deed, Did, Here, Elsewhere, Seen, Past, R
 use Rattle.tsp_base.proofs.LeadsLemmas.{Leads_puts, Leads_reading}
 use Rattle.tsp_rules.specs.{CommonRows.arms_elect, Guards.delay, Guards.delay_at, Guards.is_due, Guards.is_in_time, Guards.is_met, Guards.is_over}
 use Rattle.tsp_rules.proofs.Emits.{Sort, Booting, Leading, Following, Changing, Backing, Alarming, Rounding, Closing, Emits, Keeps_by, is_in, sort_of}
-use Rattle.tsp_progress.specs.AlarmsFit.{AlarmsFit, ArmFits, LateFits, Manner, NextFits, NextTo, RingFits, BackNext, CloseNext, asks_next, is_zero}
+use Rattle.tsp_progress.specs.AlarmsFit.{AlarmsFit, ArmFits, LateFits, Manner, NextFits, NextTo, RingFits, BackNext, CloseNext, ProbeNext, RoundNext}
+use Rattle.tsp_progress.specs.AlarmsFit.{arms_round_by, asks_next, begins_round, newest_is, rings_round, rounds_by, is_zero}
 use Rattle.tsp_progress.specs.AlarmsFit.{is_candidate, owes_next}
 use Rattle.tsp_progress.specs.AlarmsFit.{stands_by, stands_now}
 use Rattle.tsp_progress.specs.{CausesFit.CausesFit, Wakes.Wakes, Wakes.Windowed}
@@ -58,6 +59,7 @@ pub record Became (r : Role) (x : ℕ) (past : Past) : Type 0 where
   pub stands : stands_now past.seen ≡ is_candidate r
   pub backs : r ≡ Candidate → (p : PeerId) → NextTo (manner past) past.seen (Acts (Back p))
   pub free : owes_next past.seen ≡ is_candidate r
+  pub newest : (test : Deed → Bool) → newest_is test past.seen ≡ test (Acts (Become r))
 
 pub wakes_of : {m : Manner} {seen : List Seen} → Settled m true true seen → CausesFit seen → Wakes m seen
 wakes_of s c = let w = s.waking in record {
@@ -86,7 +88,7 @@ waking_of w = record {
 
 -- what asks nothing lets anything come
 
-free-next : (m : Manner) (deed : Deed) (x : ℕ) (older : List Seen) (next : Deed) → asks_next deed ≡ false → NextFits m deed x older next
+free-next : (m : Manner) (deed : Deed) (x : ℕ) (older : List Seen) (next : Deed) → asks_next deed x older ≡ false → NextFits m deed x older next
 free-next m (Acts (Ring Quiet)) x older next e = absurd (true≢false e)
 free-next m (Acts (Ring Search)) x older next e = absurd (true≢false e)
 free-next m (Acts (Ring Elect)) x older next e = absurd (true≢false e)
@@ -101,6 +103,9 @@ free-next m (Acts (Late Round)) x older next e = absurd (true≢false e)
 free-next m (Acts (Late CloseAlarm)) x older next e = absurd (true≢false e)
 free-next m (Acts (Late Probe)) x older next e = absurd (true≢false e)
 free-next m (Acts (Late _)) x older next e = tt
+free-next m (Acts (Arm Round at)) x older next e = subst (λ b. RoundNext b next) (sym e) tt
+free-next m (Acts (Arm Probe at)) x older next e = subst (λ b. ProbeNext b next) (sym e) tt
+free-next m (Acts (Arm _ at)) x older next e = tt
 free-next m (Acts (Become Candidate)) x older next e = absurd (true≢false e)
 free-next m (Acts (Become _)) x older next e = tt
 free-next m (Acts (Back p)) x older next e = absurd (true≢false e)
@@ -113,13 +118,13 @@ free_to m (Here d ∷ before) next e = free-next m d.deed d.tick before next e
 free_to m (Elsewhere d ∷ before) next e = tt
 
 -- a port whose newest act asks nothing hasn't just stood for election
-stands-asks : (deed : Deed) → asks_next deed ≡ false → stands_by deed ≡ false
-stands-asks (Acts (Become r)) e = e
-stands-asks _ e = refl
+stands-asks : (deed : Deed) (x : ℕ) (older : List Seen) → asks_next deed x older ≡ false → stands_by deed ≡ false
+stands-asks (Acts (Become r)) x older e = e
+stands-asks _ x older e = refl
 
 pub not_standing : (seen : List Seen) → owes_next seen ≡ false → stands_now seen ≡ false
 not_standing [] e = refl
-not_standing (Here d ∷ before) e = stands-asks d.deed e
+not_standing (Here d ∷ before) e = stands-asks d.deed d.tick before e
 not_standing (Elsewhere d ∷ before) e = refl
 
 -- acts that are no change of the role, none on an alarm and no backing
@@ -227,6 +232,7 @@ becomes r = Leads_puts (Become r) (λ x past h. record {
   stands = refl;
   backs = λ e p. subst (λ k. NextFits (manner past) (Acts (Become k)) x past.seen (Acts (Back p))) (sym e) (p, refl);
   free = refl;
+  newest = λ test. refl;
 })
 
 pub ready : {idle lead : Bool} (r : Role) (x : ℕ) (past : Past) → Nearly idle lead x past → Ready r x past
@@ -294,14 +300,14 @@ unfolding arms
 master_rounds = record {
   run = λ x past h. record {
     waking = record {
-      acts = (inl refl, (free_to (manner past) past.seen _ h.free, h.acts));
+      acts = ((inl refl, h.newest rounds_by), (free_to (manner past) past.seen _ h.free, h.acts));
       starting = λ r. other-role Master Starting h.role_is r (λ e. let bad : ⊥ = cc in bad);
       candidate = λ r. other-role Master Candidate h.role_is r (λ e. let bad : ⊥ = cc in bad);
       loose = λ i r. other-role Master Loose h.role_is r (λ e. let bad : ⊥ = cc in bad);
       follow = λ i p r. other-role Master (Follow p) h.role_is r (λ e. let bad : ⊥ = cc in bad);
       master = λ l r. refl;
     };
-    free = refl;
+    free = and_left (newest_is rings_round past.seen) (nat_le (x + ROUND) (x + ROUND)) (h.newest rings_round);
   };
 }
 
@@ -430,28 +436,6 @@ arms_search = record {
   };
 }
 
-arm-round : {idle lead : Bool} (x at : ℕ) (past : Past) → ArmFits Round (record { step = past.step; tick = x; deed = Acts (Arm Round at) }) past.seen at →
-    Arming Round idle lead x past → Nearly idle true x (grown x past (Arm Round at ∷ []))
-arm-round x at past fits h = let w = h.waking in record {
-  waking = record {
-    acts = (fits, (h.next at, w.acts));
-    starting = w.starting;
-    candidate = λ r. windowed-keeps _ past.seen refl refl (w.candidate r);
-    loose = w.loose;
-    follow = w.follow;
-    master = λ l r. refl;
-  };
-  free = refl;
-}
-
-pub arms_round : {idle lead : Bool} → Leads (Arming Round idle lead) (arms Round ROUND) (Nearly idle true)
-unfolding arms
-arms_round = record { run = λ x past h. arm-round x (x + ROUND) past (inl refl) h }
-
-pub arms_wait : {idle lead : Bool} → Leads (Arming Round idle lead) (arms Round WAIT) (Nearly idle true)
-unfolding arms
-arms_wait = record { run = λ x past h. arm-round x (x + WAIT) past (inr refl) h }
-
 -- alarms that no role needs
 abbrev pub is_needed : Alarm → Bool
 is_needed Probe = false
@@ -488,25 +472,28 @@ arm-waking ResolveAlarm e x at past fits n w = record {
 }
 arm-waking _ e x at past fits n w = absurd (true≢false e)
 
-arm-other : {idle lead : Bool} (a : Alarm) → is_needed a ≡ false → (x at : ℕ) (past : Past) →
-    ArmFits a (record { step = past.step; tick = x; deed = Acts (Arm a at) }) past.seen at → Nearly idle lead x past →
-    Nearly idle lead x (grown x past (Arm a at ∷ []))
-arm-other a e x at past fits s = record {
-  waking = arm-waking a e x at past fits (free_to (manner past) past.seen (Acts (Arm a at)) s.free) s.waking;
-  free = refl;
+-- Probe may be armed: no round begins with it
+pub record Probing (x : ℕ) (past : Past) : Type 0 where
+  pub awake : Awake x past
+  pub other : newest_is arms_round_by past.seen ≡ false
+
+pub arms_probe : Leads Probing (arms Probe PROBE) Awake
+unfolding arms
+arms_probe = record {
+  run = λ x past h. record {
+    waking = arm-waking Probe refl x (x + PROBE) past refl (free_to (manner past) past.seen (Acts (Arm Probe (x + PROBE))) h.awake.free) h.awake.waking;
+    free = h.other;
+  };
 }
-
-pub arms_probe : {idle lead : Bool} → Leads (Nearly idle lead) (arms Probe PROBE) (Nearly idle lead)
-unfolding arms
-arms_probe = record { run = λ x past h. arm-other Probe refl x (x + PROBE) past refl h }
-
-pub arms_close : {idle lead : Bool} → Leads (Nearly idle lead) (arms CloseAlarm CLOSE) (Nearly idle lead)
-unfolding arms
-arms_close = record { run = λ x past h. arm-other CloseAlarm refl x (x + CLOSE) past refl h }
 
 pub arms_resolve : {idle lead : Bool} → Leads (Nearly idle lead) (arms ResolveAlarm WINDOW) (Nearly idle lead)
 unfolding arms
-arms_resolve = record { run = λ x past h. arm-other ResolveAlarm refl x (x + WINDOW) past refl h }
+arms_resolve = record {
+  run = λ x past h. record {
+    waking = arm-waking ResolveAlarm refl x (x + WINDOW) past refl (free_to (manner past) past.seen (Acts (Arm ResolveAlarm (x + WINDOW))) h.free) h.waking;
+    free = refl;
+  };
+}
 
 -- an alarm that is due rings, or is late
 
@@ -545,6 +532,7 @@ pub record Rang (deed : Deed) (x : ℕ) (past : Past) : Type 0 where
   pub older : List Seen
   pub next : (next : Deed) → NextFits (manner past) deed x older next → NextTo (manner past) past.seen next
   pub held_is : held older ≡ held past.seen
+  pub is : (test : Deed → Bool) → newest_is test past.seen ≡ test deed
 
 ring-rang : (a : Alarm) (x : ℕ) (past : Past) → RingFits a (record { step = past.step; tick = x; deed = Acts (Ring a) }) past.seen → Awake x past →
     Rang (Acts (Ring a)) x (grown x past (Ring a ∷ []))
@@ -553,6 +541,7 @@ ring-rang a x past f s = record {
   older = past.seen;
   next = λ n k. k;
   held_is = refl;
+  is = λ test. refl;
 }
 
 late-rang : (a : Alarm) (x : ℕ) (past : Past) → LateFits a (record { step = past.step; tick = x; deed = Acts (Late a) }) past.seen → Awake x past →
@@ -562,6 +551,7 @@ late-rang a x past f s = record {
   older = past.seen;
   next = λ n k. k;
   held_is = refl;
+  is = λ test. refl;
 }
 
 -- alarms that don't end a role
@@ -713,8 +703,14 @@ far_by a act far k = Leads_puts act (λ x past h. record {
 
 close-waking : (count : ℕ) (lo size mean : ℤ) (x : ℕ) (past : Past) → NextTo (manner past) past.seen (Acts (Close count lo size mean)) →
     Waking (manner past) true true past.seen → Waking (manner past) true true (grown x past (Close count lo size mean ∷ [])).seen
-close-waking count lo size mean x past n w = record { acts = (tt, (n, w.acts)); starting = w.starting;
-    candidate = λ r. windowed-keeps _ past.seen refl refl (w.candidate r); loose = w.loose; follow = w.follow; master = w.master }
+close-waking count lo size mean x past n w = record {
+  acts = (tt, (n, w.acts));
+  starting = w.starting;
+  candidate = λ r. windowed-keeps _ past.seen refl refl (w.candidate r);
+  loose = w.loose;
+  follow = w.follow;
+  master = w.master;
+}
 
 close-next : (mean : ℤ) (stepped : Bool) (shown : ℤ) → CloseNext (is_zero mean) mean (Acts (Correct mean stepped shown))
 close-next mean stepped shown = by_zero (is_zero mean) where
@@ -740,3 +736,74 @@ closes_still count lo size = Leads_puts (Close count lo size (pos 0)) (λ x past
 pub corrects_by_mean : (mean : ℤ) → Leads (Closed mean) (adjusts mean) Awake
 unfolding adjusts
 corrects_by_mean mean = record { run = λ x past h. record { waking = far-waking _ refl x past (h.next _ _) h.waking; free = refl } }
+
+-- Round is armed again, for a round or to wait
+
+round-waking : (x at : ℕ) (past : Past) → ArmFits Round (record { step = past.step; tick = x; deed = Acts (Arm Round at) }) past.seen at →
+    NextTo (manner past) past.seen (Acts (Arm Round at)) → Waking (manner past) true false past.seen →
+    Waking (manner past) true true (grown x past (Arm Round at ∷ [])).seen
+round-waking x at past fits n w = record {
+  acts = (fits, (n, w.acts));
+  starting = w.starting;
+  candidate = λ r. windowed-keeps _ past.seen refl refl (w.candidate r);
+  loose = w.loose;
+  follow = w.follow;
+  master = λ l r. refl;
+}
+
+pub late_round : Leads (Off Round (Acts (Late Round))) (arms Round ROUND) Awake
+unfolding arms
+late_round = record {
+  run = λ x past h. record {
+    waking = round-waking x (x + ROUND) past (inl refl, h.rang.is rounds_by) (h.rang.next (Acts (Arm Round (x + ROUND))) (x + ROUND, refl)) h.waking;
+    free = and_left (newest_is rings_round past.seen) (nat_le (x + ROUND) (x + ROUND)) (h.rang.is rings_round);
+  };
+}
+
+pub wait_round : Leads (Off Round (Acts (Ring Round))) (arms Round WAIT) Awake
+unfolding arms
+wait_round = record {
+  run = λ x past h. record {
+    waking = round-waking x (x + WAIT) past (inr refl, h.rang.is rounds_by) (h.rang.next (Acts (Arm Round (x + WAIT))) (x + WAIT, refl)) h.waking;
+    free = and_right (newest_is rings_round past.seen) (nat_le (x + ROUND) (x + WAIT)) (lt-leb (x + ROUND) (x + WAIT) (omega arith));
+  };
+}
+
+-- a round begins: Round is armed, then Probe, then Close
+pub record RoundArmed (x : ℕ) (past : Past) : Type 0 where
+  pub waking : Waking (manner past) true true past.seen
+  pub next : (at : ℕ) → NextTo (manner past) past.seen (Acts (Arm Probe at))
+
+pub record ProbeArmed (x : ℕ) (past : Past) : Type 0 where
+  pub waking : Waking (manner past) true true past.seen
+  pub next : (at : ℕ) → NextTo (manner past) past.seen (Acts (Arm CloseAlarm at))
+
+round-next : (b : Bool) (at : ℕ) → RoundNext b (Acts (Arm Probe at))
+round-next true at = (at, refl)
+round-next false at = tt
+
+probe-next : (b : Bool) (at : ℕ) → ProbeNext b (Acts (Arm CloseAlarm at))
+probe-next true at = (at, refl)
+probe-next false at = tt
+
+pub begin_round : Leads (Off Round (Acts (Ring Round))) (arms Round ROUND) RoundArmed
+unfolding arms
+begin_round = record {
+  run = λ x past h. record {
+    waking = round-waking x (x + ROUND) past (inl refl, h.rang.is rounds_by) (h.rang.next (Acts (Arm Round (x + ROUND))) (x + ROUND, refl)) h.waking;
+    next = λ at. round-next (begins_round past.seen x (x + ROUND)) at;
+  };
+}
+
+pub probe_round : Leads RoundArmed (arms Probe PROBE) ProbeArmed
+unfolding arms
+probe_round = record {
+  run = λ x past h. record {
+    waking = arm-waking Probe refl x (x + PROBE) past refl (h.next (x + PROBE)) h.waking;
+    next = λ at. probe-next (newest_is arms_round_by past.seen) at;
+  };
+}
+
+pub close_round : Leads ProbeArmed (arms CloseAlarm CLOSE) Awake
+unfolding arms
+close_round = record { run = λ x past h. record { waking = arm-waking CloseAlarm refl x (x + CLOSE) past refl (h.next (x + CLOSE)) h.waking; free = refl } }

@@ -3,13 +3,8 @@ use Rattle.std.specs.Prelude.{◌≡◌, ◌⊎◌, Bool, true, false, if◌then
 use Rattle.tsp_rules.specs.Values.{Become, Arm, Ring, Late, Back, Quit, Quiet, Window, Elect, Search, Starting, Loose, Follow, Candidate, Master, Message}
 use Rattle.tsp_rules.specs.Values.{Taken, Good, Kind, AdjTime, SetTime, Election, MasterUp, MasterAck, QuitKind, Refuse, Test, LoopKind}
 use Rattle.tsp_base.specs.Words.{Deed, Acts, Did, Seen, Here, Elsewhere, Received, held, role, taken}
+pub use Rattle.tsp_progress.specs.AlarmsFit.{newest_is}
 use Rattle.tsp_progress.specs.AlarmsFit.{stands_now}
-
--- what the newest deed here is
-abbrev pub newest_is : (Deed → Bool) → List Seen → Bool
-newest_is test [] = false
-newest_is test (Here d ∷ before) = test d.deed
-newest_is test (Elsewhere d ∷ before) = false
 
 -- deeds after which Elect is armed
 abbrev pub seeks_by : Deed → Bool
