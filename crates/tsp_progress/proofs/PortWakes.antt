@@ -358,8 +358,10 @@ ring_asks a silent lasts = record { run = λ x past h. settled_by a x (grown x p
 late_asks : (a : Alarm) → ((x : ℕ) (older : List Seen) → asks_next (Acts (Late a)) x older ≡ false) → is_lasting a ≡ true → a ≢ Quiet →
     Leads (λ x past. Due a x past × (is_in_time a x past ≡ false)) (puts (Late a)) (Nearly (idle_after a) (lead_after a))
 unfolding puts
-late_asks a silent lasts other = record { run = λ x past h. settled_by a x (grown x past (Late a ∷ [])) (silent x past.seen)
-    ((late_off a lasts other).run x past h) }
+late_asks a silent lasts other = record {
+  run = λ x past h. settled_by a x (grown x past (Late a ∷ [])) (silent x past.seen)
+      ((late_off a lasts other).run x past h);
+}
 
 resolve_far : Leads (Due ResolveAlarm) resolve_rings Awake
 unfolding resolve_rings quits_rivals
@@ -406,7 +408,7 @@ probe_far = Leads_either (is_in_time Probe) (puts (Ring Probe) followed_by (read
     (Leads_reading measured_at (for_each asks) (λ ps. Leads_from (λ x past h. h.0) (Leads_each asks ps asks_probing)))
     (Leads_either has_more (arms Probe PROBE) nothing (Leads_from (λ x past h. h.0) arms_probe) (Leads_from (λ x past h. h.0.awake) Leads_nothing))))
     (Leads_then {Q = Off Probe (Acts (Late Probe))} (puts (Late Probe)) (puts Abandon) (late_off Probe refl (λ e. let bad : ⊥ = cc in bad))
-        (far_by Probe Abandon refl (λ m x older. refl)))
+    (far_by Probe Abandon refl (λ m x older. refl)))
 
 -- a round's close
 

@@ -6,6 +6,7 @@ pub mod InTime
 pub mod Needed
 pub mod NeverLate
 pub mod Progress
+pub mod RoundsRecur
 pub mod RunsWake
 pub mod SendsEnd
 pub mod Stands
