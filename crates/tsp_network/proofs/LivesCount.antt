@@ -1,11 +1,11 @@
 -- A restart with another wall clock counts: with the wall clock of its first life in its second too, b's clock isn't what a measured.
-use Rattle.std.proofs.Common.{sym, ap, subst, arith, ◌∙◌, ◌≡◌, ℕ, zero, suc, drop, pos, ◌+ℤ◌, ◌-ℤ◌, ◌≤ℤ◌, nat_abs, List, [], ◌∷◌, refl}
-use Rattle.tsp_rules.specs.Values.{Event, Peer, Stamp, Reply}
-use Rattle.tsp_base.specs.Words.{Line, Within, dids, lives, moved, of, peer_of as peer, posted, time_of}
+use Rattle.std.proofs.Common.{sym, ap, subst, arith, ◌∙◌, ◌≡◌, ℕ, zero, suc, drop, pos, ◌+ℤ◌, ◌-ℤ◌, ◌≤ℤ◌, nat_abs, List, [], ◌∷◌, Option, None, Some, refl}
+use Rattle.tsp_rules.specs.Values.{Event, Peer, Placed, Stamp, Reply}
+use Rattle.tsp_base.specs.Words.{Acts, Begins, Line, Step, Within, dids, first_port, joined, line_of, lives, moved, of, peer_of as peer, posted, time_of}
 use Rattle.tsp_query.specs.Arrivals.{all_but_first}
 use Rattle.tsp_promises.specs.{ClockAt.clock, Everywhere.Everywhere, Measured.Measured, Measured.MeasuredAt, Measured.ReadBy, Setting.Setting}
 use Rattle.tsp_promises.proofs.SendPlaces.{post_unique, same-number}
-use Rattle.tsp_run.{specs.Clocked.happening_by, specs.Clocked.run_by, proofs.RunPremises.before-joins}
+use Rattle.tsp_run.specs.{Clocked.happening_by, Clocked.run_by, Run.Happening, Run.joins}
 use Rattle.tsp_network.specs.{ClocksUse.ForgetsLives, ClocksUse.LivesCount, ClocksUse.two_wanderers, ClocksUse.wandered, ClocksUse.wandering}
 use Rattle.tsp_network.proofs.WanderLemmas.{after_reply, clock_of, is_wandered, reply_line, sample_line, sampled}
 use Rattle.tsp_network.proofs.WanderUse.{history-is}
@@ -13,9 +13,18 @@ use Rattle.tsp_network.proofs.WanderUse.{history-is}
 abbrev ran : List Event → List Line
 ran = run_by wandering two_wanderers
 
+-- what holds everywhere after a step held before it
+before-acts : (P : Line → List Line → Type 0) (step : Step) (x : ℕ) (acts : List Placed) (h : List Line) → Everywhere P (joined step x acts h) → Everywhere P h
+before-acts P step x [] h e = e
+before-acts P step x (a ∷ rest) h e = (before-acts P step x rest (line_of step x a.port (Acts a.act) ∷ h) e).1
+
+before-step : (P : Line → List Line → Type 0) (o : Option Happening) (h : List Line) → Everywhere P (joins o h) → Everywhere P h
+before-step P None h e = e
+before-step P (Some s) h e = (before-acts P s.step s.tick s.acts (line_of s.step s.tick first_port Begins ∷ h) e).1
+
 -- what holds everywhere after events held before the last one
 earlier : (P : Line → List Line → Type 0) (e : Event) (before : List Event) → Everywhere P (ran (e ∷ before)) → Everywhere P (ran before)
-earlier P e before all = before-joins P (happening_by wandering two_wanderers (ran before) e) (ran before) all
+earlier P e before all = before-step P (happening_by wandering two_wanderers (ran before) e) (ran before) all
 
 earlier-by : (P : Line → List Line → Type 0) (k : ℕ) (events : List Event) → Everywhere P (ran events) → Everywhere P (ran (drop k events))
 earlier-by P zero [] all = all
