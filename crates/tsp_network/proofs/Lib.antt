@@ -1,5 +1,6 @@
 pub mod EndLemmas
 pub mod EventLists
+pub mod LivesCount
 pub mod NetworkAgrees
 pub mod NetworkRuns
 pub mod NetworksKeep

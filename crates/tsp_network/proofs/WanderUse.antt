@@ -76,7 +76,7 @@ is = run_is_network wandering_daemons wandered started (λ k. refl)
     (plain_suit wandering_daemons wandered two-turns (omega arith) refl
     ((omega arith, wall-of-b 900295724 _ refl refl), ((omega arith, wall-of-b 1812874 _ refl refl), ((omega arith, refl), tt)))) possible
 
-history-is : (network wandering_daemons wandered).history ≡ run_by wandering two_wanderers wandered
+pub history-is : (network wandering_daemons wandered).history ≡ run_by wandering two_wanderers wandered
 history-is = (run_agrees wandering_daemons is.header_is is.keeps started wandered is.happen is.few).agree.history
 
 pub clocks_use : ClocksUse

@@ -3,7 +3,7 @@
 use Rattle.std.specs.Prelude.{◌≡◌, ℕ, ◌+◌, ◌-◌, ◌*◌, ◌/◌, ◌==◌, ◌≤◌, nat_le, pos, negsuc, true, false, if◌then◌else◌, List, [], ◌∷◌, ◌++◌, None}
 use Rattle.tsp_rules.specs.Values.{Act, Boot, Become, Join, Close, Correct, Event, BootAt, Turn, Take, Starting, Loose, Follow, Candidate, Master}
 use Rattle.tsp_base.specs.Words.{HeaderValue, peer_of as peer}
-use Rattle.tsp_promises.specs.{Premises.Honest, Premises.Life, Premises.Words, Setting.KeepsTime}
+use Rattle.tsp_promises.specs.{Measured.Measured, Premises.Honest, Premises.Life, Premises.Words, Setting.KeepsTime, Setting.Setting}
 use Rattle.tsp_run.specs.Clocked.{Clocks}
 use Rattle.tsp_network.specs.{Events.IsNetwork, Lives.Daemons, Networks.network, NetworkUse.acts_by_node, NetworkUse.network_address}
 use Rattle.tsp_network.specs.NetworkUse.{node_a, node_b, two_words}
@@ -178,3 +178,12 @@ pub record ClocksUse : Type 0 where
   pub honest : Honest (network wandering_daemons wandered).history
   pub life : Life (network wandering_daemons wandered).history
   pub words : Words (network wandering_daemons wandered).history
+
+-- a setting that has these counters, and one wall clock for all lives of a node: that of its first
+pub record ForgetsLives (clocks : Clocks) (setting : Setting) : Type 0 where
+  pub tick_is : (n t : ℕ) → setting.tick n t ≡ clocks.tick n t
+  pub wall_is : (n life : ℕ) → setting.wall n life ≡ clocks.wall n 1
+
+-- in no such setting does each measurement in this network err by at most its err: the wall clock of b's second life is another
+abbrev pub LivesCount : Type 0
+LivesCount = (setting : Setting) → ForgetsLives wandering setting → ¬ Measured setting (network wandering_daemons wandered).history

@@ -31,17 +31,16 @@ MayCome nets n q (Peer m) = ((m.0 ≡ n) × (q.0 ≡ 0)) ⊎ (has_member m.0 (ne
 MayCome nets n q Stranger = q.0 ≡ 0
 
 -- event k can happen: a daemon starts after its counter does, and its wall clock is then in the range that a daemon takes; the daemon of any
--- other event runs, and has taken fewer turns than its words say; a copy is that of a send that was tried; and of other octets there are at most 512, which is all that a daemon reads of a
--- datagram
+-- other event runs, and has taken fewer turns than its words say; a copy is that of a send that was tried; and of other octets there are at
+-- most 512, which is all that a daemon reads of a datagram
 abbrev pub CanHappen : Daemons → ℕ → Network → Event → Type 0
 CanHappen d k w (BootAt at node word) =
     (node < length d.header.nodes) × (word < 2 ^ 64) × (d.origin k ≤ daemon_tick d node at) × (is_clock_value (node_wall d node (next_life w node) at) ≡ true)
 CanHappen d k w (Turn at node) = IsRunning d node (w.lives node)
 CanHappen d k w (Take at number) = RunsFor d w (slice_get w.sent number)
 CanHappen d k w (Bytes at node port from octets) =
-    IsRunning d node (w.lives node) × (port.0 < length (neighbours node (networks d.header))) × MayCome (networks d.header) node port from ×
-    (length octets ≤ 512)
-    × ((i : ℕ) → octet_at octets i < 256)
+    IsRunning d node (w.lives node) × (port.0 < length (neighbours node (networks d.header))) × MayCome (networks d.header) node port from
+    × (length octets ≤ 512) × ((i : ℕ) → octet_at octets i < 256)
 
 -- each of these events, the newest of which comes first, can happen after those before it, and isn't earlier
 abbrev pub AllHappen : Daemons → List Event → Type 0

@@ -25,8 +25,8 @@ pub record IsSent (d : Daemons) (s : Sent) (p : Posted) : Type 0 where
 abbrev pub tried_by : ℕ → List Sent → List Tried
 tried_by n sent = map (λ s. s.tried) (filter (λ s. s.went && (s.from == n)) sent)
 
--- a daemon that has come to this life takes its last turn at the next event, in which this is told: in its life it has tried what its session
--- had tried before, and the first m sends of that turn
+-- a daemon that has come to the one life takes its last turn at the next event, with which it comes to the other: since its start it has tried
+-- what its session had tried before, and the first m sends of that turn
 abbrev pub TriesFirst : Daemons → List Event → Step → Life → Life → ℕ → Type 0
 TriesFirst d before step life now m =
     tried_by step.node (drop life.sent_before (turned_to d (length before) step life now (network d before)).sent)
@@ -40,7 +40,8 @@ pub record NetworkKept (d : Daemons) (setting : Setting) (events : List Event) :
   pub sends : (k : ℕ) (s : Sent) (p : Posted) → slice_get (network d events).sent k ≡ Some s →
       slice_get (posts (run_by d.clocks d.header events)) k ≡ Some p → IsSent d s p
   -- what a daemon that runs has tried, as its session has it, is what the network has of it since it started
-  pub tried : (n : ℕ) (life : Life) → (network d events).lives n ≡ Some life → (session_of (d.words n) life).outside.tried ≡ tried_by n (drop life.sent_before (network d events).sent)
+  pub tried : (n : ℕ) (life : Life) → (network d events).lives n ≡ Some life →
+      (session_of (d.words n) life).outside.tried ≡ tried_by n (drop life.sent_before (network d events).sent)
   -- a daemon that ends in its next turn, after m of its sends, has tried those
   pub ended : (step : Step) (life : Life) (arrival : Arrival) (early tick m : ℕ) → (network d events).lives step.node ≡ Some life →
       d.tries (length events) ≡ Some m → TriesFirst d events step life (turn_told arrival early tick life) m
@@ -67,7 +68,9 @@ SchedulesAreKept =
 -- the number by which the daemon of node n knows node m, on a port that is on network k, is the place of m's address on that network among the
 -- addresses to which the daemon binds its link. So a link that takes an address for its place takes senders for whom they are
 abbrev pub NumbersAreAddresses : Type 0
-NumbersAreAddresses = (d : Daemons) (n : ℕ) (q : Port) (k m : ℕ) → IsStarted d n → network_at n q (networks d.header) ≡ Some k → has_member m (neighbours_on n q.0 (networks d.header)) ≡ true → m ≢ n →
+NumbersAreAddresses =
+    (d : Daemons) (n : ℕ) (q : Port) (k m : ℕ) → IsStarted d n → network_at n q (networks d.header) ≡ Some k →
+    has_member m (neighbours_on n q.0 (networks d.header)) ≡ true → m ≢ n →
     slice_get (serving_binding (d.words n)).peers (number_for n q.0 m (networks d.header)) ≡ Some (d.address k m)
 
 -- the daemon that runs on node n, if one does, has taken fewer turns than its words say

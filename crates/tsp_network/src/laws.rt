@@ -1,5 +1,5 @@
 //! Theorems about every network of daemons. Nothing here runs.
-ghost use Rattle.tsp_network.specs.ClocksUse.{AnyPacesKeepTime, ClocksUse};
+ghost use Rattle.tsp_network.specs.ClocksUse.{AnyPacesKeepTime, ClocksUse, LivesCount};
 ghost use Rattle.tsp_network.specs.Kept.{NetworksKeepPromises, NumbersAreAddresses, RunsAreNetworks};
 ghost use Rattle.tsp_network.specs.Kept.{SchedulesAreKept};
 ghost use Rattle.tsp_network.specs.Told.{ServedIsTried, SessionsAreTold};
@@ -64,6 +64,12 @@ pub fn any_paces_keep_time()
 #[tactic(auto, using(crate::proofs::WanderUse::clocks_use))]
 pub fn clocks_use()
     ensures { ClocksUse }
+{}
+
+/// That each life has a wall clock of its own is needed: with that of its first life in the other's second
+/// life too, a measurement errs by more than its err.
+pub fn lives_count()
+    ensures { LivesCount }
 {}
 
 /// A daemon that starts before its counter does, and one that is handed octets on a port where it can't

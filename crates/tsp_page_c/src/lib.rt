@@ -14,7 +14,7 @@
 //!
 //! In parentheses are the contracts, clauses and definitions that say it.
 //!
-//! - Each gives what the function of `tsp_page` gives that it calls (`tsp_page_tick`, `tsp_page_spread`, `tsp_page_read`).
+//! - Each gives what the function of `tsp_page` gives that it calls (`told`, `unsound`, `stale`).
 //!
 //! # What is only tested
 //!

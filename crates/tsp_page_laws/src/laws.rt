@@ -1,11 +1,14 @@
 //! Theorems about the interval. Nothing here runs.
-ghost use Rattle.std.specs.Prelude.{◌≡◌, ◌≢◌, ◌⊎◌, ℕ, true, List, [], ◌∷◌};
-ghost use Rattle.tsp_base.specs.History.{Acts, Line, dids, of, view};
+ghost use Rattle.std.specs.Prelude.{◌≡◌, ◌≢◌, ◌⊎◌, ◌≤◌, ℕ, ◌+◌, ◌-◌, ◌*◌, ◌/◌, ℤ, pos, ◌+ℤ◌, ◌≤ℤ◌, true, false, List, [], ◌∷◌};
+ghost use Rattle.tsp_base.specs.History.{Acts, Did, Line, dids, of, view};
 ghost use Rattle.tsp_base.specs.Messages.{MessageValue};
-ghost use Rattle.tsp_base.specs.NodeFacts.{all_corrects, lives, up};
+ghost use Rattle.tsp_base.specs.NodeFacts.{all_corrects, last_correct, lives, up};
 ghost use Rattle.tsp_base.specs.Places.{Within};
 ghost use Rattle.tsp_base.specs.PortFacts.{kept_name, role};
 ghost use Rattle.tsp_base.specs.Takings.{TakesFrom};
+ghost use Rattle.tsp_base.specs.declared.act.Act.TheVariants.{Correct};
+ghost use Rattle.tsp_page.specs.Formula.{clock_shown_at, shown_at};
+ghost use Rattle.tsp_page.specs.Pasts.{TellsOf};
 ghost use Rattle.tsp_page.specs.declared.daemon_half.DaemonHalf.{DaemonHalf};
 ghost use Rattle.tsp_page.specs.declared.look_half.LookHalf.{LookHalf};
 ghost use Rattle.tsp_page.specs.declared.rank.Rank.TheVariants.{Leads};
@@ -26,6 +29,17 @@ pub fn masters_lie_within()
         → LiesWithin setting k m h t d l }
     ensures leads { (setting : Setting) (k t : ℕ) (h : List Line) (d : DaemonHalf) (l : LookHalf)
         → Fits setting h → SaysClock k h d → d.rank ≡ Leads → LiesWithin setting k k h t d l }
+{}
+
+/// What a page shows is no less than what the clock does. After a correction that is slewed it is more by no more than a
+/// microsecond, and twice the two-hundredths of the ticks that passed from the correction to the moment when the page was
+/// written: its least is what the page before it showed then.
+pub fn pages_show_clocks()
+    ensures above { (h : DaemonHalf) (x : ℕ) → clock_shown_at h x ≤ℤ shown_at h x }
+    ensures near { (ds : List Did) (d : Did) (amount value : ℤ) (old new : DaemonHalf) (w x : ℕ)
+        → d.deed ≡ Acts (Correct amount false value) → last_correct ds ≤ d.tick → d.tick ≤ w → w ≤ x
+        → TellsOf ds old → TellsOf (d ∷ ds) new → new.least ≤ℤ clock_shown_at old w
+        → shown_at new x ≤ℤ (clock_shown_at new x +ℤ pos (2 * ((w - d.tick) / 200) + 1)) }
 {}
 
 /// Each node that has booted can have such a page after any history, so the law above speaks of all of them.

@@ -11,6 +11,8 @@
 //! - The master's clock lies in the interval that a reader gets, until it is corrected or boots, whatever the own clock was
 //!   corrected by since the look, and however long ago that was (`looked` of `masters_lie_within`); a host that leads is
 //!   the master itself (`leads`). Each node that has booted can have such a page (`pages_can_say_so`).
+//! - What a page shows is what the clock shows, or more by a microsecond or so right after a correction, which the page before it
+//!   showed already (`pages_show_clocks`).
 //! - A stamp of a node that leads soon after it is of the life in which it leads (`leaders_stamps_are_of_their_life`). So a
 //!   look counts only if whom it asked names itself as the master after its stamps: else it may be one that has started
 //!   again, whose clock is another.

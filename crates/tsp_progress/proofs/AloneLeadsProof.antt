@@ -1,14 +1,17 @@
 -- A port that hears nothing is master soon.
-use Rattle.std.proofs.Common.{sym, ap, arith, true≢false, ◌∙◌, ◌≡◌, ◌≤◌, ◌⊎◌, inl, inr, ℕ, ◌+◌, Bool, true, false, if◌then◌else◌, List, [], ◌∷◌, None, is_some, refl}
-use Rattle.tsp_rules.specs.Values.{Act, Boot, Took, Become, Arm, Ring, Late, Alarm, Quiet, Search, Elect, Window, Probe, CloseAlarm, ResolveAlarm, Round, PeerId, Role, Starting, Loose, Follow, Candidate, Master, WINDOW, SLACK}
+use Rattle.std.proofs.Common.{sym, ap, arith, true≢false, ◌∙◌, ◌≡◌, ◌≤◌, ◌⊎◌, inl, inr, ℕ, ◌+◌, Bool, true, false, if◌then◌else◌, List, [], ◌∷◌, None}
+use Rattle.std.proofs.Common.{refl}
+use Rattle.tsp_rules.specs.Values.{Act, Boot, Took, Become, Arm, Ring, Late, Alarm, Quiet, Search, Elect, Window, Probe, CloseAlarm, ResolveAlarm, Round}
+use Rattle.tsp_rules.specs.Values.{PeerId, Role, Starting, Loose, Follow, Candidate, Master, WINDOW, SLACK}
 use Rattle.tsp_rules.specs.{CommonRows.is_idle, Guards.is_master}
-use Rattle.tsp_base.specs.Words.{Acts, Begins, Deadlines, Deed, Did, Line, Seen, Here, Elsewhere, armed, armed_after, held, held_after, none_armed, of, plain, role, role_after, stood, taken, taken_after, tick_of, view}
+use Rattle.tsp_base.specs.Words.{Acts, Begins, Deadlines, Deed, Did, Line, Seen, Here, Elsewhere, armed, armed_after, held, held_after, none_armed, of, plain}
+use Rattle.tsp_base.specs.Words.{role, role_after, stood, taken, taken_after, tick_of, view}
 use Rattle.tsp_promises.specs.{Fits.Fits, Fits.node_of, Setting.Setting}
 use Rattle.tsp_promises.proofs.{EverywhereLemmas.Everywhere-at, EverywhereLemmas.Everywhere-from, EverywhereLemmas.Everywhere-within, OwnFitsProof.own_fits}
 use Rattle.tsp_progress.specs.AlarmsFit.{AlarmFits, AlarmsFit, LateFits, Manner, NextFits, NextTo, RingFits}
 use Rattle.tsp_progress.specs.AloneLeads.{AloneLeads, AloneLeadsAt, is_word, last_word}
 use Rattle.tsp_progress.specs.AloneStands.{is_news, news, patience}
-use Rattle.tsp_progress.specs.CausesFit.{CausesFit, Heard, Unheard, elects_by, loosens_by, newest_is, searches_by, seeks_by, wins_by}
+use Rattle.tsp_progress.specs.CausesFit.{CausesFit, Heard, Unheard, elects_by, loosens_by, newest_is, searches_by, seeks_by, stirred, stirs_in, wins_by}
 use Rattle.tsp_progress.specs.{Stands.StandsOn, Wakes.Wakes, Wakes.Woken, Wakes.WokenAt, Watched.Attended, Watched.AttendedAt, Watched.Watched}
 use Rattle.tsp_progress.proofs.AloneProof.{Paced, PacedAt, Waiting, idle_waits, soon_before, waiting}
 use Rattle.tsp_progress.proofs.InTimeProof.{none_some}
@@ -41,7 +44,7 @@ record Hears (late w r x boot : ℕ) (took : Bool) (rl : Role) (d : Deadlines) (
   pub phase : (r ≡ w) ⊎ Leading late w r rl d elected sought searched loosened won
 
 abbrev Hearing : ℕ → List Seen → Type 0
-Hearing late seen = Hears late (last_word seen) (news seen) (tick_of (plain seen)) (held seen).boot (is_some (taken seen)) (role seen) (armed seen)
+Hearing late seen = Hears late (last_word seen) (news seen) (tick_of (plain seen)) (held seen).boot (stirred (taken seen)) (role seen) (armed seen)
     (newest_is elects_by seen) (newest_is seeks_by seen) (newest_is searches_by seen) (newest_is loosens_by seen) (newest_is wins_by seen)
 
 wrong : {A : Type 0} → false ≡ true → A
@@ -51,23 +54,31 @@ wrong e = absurd (true≢false (sym e))
 clash : {A : Type 0} {b : Bool} → b ≡ false → b ≡ true → A
 clash n e = absurd (true≢false (sym e ∙ n))
 
-module _ (late : ℕ) (slack : late ≤ SLACK) (m : Manner) (d : Did) (before : List Seen) (strict : m.strict ≡ false) (level : d.tick ≡ tick_of (plain before)) (pace : Paced late before) (waits : Waiting late before) (inv : Hearing late before) where
+unheard : {late w r x boot : ℕ} {took : Bool} {rl : Role} {dl : Deadlines} {el sk se lo wi : Bool} → Hears late w r x boot took rl dl el sk se lo wi →
+    Hears late w r x boot false rl dl el sk se lo wi
+unheard h = record { word_le = h.word_le; boot_le = h.boot_le; heard = λ e. wrong e; phase = h.phase }
+
+module _ (late : ℕ) (slack : late ≤ SLACK) (m : Manner) (d : Did) (before : List Seen) (strict : m.strict ≡ false) (level : d.tick ≡
+    tick_of (plain before)) (pace : Paced late before) (waits : Waiting late before) (inv : Hearing late before) where
   abbrev After : Deed → Type 0
-  After deed = Hears late (if is_word deed then d.tick else last_word before) (if is_news deed then d.tick else news before) d.tick (held_after deed d.tick (held before)).boot (is_some (taken_after deed (taken before)))
+  After deed = Hears late (if is_word deed then d.tick else last_word before) (if is_news deed then d.tick else news before) d.tick
+      (held_after deed d.tick (held before)).boot (stirred (taken_after deed (taken before)))
       (role_after deed (role before)) (armed_after deed (armed before)) (elects_by deed) (seeks_by deed) (searches_by deed) (loosens_by deed) (wins_by deed)
 
   news-le : news before ≤ d.tick
   news-le = let le = waits.news_le in omega (arith, le, level)
 
-  heard-now : is_some (taken before) ≡ true → last_word before ≡ d.tick
+  heard-now : stirred (taken before) ≡ true → last_word before ≡ d.tick
   heard-now e = inv.heard e ∙ sym level
 
   -- what was heard came in this step
-  both-now : is_some (taken before) ≡ true → news before ≡ last_word before
+  both-now : stirred (taken before) ≡ true → news before ≡ last_word before
   both-now e = waits.heard e ∙ sym (inv.heard e)
 
   -- an act that is neither news nor a boot, in this phase
-  phased : (rl : Role) (dl : Deadlines) (el sk se lo wi : Bool) → ((news before ≡ last_word before) ⊎ Leading late (last_word before) (news before) rl dl el sk se lo wi) → Hears late (last_word before) (news before) d.tick (held before).boot (is_some (taken before)) rl dl el sk se lo wi
+  phased : (rl : Role) (dl : Deadlines) (el sk se lo wi : Bool) → ((news before ≡ last_word before) ⊎
+      Leading late (last_word before) (news before) rl dl el sk se lo wi) → Hears late (last_word before) (news before) d.tick (held before).boot
+      (stirred (taken before)) rl dl el sk se lo wi
   phased rl dl el sk se lo wi p = record { word_le = inv.word_le; boot_le = inv.boot_le; heard = heard-now; phase = p }
 
   -- the alarms that a leading port has off
@@ -76,21 +87,39 @@ module _ (late : ℕ) (slack : late ≤ SLACK) (m : Manner) (d : Did) (before : 
     pub search : (armed before).search ≡ None → dl.search ≡ None
     pub elect : (armed before).elect ≡ None → dl.elect ≡ None
 
-  goes-on : (dl : Deadlines) → Quieter dl → Hears late (last_word before) (news before) d.tick (held before).boot (is_some (taken before)) (role before) dl false false false false false
+  goes-on : (dl : Deadlines) → Quieter dl → Hears late (last_word before) (news before) d.tick (held before).boot (stirred (taken before)) (role before) dl
+      false false false false false
   goes-on dl k = phased (role before) dl false false false false false (elim inv.phase [
     | inl same ↦ inl same
-    | inr l ↦ inr (record { soon = l.soon; leads = l.leads; quiet = k.quiet l.quiet; search = k.search l.search; elect = k.elect l.elect; elected_not = refl; sought_not = refl; searched_not = refl; wins = λ e. wrong e })
+    | inr l ↦ inr (record {
+      soon = l.soon;
+      leads = l.leads;
+      quiet = k.quiet l.quiet;
+      search = k.search l.search;
+      elect = k.elect l.elect;
+      elected_not = refl;
+      sought_not = refl;
+      searched_not = refl;
+      wins = λ e. wrong e;
+    })
   ])
 
   never : {A : Type 0} (a : Alarm) → LateFits a d before → A
   never a f = let le = soon_before late before pace a f.at f.armed_is in let over = f.late in let no : ⊥ = omega (arith, le, over, slack, level) in absurd no
 
   -- a word
-  worded : (rl : Role) (dl : Deadlines) (boot : ℕ) → boot ≤ d.tick → (took el sk se lo wi : Bool) → Hears late d.tick d.tick d.tick boot took rl dl el sk se lo wi
+  worded : (rl : Role) (dl : Deadlines) (boot : ℕ) → boot ≤ d.tick → (took el sk se lo wi : Bool) →
+      Hears late d.tick d.tick d.tick boot took rl dl el sk se lo wi
   worded rl dl boot le took el sk se lo wi = record { word_le = omega arith; boot_le = le; heard = λ e. refl; phase = inl refl }
 
   boot-le : (held before).boot ≤ d.tick
   boot-le = let a = inv.boot_le in let b = inv.word_le in let c = news-le in omega (arith, a, b, c)
+
+  -- a datagram
+  took : (b : Bool) → Hears late (if b then d.tick else last_word before) (if b then d.tick else news before) d.tick (held before).boot b (role before)
+      (armed before) false false false false false
+  took true = worded (role before) (armed before) (held before).boot boot-le true false false false false false
+  took false = unheard (goes-on (armed before) (record { quiet = λ e. e; search = λ e. e; elect = λ e. e }))
 
   -- the port stands for election
   stands : (Heard before ⊎ (newest_is elects_by before ≡ true)) → After (Acts (Become Candidate))
@@ -101,7 +130,17 @@ module _ (late : ℕ) (slack : late ≤ SLACK) (m : Manner) (d : Did) (before : 
     phase = elim cause [
       | inl heard ↦ inl (sym (heard-now heard))
       | inr by ↦ elim inv.phase [
-        | inl same ↦ inr (record { soon = (let le = waits.rings by in omega (arith, le, level, same)); leads = refl; quiet = refl; search = refl; elect = refl; elected_not = refl; sought_not = refl; searched_not = refl; wins = λ e. wrong e })
+        | inl same ↦ inr (record {
+          soon = (let le = waits.rings by in omega (arith, le, level, same));
+          leads = refl;
+          quiet = refl;
+          search = refl;
+          elect = refl;
+          elected_not = refl;
+          sought_not = refl;
+          searched_not = refl;
+          wins = λ e. wrong e;
+        })
         | inr l ↦ clash l.elected_not by
       ]
     ];
@@ -111,7 +150,17 @@ module _ (late : ℕ) (slack : late ≤ SLACK) (m : Manner) (d : Did) (before : 
   leads : (Heard before ⊎ (newest_is wins_by before ≡ true)) → After (Acts (Become Master))
   leads cause = phased Master none_armed false false false false false (elim inv.phase [
     | inl same ↦ inl same
-    | inr l ↦ inr (record { soon = l.soon; leads = refl; quiet = refl; search = refl; elect = refl; elected_not = refl; sought_not = refl; searched_not = refl; wins = λ e. wrong e })
+    | inr l ↦ inr (record {
+      soon = l.soon;
+      leads = refl;
+      quiet = refl;
+      search = refl;
+      elect = refl;
+      elected_not = refl;
+      sought_not = refl;
+      searched_not = refl;
+      wins = λ e. wrong e;
+    })
   ])
 
   -- what comes after its window
@@ -179,7 +228,17 @@ module _ (late : ℕ) (slack : late ≤ SLACK) (m : Manner) (d : Did) (before : 
   rings Elect f = phased (role before) _ true false true true false (elim inv.phase [ inl same ↦ inl same | inr l ↦ none_some l.elect f.armed_is ])
   rings Window f = phased (role before) _ false false false true true (elim inv.phase [
     | inl same ↦ inl same
-    | inr l ↦ inr (record { soon = l.soon; leads = l.leads; quiet = l.quiet; search = l.search; elect = l.elect; elected_not = refl; sought_not = refl; searched_not = refl; wins = λ e. refl })
+    | inr l ↦ inr (record {
+      soon = l.soon;
+      leads = l.leads;
+      quiet = l.quiet;
+      search = l.search;
+      elect = l.elect;
+      elected_not = refl;
+      sought_not = refl;
+      searched_not = refl;
+      wins = λ e. refl;
+    })
   ])
   rings Probe f = goes-on _ (record { quiet = λ e. e; search = λ e. e; elect = λ e. e })
   rings CloseAlarm f = goes-on _ (record { quiet = λ e. e; search = λ e. e; elect = λ e. e })
@@ -188,7 +247,7 @@ module _ (late : ℕ) (slack : late ≤ SLACK) (m : Manner) (d : Did) (before : 
 
   acts : (a : Act) → NextTo m before (Acts a) → AlarmFits (Acts a) d before → (Heard before ⊎ Unheard (Acts a) d before) → After (Acts a)
   acts Boot n f c = worded Starting none_armed d.tick (omega arith) _ false false false false false
-  acts (Took from t) n f c = worded (role before) (armed before) (held before).boot boot-le true false false false false false
+  acts (Took from t) n f c = took (stirs_in t)
   acts (Become r) n f c = becomes r n c
   acts (Arm a at) n f c = arms a at c
   acts (Ring a) n f c = rings a f
@@ -196,38 +255,51 @@ module _ (late : ℕ) (slack : late ≤ SLACK) (m : Manner) (d : Did) (before : 
   acts _ n f c = goes-on _ (record { quiet = λ e. e; search = λ e. e; elect = λ e. e })
 
 -- an entry that isn't an act here
-still : (late w r x y boot : ℕ) (took : Bool) (rl : Role) (dl : Deadlines) (el sk se lo wi : Bool) → (took ≡ true → w ≡ y) → Hears late w r x boot false rl dl el sk se lo wi → Hears late w r y boot took rl dl false false false false false
+still : (late w r x y boot : ℕ) (took : Bool) (rl : Role) (dl : Deadlines) (el sk se lo wi : Bool) → (took ≡ true → w ≡ y) →
+    Hears late w r x boot false rl dl el sk se lo wi → Hears late w r y boot took rl dl false false false false false
 still late w r x y boot took rl dl el sk se lo wi now h = record {
   word_le = h.word_le;
   boot_le = h.boot_le;
   heard = now;
   phase = elim h.phase [
     | inl same ↦ inl same
-    | inr l ↦ inr (record { soon = l.soon; leads = l.leads; quiet = l.quiet; search = l.search; elect = l.elect; elected_not = refl; sought_not = refl; searched_not = refl; wins = λ e. wrong e })
+    | inr l ↦ inr (record {
+      soon = l.soon;
+      leads = l.leads;
+      quiet = l.quiet;
+      search = l.search;
+      elect = l.elect;
+      elected_not = refl;
+      sought_not = refl;
+      searched_not = refl;
+      wins = λ e. wrong e;
+    })
   ];
 }
 
-unheard : {late w r x boot : ℕ} {took : Bool} {rl : Role} {dl : Deadlines} {el sk se lo wi : Bool} → Hears late w r x boot took rl dl el sk se lo wi → Hears late w r x boot false rl dl el sk se lo wi
-unheard h = record { word_le = h.word_le; boot_le = h.boot_le; heard = λ e. wrong e; phase = h.phase }
-
 module _ (late : ℕ) (slack : late ≤ SLACK) (m : Manner) (may : m.may ≡ true) (strict : m.strict ≡ false) where
-  one-more : (d : Did) (before : List Seen) → PacedAt late (Here d) before → Paced late before → NextTo m before d.deed → AlarmFits d.deed d before → (Heard before ⊎ Unheard d.deed d before) → Waiting late before → Hearing late before → Hearing late (Here d ∷ before)
+  one-more : (d : Did) (before : List Seen) → PacedAt late (Here d) before → Paced late before → NextTo m before d.deed → AlarmFits d.deed d before →
+      (Heard before ⊎ Unheard d.deed d before) → Waiting late before → Hearing late before → Hearing late (Here d ∷ before)
   one-more d before p pace next fits cause waits inv = by_deed d.deed refl next fits cause where
     by_deed : (deed : Deed) → d.deed ≡ deed → NextTo m before deed → AlarmFits deed d before → (Heard before ⊎ Unheard deed d before) →
-        Hears late (if is_word deed then d.tick else last_word before) (if is_news deed then d.tick else news before) d.tick (held_after deed d.tick (held before)).boot (is_some (taken_after deed (taken before)))
+        Hears late (if is_word deed then d.tick else last_word before) (if is_news deed then d.tick else news before) d.tick
+        (held_after deed d.tick (held before)).boot (stirred (taken_after deed (taken before)))
         (role_after deed (role before)) (armed_after deed (armed before)) (elects_by deed) (seeks_by deed) (searches_by deed) (loosens_by deed) (wins_by deed)
     by_deed Begins is n f c = still late (last_word before) (news before) _ d.tick _ false (role before) (armed before) _ _ _ _ _ (λ e. wrong e) (unheard inv)
     by_deed (Acts a) is n f c = acts late slack m d before strict (p.level a is) pace waits inv a n f c
 
   hearing : (seen : List Seen) → AlarmsFit m seen → CausesFit seen → StandsOn m seen → Paced late seen → Hearing late seen
   hearing [] f c s p = record { word_le = omega arith; boot_le = omega arith; heard = λ e. wrong e; phase = inl refl }
-  hearing (Here d ∷ before) f c s p = one-more d before p.0 p.1 f.1.0 f.0 c.0 (waiting late slack m may before f.1.1 c.1 s.1 p.1) (hearing before f.1.1 c.1 s.1 p.1)
+  hearing (Here d ∷ before) f c s p = one-more d before p.0 p.1 f.1.0 f.0 c.0 (waiting late slack m may before f.1.1 c.1 s.1 p.1)
+      (hearing before f.1.1 c.1 s.1 p.1)
   hearing (Elsewhere d ∷ before) f c s p =
       let h = hearing before f.1 c s p.1 in
-      still late (last_word before) (news before) _ d.tick _ (is_some (taken before)) (role before) (armed before) _ _ _ _ _ (λ e. h.heard e ∙ sym (p.0.aside d refl)) (unheard h)
+      still late (last_word before) (news before) _ d.tick _ (stirred (taken before)) (role before) (armed before) _ _ _ _ _ (λ e. h.heard e ∙
+      sym (p.0.aside d refl)) (unheard h)
 
   -- so a port that is no master doesn't wait for long
-  pub leads_soon : (seen : List Seen) (x : ℕ) → Wakes m seen → StandsOn m seen → Paced late seen → Watched late x seen → (start : Did) (idle : List Seen) → stood seen ≡ Here start ∷ idle → is_master (role seen) ≡ false → x ≤ last_word seen + (patience late + WINDOW + late)
+  pub leads_soon : (seen : List Seen) (x : ℕ) → Wakes m seen → StandsOn m seen → Paced late seen → Watched late x seen → (start : Did) (idle : List Seen) →
+      stood seen ≡ Here start ∷ idle → is_master (role seen) ≡ false → x ≤ last_word seen + (patience late + WINDOW + late)
   leads_soon seen x w s p watched start idle stood-is other = by_role (role seen) refl other where
     h : Hearing late seen
     h = hearing seen w.acts w.causes s p
@@ -252,10 +324,12 @@ module _ (late : ℕ) (slack : late ≤ SLACK) (m : Manner) (may : m.may ≡ tru
     by_role Starting r n = let due = watched.alarms Quiet _ (w.starting r start idle stood-is) in let le = h.boot_le in omega (arith, due, le)
     by_role Loose r n = idly (ap is_idle r) (ap is_leading r)
     by_role (Follow q) r n = idly (ap is_idle r) (ap is_leading r)
-    by_role Candidate r n = let c = w.candidate r in let due = watched.alarms Window _ c.window_is in let le = waits.window _ c.window_is in let first = soon in omega (arith, due, le, first)
+    by_role Candidate r n = let c = w.candidate r in let due = watched.alarms Window _ c.window_is in let le = waits.window _ c.window_is in let first = soon in
+        omega (arith, due, le, first)
     by_role Master r n = absurd (true≢false n)
 
-pub alone_leads : (m : ℕ → Manner) (setting : Setting) (late : ℕ) (world : List Line) → Fits setting world → Woken m world → Attended late world → late ≤ SLACK → AloneLeads m late world
+pub alone_leads : (m : ℕ → Manner) (setting : Setting) (late : ℕ) (world : List Line) → Fits setting world → Woken m world → Attended late world →
+    late ≤ SLACK → AloneLeads m late world
 alone_leads m setting late world f w a slack = Everywhere-from (AloneLeadsAt m late) world (λ l before within begins may strict q start idle stood-is other.
     let n = node_of l in
     let whole = Everywhere-within _ (l ∷ before) world f within in
@@ -266,3 +340,13 @@ alone_leads m setting late world f w a slack = Everywhere-from (AloneLeadsAt m l
     (stands_on (m n) seen wakes.acts (rising setting q (of n before) (own_fits setting n before whole.1)))
     (paced setting late before whole.1 attended.1 (m n) n q wakes.acts)
     (Everywhere-at (AttendedAt late) l before world a within begins q) start idle stood-is other)
+
+-- whether a place is one of this port
+abbrev pub is_here : List Seen → Bool
+is_here (Here d ∷ idle) = true
+is_here _ = false
+
+-- what is said of a port that has a role, where it has one
+pub has_role : (place : List Seen) (x most : ℕ) → ((start : Did) (idle : List Seen) → place ≡ Here start ∷ idle → x ≤ most) → is_here place ≡ true → x ≤ most
+has_role (Here d ∷ idle) x most k e = k d idle refl
+has_role _ x most k e = wrong e

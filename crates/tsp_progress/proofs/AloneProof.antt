@@ -1,12 +1,17 @@
 -- A port that hears nothing stands for election soon.
-use Rattle.std.proofs.Common.{sym, ap, subst, arith, true≢false, ◌∙◌, ◌≡◌, ◌≤◌, ◌≢◌, ◌⊎◌, inl, inr, ℕ, ◌+◌, ◌||◌, le-leb, ◌%◌, ◌<◌, Bool, true, false, if◌then◌else◌, List, [], ◌∷◌, Option, None, Some, is_some, refl}
+use Rattle.std.proofs.Common.{sym, ap, subst, arith, true≢false, ◌∙◌, ◌≡◌, ◌≤◌, ◌≢◌, ◌⊎◌, inl, inr, ℕ, ◌+◌, ◌||◌, le-leb, ◌%◌, ◌<◌, Bool, true, false}
+use Rattle.std.proofs.Common.{if◌then◌else◌, List, [], ◌∷◌, Option, None, Some, is_some, refl}
 use Rattle.std.proofs.{Math.Nat.mod-lt, lemmas.Bool.or_right}
-use Rattle.tsp_rules.specs.Values.{Act, Boot, Took, Taken, Place, Become, Arm, Ring, Late, Back, Quit, Abandon, Alarm, Quiet, Search, Elect, Window, Probe, CloseAlarm, ResolveAlarm, Round, PeerId, Role, Starting, Loose, Follow, Candidate, Master, ELECT_MIN, ELECT_SPREAD, WINDOW, QUIET, SLACK}
+use Rattle.tsp_rules.specs.Values.{Act, Boot, Took, Become, Arm, Ring, Late, Back, Quit, Abandon, Alarm, Quiet, Search, Elect, Window, Probe}
+use Rattle.tsp_rules.specs.Values.{CloseAlarm, ResolveAlarm, Round, PeerId, Role, Starting, Loose, Follow, Candidate, Master, ELECT_MIN, ELECT_SPREAD, WINDOW}
+use Rattle.tsp_rules.specs.Values.{QUIET, SLACK}
 use Rattle.tsp_rules.specs.{CommonRows.is_idle, Guards.delay}
-use Rattle.tsp_base.specs.Words.{Acts, Begins, Deadlines, none_armed, Deed, Did, Held, Seen, Here, Elsewhere, armed, armed_after, deadline, did_of, held, held_after, is_past, plain, role, taken, taken_after, tick_of, word}
+use Rattle.tsp_base.specs.Words.{Acts, Begins, Deadlines, none_armed, Deed, Did, Held, Seen, Here, Elsewhere, armed, armed_after, deadline, did_of, held}
+use Rattle.tsp_base.specs.Words.{held_after, is_past, plain, role, taken, taken_after, tick_of, word}
 use Rattle.tsp_progress.specs.AlarmsFit.{AlarmFits, AlarmsFit, ArmFits, LateFits, Manner, RingFits, stands_by, stands_now}
 use Rattle.tsp_progress.specs.AloneStands.{is_news, news, patience}
 use Rattle.tsp_progress.specs.CausesFit.{CausesFit, Heard, Unheard, backs_by, backs_itself_now, elects_by, loosens_by, newest_is, searches_by, seeks_by}
+use Rattle.tsp_progress.specs.CausesFit.{stirred, stirs_in}
 use Rattle.tsp_progress.specs.{Stands.AfterElect, Stands.StandsOn, Wakes.Wakes, Watched.Watched}
 use Rattle.tsp_progress.proofs.InTimeProof.{none_some, value_of}
 
@@ -69,34 +74,59 @@ pub record Waits (late r x : ℕ) (h : Held) (d : Deadlines) (took moved waited 
   pub stands : stood ≡ true → r ≡ x
 
 abbrev pub Waiting : ℕ → List Seen → Type 0
-Waiting late seen = Waits late (news seen) (tick_of (plain seen)) (held seen) (armed seen) (is_some (taken seen)) (newest_is moves_by seen) (newest_is waits_by seen) (newest_is elects_by seen) (stands_now seen || backs_itself_now seen)
+Waiting late seen = Waits late (news seen) (tick_of (plain seen)) (held seen) (armed seen) (stirred (taken seen)) (newest_is moves_by seen)
+    (newest_is waits_by seen) (newest_is elects_by seen) (stands_now seen || backs_itself_now seen)
 
 no-send : {A : Type 0} {at : ℕ} → None ≡ Some at → A
 no-send e = none_some refl e
 
 -- no alarm was overdue before
-pub soon_before : (late : ℕ) (before : List Seen) → Paced late before → (a : Alarm) (at : ℕ) → deadline (armed before) a ≡ Some at → tick_of (plain before) ≤ at + late
+pub soon_before : (late : ℕ) (before : List Seen) → Paced late before → (a : Alarm) (at : ℕ) → deadline (armed before) a ≡ Some at →
+    tick_of (plain before) ≤ at + late
 soon_before late [] p a at e = omega arith
 soon_before late (s ∷ older) p a at e = p.0.soon a at e
 
+-- nothing that stirs was taken
+unheard : {late r x : ℕ} {h : Held} {d : Deadlines} {took moved waited elected stood : Bool} → Waits late r x h d took moved waited elected stood →
+    Waits late r x h d false moved waited elected stood
+unheard w = record {
+  news_le = w.news_le;
+  heard = λ e. absurd (true≢false (sym e));
+  boot_le = w.boot_le;
+  quit_le = w.quit_le;
+  quiet = w.quiet;
+  window = w.window;
+  search = w.search;
+  ahead = w.ahead;
+  elect = w.elect;
+  moves = w.moves;
+  waits = w.waits;
+  elects = w.elects;
+  rings = w.rings;
+  stands = w.stands;
+}
+
 -- one deed more
-module _ (late : ℕ) (slack : late ≤ SLACK) (m : Manner) (may : m.may ≡ true) (d : Did) (before : List Seen) (level : d.tick ≡ tick_of (plain before)) (paced : Paced late before) (inv : Waiting late before) where
+module _ (late : ℕ) (slack : late ≤ SLACK) (m : Manner) (may : m.may ≡ true) (d : Did) (before : List Seen) (level : d.tick ≡
+    tick_of (plain before)) (paced : Paced late before) (inv : Waiting late before) where
   -- after this deed
   abbrev After : Deed → Type 0
-  After deed = Waits late (if is_news deed then d.tick else news before) d.tick (held_after deed d.tick (held before)) (armed_after deed (armed before)) (is_some (taken_after deed (taken before))) (moves_by deed) (waits_by deed) (elects_by deed)
+  After deed = Waits late (if is_news deed then d.tick else news before) d.tick (held_after deed d.tick (held before)) (armed_after deed (armed before))
+      (stirred (taken_after deed (taken before))) (moves_by deed) (waits_by deed) (elects_by deed)
       (stands_now (Here (record d { deed = deed }) ∷ before) || backs_itself_now (Here (record d { deed = deed }) ∷ before))
 
   r-le : news before ≤ d.tick
   r-le = let le = inv.news_le in omega (arith, le, level)
 
-  heard-now : (is_some (taken before) ≡ true) → news before ≡ d.tick
+  heard-now : (stirred (taken before) ≡ true) → news before ≡ d.tick
   heard-now e = inv.heard e ∙ sym level
 
   quit-le : (q : ℕ) → (held before).quit ≡ Some q → q ≤ d.tick
   quit-le q e = let le = inv.quit_le q e in let r = r-le in omega (arith, le, r)
 
   -- Elect as it was
-  elect-kept : (at : ℕ) → (armed before).elect ≡ Some at → (at ≤ news before + first_elect late) ⊎ ((at ≤ news before + then_elect late) × ((q : ℕ) → (held before).quit ≡ Some q → q + ELECT_MIN ≤ at))
+  elect-kept : (at : ℕ) → (armed before).elect ≡ Some at → (at ≤ news before + first_elect late) ⊎
+      ((at ≤ news before + then_elect late) × ((q : ℕ) → (held before).quit ≡ Some q → q + ELECT_MIN ≤ at))
   elect-kept at e = inv.elect at e
 
   ahead-kept : (at : ℕ) → (armed before).elect ≡ Some at → at ≤ d.tick + longest_delay
@@ -113,8 +143,11 @@ module _ (late : ℕ) (slack : late ≤ SLACK) (m : Manner) (may : m.may ≡ tru
     pub search : (at : ℕ) → dl.search ≡ Some at → (armed before).search ≡ Some at
     pub elect : (at : ℕ) → dl.elect ≡ Some at → (armed before).elect ≡ Some at
 
-  kept : (dl : Deadlines) → Kept dl → (h : Held) → h.boot ≡ (held before).boot → h.quit ≡ (held before).quit → (moved waited elected stood : Bool) → (moved ≡ true → d.tick ≤ news before + (first_elect late + late)) → (waited ≡ true → d.tick ≤ news before + (then_search late + late)) →
-      (elected ≡ true → (d.tick ≤ news before + (first_elect late + late)) ⊎ (is_past h.quit ELECT_MIN d.tick ≡ true)) → (elected ≡ true → d.tick ≤ news before + (then_elect late + late)) → (stood ≡ true → news before ≡ d.tick) → Waits late (news before) d.tick h dl (is_some (taken before)) moved waited elected stood
+  kept : (dl : Deadlines) → Kept dl → (h : Held) → h.boot ≡ (held before).boot → h.quit ≡ (held before).quit → (moved waited elected stood : Bool) →
+      (moved ≡ true → d.tick ≤ news before + (first_elect late + late)) → (waited ≡ true → d.tick ≤ news before + (then_search late + late)) →
+      (elected ≡ true → (d.tick ≤ news before + (first_elect late + late)) ⊎ (is_past h.quit ELECT_MIN d.tick ≡ true)) →
+      (elected ≡ true → d.tick ≤ news before + (then_elect late + late)) → (stood ≡ true → news before ≡ d.tick) →
+      Waits late (news before) d.tick h dl (stirred (taken before)) moved waited elected stood
   kept dl k h boot quit moved waited elected stood mv wt el rg st = record {
     news_le = r-le;
     heard = heard-now;
@@ -139,11 +172,13 @@ module _ (late : ℕ) (slack : late ≤ SLACK) (m : Manner) (may : m.may ≡ tru
   as-it-was : Kept (armed before)
   as-it-was = record { quiet = λ at e. e; window = λ at e. e; search = λ at e. e; elect = λ at e. e }
 
-  plain-act : (dl : Deadlines) → Kept dl → (h : Held) → h.boot ≡ (held before).boot → h.quit ≡ (held before).quit → Waits late (news before) d.tick h dl (is_some (taken before)) false false false false
+  plain-act : (dl : Deadlines) → Kept dl → (h : Held) → h.boot ≡ (held before).boot → h.quit ≡ (held before).quit →
+      Waits late (news before) d.tick h dl (stirred (taken before)) false false false false
   plain-act dl k h boot quit = kept dl k h boot quit false false false false not-done not-done not-done not-done not-done
 
   -- a change of the role that is no news
-  changed : (moved : Bool) → (moved ≡ true → d.tick ≤ news before + (first_elect late + late)) → Waits late (news before) d.tick (held before) none_armed (is_some (taken before)) moved false false false
+  changed : (moved : Bool) → (moved ≡ true → d.tick ≤ news before + (first_elect late + late)) →
+      Waits late (news before) d.tick (held before) none_armed (stirred (taken before)) moved false false false
   changed moved mv = record {
     news_le = r-le;
     heard = heard-now;
@@ -204,9 +239,9 @@ module _ (late : ℕ) (slack : late ≤ SLACK) (m : Manner) (may : m.may ≡ tru
     stands = λ f. refl;
   }
 
-  -- a datagram: what is armed is within its time from now
-  took : (from : Place) (t : Taken) → After (Acts (Took from t))
-  took from t = record {
+  -- a datagram: if it stirs, what is armed is within its time from now
+  took : (b : Bool) → Waits late (if b then d.tick else news before) d.tick (held before) (armed before) b false false false false
+  took true = record {
     news_le = omega arith;
     heard = λ e. refl;
     boot_le = (let le = inv.boot_le in let r = r-le in omega (arith, le, r));
@@ -222,9 +257,11 @@ module _ (late : ℕ) (slack : late ≤ SLACK) (m : Manner) (may : m.may ≡ tru
     rings = λ f. absurd (true≢false (sym f));
     stands = λ f. refl;
   }
+  took false = unheard (plain-act (armed before) as-it-was (held before) refl refl)
 
   -- after Elect rang without a candidature it isn't long since the news
-  not-stood : (deed : Deed) → AfterElect m before deed → deed ≢ Acts (Become Candidate) → newest_is elects_by before ≡ true → d.tick ≤ news before + (first_elect late + late)
+  not-stood : (deed : Deed) → AfterElect m before deed → deed ≢ Acts (Become Candidate) → newest_is elects_by before ≡ true →
+      d.tick ≤ news before + (first_elect late + late)
   not-stood deed after other e = elim (inv.elects e) [
     | inl le ↦ omega (arith, le, level)
     | inr past ↦ absurd (other (stands-by before deed after e past))
@@ -236,10 +273,12 @@ module _ (late : ℕ) (slack : late ≤ SLACK) (m : Manner) (may : m.may ≡ tru
     held-same : (k : Did) (older : List Seen) → k.deed ≡ Acts (Ring Elect) → held (Here k ∷ older) ≡ held older
     held-same k older is = ap (λ deed. held_after deed k.tick (held older)) is
 
-    stands-by : (before : List Seen) (deed : Deed) → AfterElect m before deed → newest_is elects_by before ≡ true → is_past (held before).quit ELECT_MIN (tick_of (plain before)) ≡ true → deed ≡ Acts (Become Candidate)
+    stands-by : (before : List Seen) (deed : Deed) → AfterElect m before deed → newest_is elects_by before ≡ true →
+        is_past (held before).quit ELECT_MIN (tick_of (plain before)) ≡ true → deed ≡ Acts (Become Candidate)
     stands-by [] deed after e past = absurd (true≢false (sym e))
     stands-by (Elsewhere k ∷ older) deed after e past = absurd (true≢false (sym e))
-    stands-by (Here k ∷ older) deed after e past = let is = ring-is k.deed e in after is may (subst (λ h. is_past h.quit ELECT_MIN k.tick ≡ true) (held-same k older is) past)
+    stands-by (Here k ∷ older) deed after e past = let is = ring-is k.deed e in after is may (subst (λ h. is_past h.quit ELECT_MIN k.tick ≡
+        true) (held-same k older is) past)
 
   loosened : AfterElect m before (Acts (Become Loose)) → (Heard before ⊎ (newest_is loosens_by before ≡ true)) → After (Acts (Become Loose))
   loosened after (inl heard) = changed true (λ e. let r = heard-now heard in omega (arith, r))
@@ -306,7 +345,8 @@ module _ (late : ℕ) (slack : late ≤ SLACK) (m : Manner) (may : m.may ≡ tru
     stands = base.stands;
   }
 
-  searches : (at : ℕ) → AfterElect m before (Acts (Arm Search at)) → at ≡ d.tick + WINDOW → (Heard before ⊎ (newest_is searches_by before ≡ true)) → After (Acts (Arm Search at))
+  searches : (at : ℕ) → AfterElect m before (Acts (Arm Search at)) → at ≡ d.tick + WINDOW → (Heard before ⊎ (newest_is searches_by before ≡ true)) →
+      After (Acts (Arm Search at))
   searches at after f cause = let base = plain-act (armed before) as-it-was (held before) refl refl in record {
     news_le = base.news_le;
     heard = base.heard;
@@ -383,7 +423,8 @@ module _ (late : ℕ) (slack : late ≤ SLACK) (m : Manner) (may : m.may ≡ tru
       | inr waited ↦ let le = inv.waits waited in omega (arith, le, level)
     ]
 
-  arms : (a : Alarm) (at : ℕ) → AfterElect m before (Acts (Arm a at)) → ArmFits a d before at → (Heard before ⊎ Unheard (Acts (Arm a at)) d before) → After (Acts (Arm a at))
+  arms : (a : Alarm) (at : ℕ) → AfterElect m before (Acts (Arm a at)) → ArmFits a d before at → (Heard before ⊎ Unheard (Acts (Arm a at)) d before) →
+      After (Acts (Arm a at))
   arms Quiet at after f c = quiets at f c
   arms Search at after f c = searches at after f c
   arms Elect at after f c = elects at f c
@@ -402,16 +443,20 @@ module _ (late : ℕ) (slack : late ≤ SLACK) (m : Manner) (may : m.may ≡ tru
   rings : (a : Alarm) → RingFits a d before → After (Acts (Ring a))
   rings Quiet f =
       let due = rung Quiet f.at f.armed_is in let le = inv.quiet f.at f.armed_is in
-      kept _ (record { quiet = λ at e. no-send e; window = λ at e. e; search = λ at e. e; elect = λ at e. e }) (held before) refl refl true false false false (λ e. omega (arith, due, le)) not-done not-done not-done not-done
+      kept _ (record { quiet = λ at e. no-send e; window = λ at e. e; search = λ at e. e; elect = λ at e. e }) (held before) refl refl true false false false
+      (λ e. omega (arith, due, le)) not-done not-done not-done not-done
   rings Window f =
       let due = rung Window f.at f.armed_is in let le = inv.window f.at f.armed_is in
-      kept _ (record { quiet = λ at e. e; window = λ at e. no-send e; search = λ at e. e; elect = λ at e. e }) (held before) refl refl true false false false (λ e. omega (arith, due, le)) not-done not-done not-done not-done
+      kept _ (record { quiet = λ at e. e; window = λ at e. no-send e; search = λ at e. e; elect = λ at e. e }) (held before) refl refl true false false false
+      (λ e. omega (arith, due, le)) not-done not-done not-done not-done
   rings Search f =
       let due = rung Search f.at f.armed_is in let le = inv.search f.at f.armed_is in
-      kept _ (record { quiet = λ at e. e; window = λ at e. e; search = λ at e. no-send e; elect = λ at e. e }) (held before) refl refl false true false false not-done (λ e. omega (arith, due, le)) not-done not-done not-done
+      kept _ (record { quiet = λ at e. e; window = λ at e. e; search = λ at e. no-send e; elect = λ at e. e }) (held before) refl refl false true false false
+      not-done (λ e. omega (arith, due, le)) not-done not-done not-done
   rings Elect f =
       let due = rung Elect f.at f.armed_is in let now = f.due in
-      kept _ (record { quiet = λ at e. e; window = λ at e. e; search = λ at e. e; elect = λ at e. no-send e }) (held before) refl refl false false true false not-done not-done
+      kept _ (record { quiet = λ at e. e; window = λ at e. e; search = λ at e. e; elect = λ at e. no-send e }) (held before) refl refl false false true false
+      not-done not-done
       (λ e. elim (inv.elect f.at f.armed_is) [
         | inl le ↦ inl (omega (arith, due, le))
         | inr both ↦ inr (past-quit (held before).quit f.at both.1 now)
@@ -458,7 +503,7 @@ module _ (late : ℕ) (slack : late ≤ SLACK) (m : Manner) (may : m.may ≡ tru
   -- an act
   acts : (a : Act) → AfterElect m before (Acts a) → AlarmFits (Acts a) d before → (Heard before ⊎ Unheard (Acts a) d before) → After (Acts a)
   acts Boot after f c = booted
-  acts (Took from t) after f c = took from t
+  acts (Took from t) after f c = took (stirs_in t)
   acts (Become r) after f c = becomes r after c
   acts (Arm a at) after f c = arms a at after f c
   acts (Ring a) after f c = rings a f
@@ -469,7 +514,8 @@ module _ (late : ℕ) (slack : late ≤ SLACK) (m : Manner) (may : m.may ≡ tru
   acts _ after f c = plain-act _ (record { quiet = λ to e. e; window = λ to e. e; search = λ to e. e; elect = λ to e. e }) (held before) refl refl
 
 -- where a step begins
-begun : (late : ℕ) (d : Did) (before : List Seen) → tick_of (plain before) ≤ d.tick → Waiting late before → Waits late (news before) d.tick (held before) (armed before) false false false false false
+begun : (late : ℕ) (d : Did) (before : List Seen) → tick_of (plain before) ≤ d.tick → Waiting late before →
+    Waits late (news before) d.tick (held before) (armed before) false false false false false
 begun late d before order inv = record {
   news_le = (let le = inv.news_le in omega (arith, le, order));
   heard = λ e. absurd (true≢false (sym e));
@@ -488,7 +534,8 @@ begun late d before order inv = record {
 }
 
 -- after an act on another port
-aside : (late : ℕ) (d : Did) (before : List Seen) → d.tick ≡ tick_of (plain before) → Waiting late before → Waits late (news before) d.tick (held before) (armed before) (is_some (taken before)) false false false false
+aside : (late : ℕ) (d : Did) (before : List Seen) → d.tick ≡ tick_of (plain before) → Waiting late before →
+    Waits late (news before) d.tick (held before) (armed before) (stirred (taken before)) false false false false
 aside late d before level inv = record {
   news_le = (let le = inv.news_le in omega (arith, le, level));
   heard = λ e. inv.heard e ∙ sym level;
@@ -526,10 +573,12 @@ unbegun late = record {
 }
 
 module _ (late : ℕ) (slack : late ≤ SLACK) (m : Manner) (may : m.may ≡ true) where
-  one-more : (d : Did) (before : List Seen) → PacedAt late (Here d) before → Paced late before → AfterElect m before d.deed → AlarmFits d.deed d before → (Heard before ⊎ Unheard d.deed d before) → Waiting late before → Waiting late (Here d ∷ before)
+  one-more : (d : Did) (before : List Seen) → PacedAt late (Here d) before → Paced late before → AfterElect m before d.deed → AlarmFits d.deed d before →
+      (Heard before ⊎ Unheard d.deed d before) → Waiting late before → Waiting late (Here d ∷ before)
   one-more d before p paced after fits cause inv = by_deed d.deed refl after fits cause where
     by_deed : (deed : Deed) → d.deed ≡ deed → AfterElect m before deed → AlarmFits deed d before → (Heard before ⊎ Unheard deed d before) →
-        Waits late (if is_news deed then d.tick else news before) d.tick (held_after deed d.tick (held before)) (armed_after deed (armed before)) (is_some (taken_after deed (taken before))) (moves_by deed) (waits_by deed) (elects_by deed)
+        Waits late (if is_news deed then d.tick else news before) d.tick (held_after deed d.tick (held before)) (armed_after deed (armed before))
+        (stirred (taken_after deed (taken before))) (moves_by deed) (waits_by deed) (elects_by deed)
         (stands_by deed || (if backs_by deed then stands_now before else false))
     by_deed Begins is after fits cause = begun late d before p.order inv
     by_deed (Acts a) is after fits cause = acts late slack m may d before (p.level a is) paced inv a after fits cause
@@ -540,7 +589,8 @@ module _ (late : ℕ) (slack : late ≤ SLACK) (m : Manner) (may : m.may ≡ tru
   waiting (Elsewhere d ∷ before) f c s p = aside late d before (p.0.aside d refl) (waiting before f.1 c s p.1)
 
   -- so an idle port doesn't wait for long
-  pub idle_waits : (seen : List Seen) (x : ℕ) → Wakes m seen → StandsOn m seen → Paced late seen → Watched late x seen → is_idle (role seen) ≡ true → x ≤ news seen + patience late
+  pub idle_waits : (seen : List Seen) (x : ℕ) → Wakes m seen → StandsOn m seen → Paced late seen → Watched late x seen → is_idle (role seen) ≡ true →
+      x ≤ news seen + patience late
   idle_waits seen x w s p watched idle = by_role (role seen) refl idle where
     inv : Waiting late seen
     inv = waiting seen w.acts w.causes s p

@@ -1,13 +1,18 @@
 -- A port that is looked at in time does what it has armed an alarm for in time.
-use Rattle.std.proofs.Common.{sym, ap, subst, arith, true≢false, ◌∙◌, ◌≡◌, ◌≤◌, ◌⊎◌, ℕ, ◌+◌, ◌||◌, Bool, true, false, if◌then◌else◌, List, [], ◌∷◌, Option, None, Some, inl, inr, is_some, refl}
+use Rattle.std.proofs.Common.{sym, ap, subst, arith, true≢false, ◌∙◌, ◌≡◌, ◌≤◌, ◌⊎◌, ℕ, ◌+◌, ◌||◌, Bool, true, false, if◌then◌else◌, List, [], ◌∷◌, Option}
+use Rattle.std.proofs.Common.{None, Some, inl, inr, is_some, refl}
 use Rattle.std.proofs.Math.Nat.{mod-lt}
-use Rattle.tsp_rules.specs.Values.{Boot, Become, Arm, Ring, Late, Abandon, Alarm, Quiet, Search, Elect, Window, Probe, CloseAlarm, ResolveAlarm, Round, WINDOW, ELECT_MIN, ELECT_SPREAD}
-use Rattle.tsp_base.specs.Words.{Acts, did_of, Deadlines, Deed, Did, Line, Seen, Here, Elsewhere, armed, armed_after, deadline, none_armed, of, plain, started, started_after, view, with_deadline, word}
+use Rattle.tsp_rules.specs.Values.{Boot, Become, Arm, Ring, Late, Abandon, Alarm, Quiet, Search, Elect, Window, Probe, CloseAlarm, ResolveAlarm, Round, WINDOW}
+use Rattle.tsp_rules.specs.Values.{ELECT_MIN, ELECT_SPREAD}
+use Rattle.tsp_base.specs.Words.{Acts, did_of, Deadlines, Deed, Did, Line, Seen, Here, Elsewhere, armed, armed_after, deadline, none_armed, of, plain, started}
+use Rattle.tsp_base.specs.Words.{started_after, view, with_deadline, word}
 use Rattle.tsp_promises.specs.{Fits.node_of, Setting.Setting}
 use Rattle.tsp_promises.proofs.{EverywhereLemmas.Everywhere-at, EverywhereLemmas.Everywhere-from}
 use Rattle.tsp_progress.specs.AlarmsFit.{AlarmFits, AlarmsFit, ArmFits, Manner}
-use Rattle.tsp_progress.specs.InTime.{AlarmEnds, AllInTime, ArmedWithin, CandidatureEnds, EndsInTime, InTime, LooseSeeks, RoundCloses, StartEnds, is_alarm, last_arm, last_arm_after, longest}
-use Rattle.tsp_progress.specs.{Wakes.AllWake, Wakes.Wakes, Wakes.Woken, Wakes.WokenAt, Watched.Attended, Watched.AttendedAt, Watched.BeginsAt, Watched.Told, Watched.Watched}
+use Rattle.tsp_progress.specs.InTime.{AlarmEnds, AllInTime, ArmedWithin, CandidatureEnds, EndsInTime, InTime, LooseSeeks, RoundCloses, StartEnds, is_alarm}
+use Rattle.tsp_progress.specs.InTime.{last_arm, last_arm_after, longest}
+use Rattle.tsp_progress.specs.{Wakes.AllWake, Wakes.Wakes, Wakes.Woken, Wakes.WokenAt, Watched.Attended, Watched.AttendedAt, Watched.BeginsAt, Watched.Told}
+use Rattle.tsp_progress.specs.{Watched.Watched}
 
 -- another deadline for one alarm
 
@@ -68,13 +73,15 @@ pub record PlaceOf (a : Alarm) (at : ℕ) (place : List Seen) : Type 0 where
 
 -- what is armed for this tick was armed at its last arming
 module _ (a : Alarm) (at : ℕ) (d : Did) (before : List Seen) (older : deadline (armed before) a ≡ Some at → PlaceOf a at (last_arm a before)) where
-  by-arm : (b : Alarm) (to : ℕ) → ArmFits b d before to → deadline (with_deadline (armed before) b (Some to)) a ≡ Some at → (same : Bool) → is_alarm a b ≡ same →
+  by-arm : (b : Alarm) (to : ℕ) → ArmFits b d before to → deadline (with_deadline (armed before) b (Some to)) a ≡ Some at → (same : Bool) → is_alarm a b ≡
+      same →
       PlaceOf a at (if same then Here d ∷ before else last_arm a before)
   by-arm b to f e true s = record {
     arm = d;
     idle = before;
     last = refl;
-    fits = subst (λ c. ArmFits c d before at) (sym (same_alarm a b s)) (subst (λ n. ArmFits b d before n) (value_of (sym (with_same (armed before) a b (Some to) s) ∙ e)) f);
+    fits = subst (λ c. ArmFits c d before at) (sym (same_alarm a b s)) (subst (λ n. ArmFits b d before n)
+        (value_of (sym (with_same (armed before) a b (Some to) s) ∙ e)) f);
   }
   by-arm b to f e false s = older (sym (with_other (armed before) a b (Some to) s) ∙ e)
 
@@ -82,11 +89,13 @@ module _ (a : Alarm) (at : ℕ) (d : Did) (before : List Seen) (older : deadline
   by-off b e true s = none_some (with_same (armed before) a b None s) e
   by-off b e false s = older (sym (with_other (armed before) a b None s) ∙ e)
 
-  by-abandon : (same : Bool) → is_alarm a CloseAlarm ≡ same → deadline (with_deadline (with_deadline (armed before) Probe None) CloseAlarm None) a ≡ Some at → PlaceOf a at (last_arm a before)
+  by-abandon : (same : Bool) → is_alarm a CloseAlarm ≡ same → deadline (with_deadline (with_deadline (armed before) Probe None) CloseAlarm None) a ≡ Some at →
+      PlaceOf a at (last_arm a before)
   by-abandon true s e = none_some (with_same (with_deadline (armed before) Probe None) a CloseAlarm None s) e
   by-abandon false s e = by-off Probe (sym (with_other (with_deadline (armed before) Probe None) a CloseAlarm None s) ∙ e) (is_alarm a Probe) refl
 
-  by-deed : (deed : Deed) → AlarmFits deed d before → deadline (armed_after deed (armed before)) a ≡ Some at → PlaceOf a at (last_arm_after a deed (Here d ∷ before) (last_arm a before))
+  by-deed : (deed : Deed) → AlarmFits deed d before → deadline (armed_after deed (armed before)) a ≡ Some at →
+      PlaceOf a at (last_arm_after a deed (Here d ∷ before) (last_arm a before))
   by-deed (Acts Boot) f e = none_some (none_is a) e
   by-deed (Acts (Become r)) f e = none_some (none_is a) e
   by-deed (Acts (Arm b to)) f e = by-arm b to f e (is_alarm a b) refl
@@ -105,7 +114,8 @@ started-is : (seen : List Seen) → last_arm CloseAlarm seen ≡ started seen
 started-is [] = refl
 started-is (Elsewhere d ∷ before) = started-is before
 started-is (Here d ∷ before) = by_deed d.deed (started-is before) where
-  by_deed : (deed : Deed) → last_arm CloseAlarm before ≡ started before → last_arm_after CloseAlarm deed (Here d ∷ before) (last_arm CloseAlarm before) ≡ started_after deed (Here d ∷ before) (started before)
+  by_deed : (deed : Deed) → last_arm CloseAlarm before ≡ started before → last_arm_after CloseAlarm deed (Here d ∷ before) (last_arm CloseAlarm before) ≡
+      started_after deed (Here d ∷ before) (started before)
   by_deed (Acts Boot) e = refl
   by_deed (Acts (Arm CloseAlarm at)) e = refl
   by_deed (Acts (Arm _ at)) e = e
@@ -114,8 +124,8 @@ started-is (Here d ∷ before) = by_deed d.deed (started-is before) where
 -- how far ahead
 ahead-most : (a : Alarm) (arm : Did) (idle : List Seen) (at : ℕ) → ArmFits a arm idle at → at ≤ arm.tick + longest a
 ahead-most Elect arm idle at f = let less = mod-lt (word (plain idle)) {m = ELECT_SPREAD} (omega arith) in omega (arith, f, less)
-ahead-most Round arm idle at (inl f) = omega (arith, f)
-ahead-most Round arm idle at (inr f) = omega (arith, f)
+ahead-most Round arm idle at (inl f, by) = omega (arith, f)
+ahead-most Round arm idle at (inr f, by) = omega (arith, f)
 ahead-most Quiet arm idle at f = omega (arith, f)
 ahead-most Search arm idle at f = omega (arith, f)
 ahead-most Window arm idle at f = omega (arith, f)
@@ -150,11 +160,17 @@ module _ (m : Manner) (late x : ℕ) (seen : List Seen) (wakes : Wakes m seen) (
       record { start = w.start; idle = w.idle; stood_is = w.stood_is; since = omega (arith, due) }
 
   round-closes : RoundCloses late x seen
-  round-closes going = let a = some-ends CloseAlarm going in record { start = a.arm; idle = a.idle; started_is = sym (started-is seen) ∙ a.last; since = a.since }
+  round-closes going = let a = some-ends CloseAlarm going in record {
+    start = a.arm;
+    idle = a.idle;
+    started_is = sym (started-is seen) ∙ a.last;
+    since = a.since;
+  }
 
   loose-seeks : LooseSeeks late x seen
   loose-seeks r = by_case (is_some (armed seen).search) refl (wakes.loose r) where
-    by_case : (b : Bool) → is_some (armed seen).search ≡ b → (b || is_some (armed seen).elect) ≡ true → ArmedWithin Search (WINDOW + late) x seen ⊎ ArmedWithin Elect (ELECT_MIN + ELECT_SPREAD + late) x seen
+    by_case : (b : Bool) → is_some (armed seen).search ≡ b → (b || is_some (armed seen).elect) ≡ true → ArmedWithin Search (WINDOW + late) x seen ⊎
+        ArmedWithin Elect (ELECT_MIN + ELECT_SPREAD + late) x seen
     by_case true e some = inl (some-ends Search e)
     by_case false e some = inr (some-ends Elect some)
 
@@ -176,7 +192,8 @@ attended_in_time m late world w a = Everywhere-from (BeginsAt (InTime late)) wor
     in-time (m (node_of l)) late l.did.tick (view q (of (node_of l) before)) (Everywhere-at (WokenAt m) l before world w within begins q)
     (Everywhere-at (AttendedAt late) l before world a within begins q))
 
-pub told_in_time : (m : ℕ → Manner) (late : ℕ) (setting : Setting) (t n : ℕ) (world : List Line) → AllWake m world → Told late setting t n world → EndsInTime late setting t n world
+pub told_in_time : (m : ℕ → Manner) (late : ℕ) (setting : Setting) (t n : ℕ) (world : List Line) → AllWake m world → Told late setting t n world →
+    EndsInTime late setting t n world
 told_in_time m late setting t n world w told q = in-time (m n) late (setting.tick n t) (view q (of n world)) (w n q) (told q)
 
 -- the tick of the newest deed at a place

@@ -9,6 +9,7 @@ pub mod NodeWakes
 pub mod PaceProof
 pub mod PortWakes
 pub mod ProgressProof
+pub mod RoundsProof
 pub mod RunWakes
 pub mod SendsEndProof
 pub mod StandsProof

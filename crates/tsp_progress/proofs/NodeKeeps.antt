@@ -1,9 +1,14 @@
 -- What each row of a port keeps, each step of a node keeps over all its ports.
 use Rattle.std.proofs.Common.{sym, subst, append-nil, ◌≡◌, ℕ, ◌==◌, ◌||◌, Bool, true, false, if◌then◌else◌, List, [], ◌∷◌, ◌++◌, length, refl}
-use Rattle.tsp_rules.specs.Values.{Act, Boot, Took, Abandon, Alarm, Round, Probe, CloseAlarm, Message, Stamp, Taken, Good, Bad, Kind, LoopKind, Place, Port, ALL}
-use Rattle.tsp_base.specs.Words.{Acts, Did, Here, Elsewhere, Line, MessageValue, Past, Row, Seen, Step, Leads, is_going, is_shared, joined, line_of, placed, puts, seen_as, view}
+use Rattle.tsp_rules.specs.Values.{Act, Boot, Took, Abandon, Alarm, Round, Probe, CloseAlarm, Message, Stamp, Taken, Good, Bad, Kind, LoopKind, Place, Port}
+use Rattle.tsp_rules.specs.Values.{ALL}
+use Rattle.tsp_base.specs.Words.{Acts, Did, Here, Elsewhere, Line, MessageValue, Past, Row, Seen, Step, Leads, is_going, is_shared, joined, line_of, placed}
+use Rattle.tsp_base.specs.Words.{puts, seen_as, view}
 use Rattle.tsp_base.proofs.{LeadsLemmas.Leads_to, ViewPlaces.port-same}
-use Rattle.tsp_rules.specs.GateRows.{GotOn, NodeGiven, NodeTurn, all_ports, alarm_on, alarms_on, answers_all, begins_round_on, closes_on, each_on, ends_probes, forwards, hears_on, heeds_loop, input_all, is_awake_on, judge, judges, leads_clock, loops_after, loosens_master, other_ports, probes_on, reposts, reposts_on, sends_loops, stirred_ports, steers, in_charge, takes_kind, takes_loop, takes_loop_step, takes_message, takes_on, turns_on, waits}
+use Rattle.tsp_rules.specs.GateRows.{GotOn, NodeGiven, NodeTurn, all_ports, alarm_on, alarms_on, answers_all, begins_round_on, closes_on, each_on, ends_probes}
+use Rattle.tsp_rules.specs.GateRows.{forwards, hears_on, heeds_loop, input_all, is_awake_on, judge, judges, leads_clock, loops_after, loosens_master}
+use Rattle.tsp_rules.specs.GateRows.{other_ports, probes_on, reposts, reposts_on, sends_loops, stirred_ports, steers, in_charge, takes_kind, takes_loop}
+use Rattle.tsp_rules.specs.GateRows.{takes_loop_step, takes_message, takes_on, turns_on, waits}
 use Rattle.tsp_rules.specs.GateRows.{LoopStep, PassOver, GiveUp, Forward}
 use Rattle.tsp_rules.specs.NodeRows.{NodePast, NodeRow, abandons_on, for_ports, nothing_at_all, on, on_port, reading_all, spread, stirring}
 use Rattle.tsp_rules.specs.{Answers.rings, Answers.takes, RoundRows.corrects, SendRows.due_sends}
@@ -26,19 +31,25 @@ abbrev pub Each : (Manner → ℕ → List Seen → Type 0) → ℕ → NodePast
 Each P x past = (r : Port) → P (node_manner past) x (view r past.lines)
 
 module _ (P : Manner → ℕ → List Seen → Type 0) (family : Family P) where
-  one-beside : (m : Manner) (q r : Port) → (q.0 == r.0) ≡ false → (step : Step) (x : ℕ) (a : Act) (seen : List Seen) → P m x seen → P m x (seen_as ((q.0 == r.0) || is_shared (Acts a)) (line_of step x q (Acts a)).did ∷ seen)
-  one-beside m q r n step x Boot seen h = subst (λ b. P m x (seen_as (b || true) (line_of step x q (Acts Boot)).did ∷ seen)) (sym n) (family.boots m step x seen h)
-  one-beside m q r n step x a seen h = subst (λ b. P m x (seen_as (b || false) (line_of step x q (Acts a)).did ∷ seen)) (sym n) (family.aside m (line_of step x q (Acts a)).did x seen h)
+  one-beside : (m : Manner) (q r : Port) → (q.0 == r.0) ≡ false → (step : Step) (x : ℕ) (a : Act) (seen : List Seen) → P m x seen →
+      P m x (seen_as ((q.0 == r.0) || is_shared (Acts a)) (line_of step x q (Acts a)).did ∷ seen)
+  one-beside m q r n step x Boot seen h = subst (λ b. P m x (seen_as (b || true) (line_of step x q (Acts Boot)).did ∷ seen)) (sym n)
+      (family.boots m step x seen h)
+  one-beside m q r n step x a seen h = subst (λ b. P m x (seen_as (b || false) (line_of step x q (Acts a)).did ∷ seen)) (sym n)
+      (family.aside m (line_of step x q (Acts a)).did x seen h)
 
-  pub beside : (m : Manner) (q r : Port) → (q.0 == r.0) ≡ false → (step : Step) (x : ℕ) (acts : List Act) (lines : List Line) → P m x (view r lines) → P m x (view r (joined step x (placed q acts) lines))
+  pub beside : (m : Manner) (q r : Port) → (q.0 == r.0) ≡ false → (step : Step) (x : ℕ) (acts : List Act) (lines : List Line) → P m x (view r lines) →
+      P m x (view r (joined step x (placed q acts) lines))
   beside m q r n step x [] lines h = h
   beside m q r n step x (a ∷ rest) lines h = beside m q r n step x rest (line_of step x q (Acts a) ∷ lines) (one-beside m q r n step x a (view r lines) h)
 
   -- a port's row
-  pub on_each : (q : Port) (row : Row) → Leads (λ x past. P (manner past) x past.seen) row (λ x past. P (manner past) x past.seen) → LeadsAll (Each P) (on q row) (Each P)
+  pub on_each : (q : Port) (row : Row) → Leads (λ x past. P (manner past) x past.seen) row (λ x past. P (manner past) x past.seen) →
+      LeadsAll (Each P) (on q row) (Each P)
   unfolding on
   on_each q row d = record { run = λ x past all r. by_case x past all r (q.0 == r.0) refl } where
-    by_case : (x : ℕ) (past : NodePast) → Each P x past → (r : Port) (b : Bool) → (q.0 == r.0) ≡ b → P (node_manner past) x (on_port r (spread x past (placed q (row x (on_port q past))))).seen
+    by_case : (x : ℕ) (past : NodePast) → Each P x past → (r : Port) (b : Bool) → (q.0 == r.0) ≡ b →
+        P (node_manner past) x (on_port r (spread x past (placed q (row x (on_port q past))))).seen
     by_case x past all r true e = subst (λ p. P (node_manner past) x (on_port p (spread x past (placed q (row x (on_port q past))))).seen) (port-same q r e)
         (subst (λ (z : Past). P (node_manner past) x z.seen) (sym (on_own q x past (row x (on_port q past)))) (d.run x (on_port q past) (all q)))
     by_case x past all r false e = beside (node_manner past) q r e past.step x (row x (on_port q past)) past.lines (all r)
@@ -59,7 +70,7 @@ pub record Keeps (P H : Manner → ℕ → List Seen → Type 0) : Type 0 where
   pub sends : Leads (At P) due_sends (At P)
   pub rings : (own wait : Bool) (a : Alarm) → Leads (At P) (rings own wait a) (At P)
   pub takes : (steer charge : Bool) (from : Place) (t : Taken) → Leads (At P) (takes steer charge from t) (At P)
-  pub took : (from : Place) (t : Taken) → Leads (At P) (puts (Took from t)) (At H)
+  pub took : (from : Place) (m : MessageValue) → m.kind ≡ LoopKind → Leads (At P) (puts (Took from (Good (Message m)))) (At H)
   pub gives_up : Leads (At H) loosens_master (At P)
   pub abandons : Leads (At P) (puts Abandon) (At P)
   pub loops : (q : Port) → Leads (At P) (sends_loops q) (At P)
@@ -82,12 +93,14 @@ module _ (P H : Manner → ℕ → List Seen → Type 0) (k : Keeps P H) where
     by_case x past all false = all
 
   -- a port's row, and what it stirs
-  stirring_keep : (q : Port) (ports : NodePast → List Port) (row : Row) → Leads (At P) row (At P) → LeadsAll (Each P) (λ x past. stirring q (ports past) row x past) (Each P)
+  stirring_keep : (q : Port) (ports : NodePast → List Port) (row : Row) → Leads (At P) row (At P) →
+      LeadsAll (Each P) (λ x past. stirring q (ports past) row x past) (Each P)
   unfolding stirring
   stirring_keep q ports row d = record { run = λ x past all. by_case x past ((on_keep q row d).run x past all) (corrects (row x (on_port q past))) } where
     by_case : (x : ℕ) (past : NodePast) → Each P x (spread x past (on q row x past)) → (b : Bool) →
         Each P x (spread x past (on q row x past ++ (if b then for_ports abandons_on (ports past) x (spread x past (on q row x past)) else [])))
-    by_case x past first true = subst (λ z. Each P x z) (sym (spread_append x past (on q row x past) (for_ports abandons_on (ports past) x (spread x past (on q row x past)))))
+    by_case x past first true = subst (λ z. Each P x z) (sym (spread_append x past (on q row x past)
+        (for_ports abandons_on (ports past) x (spread x past (on q row x past)))))
         ((list_each P k.family abandons_on (ports past) abandons_keep).run x (spread x past (on q row x past)) first)
     by_case x past first false = subst (λ acts. Each P x (spread x past acts)) (sym (append-nil (on q row x past))) first
 
@@ -148,9 +161,12 @@ module _ (P H : Manner → ℕ → List Seen → Type 0) (k : Keeps P H) where
   unfolding takes_loop_step forwards nothing_at_all on
   loop_keep q PassOver = record { run = λ x past h. h.0 }
   loop_keep q GiveUp = record { run = λ x past h r. by_case x past h r (q.0 == r.0) refl } where
-    by_case : (x : ℕ) (past : NodePast) → TookOn q x past → (r : Port) (b : Bool) → (q.0 == r.0) ≡ b → P (node_manner past) x (on_port r (spread x past (placed q (loosens_master x (on_port q past))))).seen
-    by_case x past h r true e = subst (λ p. P (node_manner past) x (on_port p (spread x past (placed q (loosens_master x (on_port q past))))).seen) (port-same q r e)
-        (subst (λ (z : Past). P (node_manner past) x z.seen) (sym (on_own q x past (loosens_master x (on_port q past)))) (k.gives_up.run x (on_port q past) h.1))
+    by_case : (x : ℕ) (past : NodePast) → TookOn q x past → (r : Port) (b : Bool) → (q.0 == r.0) ≡ b →
+        P (node_manner past) x (on_port r (spread x past (placed q (loosens_master x (on_port q past))))).seen
+    by_case x past h r true e = subst (λ p. P (node_manner past) x (on_port p (spread x past (placed q (loosens_master x (on_port q past))))).seen)
+        (port-same q r e)
+        (subst (λ (z : Past). P (node_manner past) x z.seen) (sym (on_own q x past (loosens_master x (on_port q past))))
+        (k.gives_up.run x (on_port q past) h.1))
     by_case x past h r false e = beside P k.family (node_manner past) q r e past.step x (loosens_master x (on_port q past)) past.lines (h.0 r)
   loop_keep q (Forward m) = record { run = λ x past h. (list_each P k.family (reposts_on m) (other_ports q past) (reposts_keep m)).run x past h.0 }
 
@@ -159,19 +175,22 @@ module _ (P H : Manner → ℕ → List Seen → Type 0) (k : Keeps P H) where
   heeds_keep q m true = record { run = λ x past h. (loop_keep q (judge past.name (length past.ports) q m)).run x past h }
   heeds_keep q m false = record { run = λ x past h. h.0 }
 
-  took_keep : (q : Port) (from : Place) (t : Taken) → LeadsAll (Each P) (on q (puts (Took from t))) (TookOn q)
+  took_keep : (q : Port) (from : Place) (m : MessageValue) → m.kind ≡ LoopKind → LeadsAll (Each P) (on q (puts (Took from (Good (Message m))))) (TookOn q)
   unfolding on
-  took_keep q from t = record {
-    run = λ x past all. (
-      (on_keep q (puts (Took from t)) (Leads_to k.weaken (k.took from t))).run x past all,
-      subst (λ (z : Past). H (node_manner past) x z.seen) (sym (on_own q x past (puts (Took from t) x (on_port q past)))) ((k.took from t).run x (on_port q past) (all q)),
-    );
-  }
+  took_keep q from m is =
+      let t = Good (Message m) in
+      record {
+        run = λ x past all. (
+          (on_keep q (puts (Took from t)) (Leads_to k.weaken (k.took from m is))).run x past all,
+          subst (λ (z : Past). H (node_manner past) x z.seen) (sym (on_own q x past (puts (Took from t) x (on_port q past))))
+              ((k.took from m is).run x (on_port q past) (all q)),
+        );
+      }
 
-  takes_loop_keep : (q : Port) (from : Place) (m : MessageValue) → LeadsAll (Each P) (takes_loop q from m) (Each P)
+  takes_loop_keep : (q : Port) (from : Place) (m : MessageValue) → m.kind ≡ LoopKind → LeadsAll (Each P) (takes_loop q from m) (Each P)
   unfolding takes_loop
-  takes_loop_keep q from m = All_after (on q (puts (Took from (Good (Message m))))) (reading_all (hears_on from q) (heeds_loop q m))
-      (took_keep q from (Good (Message m))) (All_reading (hears_on from q) (heeds_loop q m) (heeds_keep q m))
+  takes_loop_keep q from m is = All_after (on q (puts (Took from (Good (Message m))))) (reading_all (hears_on from q) (heeds_loop q m))
+      (took_keep q from m is) (All_reading (hears_on from q) (heeds_loop q m) (heeds_keep q m))
 
   takes_message_keep : (q : Port) (from : Place) (m : MessageValue) → LeadsAll (Each P) (takes_message q from m) (Each P)
   unfolding takes_message
@@ -181,14 +200,14 @@ module _ (P H : Manner → ℕ → List Seen → Type 0) (k : Keeps P H) where
         (stirring_keep q (stirred_ports q m.kind) row (k.takes (steers q x past) (in_charge q x past) from (Good (Message m)))).run x past all;
   }
 
-  takes_kind_keep : (q : Port) (from : Place) (m : MessageValue) (k : Kind) → LeadsAll (Each P) (takes_kind q from m k) (Each P)
+  takes_kind_keep : (q : Port) (from : Place) (m : MessageValue) (k : Kind) → m.kind ≡ k → LeadsAll (Each P) (takes_kind q from m k) (Each P)
   unfolding takes_kind
-  takes_kind_keep q from m LoopKind = takes_loop_keep q from m
-  takes_kind_keep q from m _ = takes_message_keep q from m
+  takes_kind_keep q from m LoopKind is = takes_loop_keep q from m is
+  takes_kind_keep q from m _ is = takes_message_keep q from m
 
   takes_keep : (q : Port) (from : Place) (t : Taken) → LeadsAll (Each P) (takes_on q from t) (Each P)
   unfolding takes_on
-  takes_keep q from (Good (Message m)) = takes_kind_keep q from m m.kind
+  takes_keep q from (Good (Message m)) = takes_kind_keep q from m m.kind refl
   takes_keep q from (Good (Stamp s)) = on_keep q (takes true true from (Good (Stamp s))) (k.takes true true from (Good (Stamp s)))
   takes_keep q from (Bad fault) = on_keep q (takes true true from (Bad fault)) (k.takes true true from (Bad fault))
 
@@ -200,4 +219,5 @@ module _ (P H : Manner → ℕ → List Seen → Type 0) (k : Keeps P H) where
   -- what a node answers
   pub answers_keep : (g : NodeGiven) → LeadsAll (Each P) (answers_all g) (Each P)
   unfolding answers_all
-  answers_keep g = All_after (reading_all all_ports (for_ports turns_on)) (input_all g) (All_reading all_ports (for_ports turns_on) (λ ports. list_each P k.family turns_on ports turns_keep)) (input_keep g)
+  answers_keep g = All_after (reading_all all_ports (for_ports turns_on)) (input_all g)
+      (All_reading all_ports (for_ports turns_on) (λ ports. list_each P k.family turns_on ports turns_keep)) (input_keep g)

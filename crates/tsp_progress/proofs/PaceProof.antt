@@ -1,12 +1,15 @@
 -- Each node of a history that is attended goes at its pace.
-use Rattle.std.proofs.Common.{sym, ap, subst, true≢false, ◌∙◌, ◌≡◌, ◌≤◌, ℕ, ◌+◌, ◌==◌, ◌||◌, eqb-true, Bool, true, false, if◌then◌else◌, List, [], ◌∷◌, Some, refl}
+use Rattle.std.proofs.Common.{sym, ap, subst, true≢false, ◌∙◌, ◌≡◌, ◌≤◌, ℕ, ◌+◌, ◌==◌, ◌||◌, eqb-true, Bool, true, false, if◌then◌else◌, List, [], ◌∷◌, Some}
+use Rattle.std.proofs.Common.{refl}
 use Rattle.std.proofs.lemmas.Bool.{or_parts}
 use Rattle.tsp_rules.specs.Values.{Act, Alarm, Port, SLACK}
 use Rattle.tsp_base.specs.Words.{Acts, Begins, Deed, Line, Seen, armed, deadline, dids, is_shared, of, plain, seen_as, tick_of, view}
 use Rattle.tsp_base.proofs.Views.{plain_view}
 use Rattle.tsp_promises.specs.{Fits.Fits, Fits.node_of, Setting.Setting}
-use Rattle.tsp_promises.proofs.{EverywhereLemmas.Everywhere-at, EverywhereLemmas.Everywhere-from, EverywhereLemmas.Everywhere-within, OwnFitsProof.own_fits, OwnFitsProof.own_tick}
-use Rattle.tsp_progress.specs.{AlarmsFit.AlarmsFit, AlarmsFit.Manner, AloneStands.AloneStands, AloneStands.AloneStandsAt, Wakes.Woken, Wakes.WokenAt, Watched.Attended, Watched.AttendedAt}
+use Rattle.tsp_promises.proofs.{EverywhereLemmas.Everywhere-at, EverywhereLemmas.Everywhere-from, EverywhereLemmas.Everywhere-within, OwnFitsProof.own_fits}
+use Rattle.tsp_promises.proofs.{OwnFitsProof.own_tick}
+use Rattle.tsp_progress.specs.{AlarmsFit.AlarmsFit, AlarmsFit.Manner, AloneStands.AloneStands, AloneStands.AloneStandsAt, Wakes.Woken, Wakes.WokenAt}
+use Rattle.tsp_progress.specs.{Watched.Attended, Watched.AttendedAt}
 use Rattle.tsp_progress.proofs.AloneProof.{Paced, PacedAt, idle_waits}
 use Rattle.tsp_progress.proofs.NeverLateProof.{fit_before, newest, on_time, same_tick}
 use Rattle.tsp_progress.proofs.StandsProof.{rising, stands_on}
@@ -34,26 +37,37 @@ module _ (setting : Setting) (late : ℕ) (l : Line) (before : List Line) (f : F
   level act is = same_tick setting l before act is f.0 f.1 ∙ sym tick-is
 
   -- a line as the port sees it
-  one : (own : Bool) → ((l.port.0 == q.0) || is_shared l.did.deed) ≡ own → ((a : Alarm) (at : ℕ) → deadline (armed (seen_as own l.did ∷ view q (of (node_of l) before))) a ≡ Some at → l.did.tick ≤ at + late) →
+  one : (own : Bool) → ((l.port.0 == q.0) || is_shared l.did.deed) ≡ own → ((a : Alarm) (at : ℕ) →
+      deadline (armed (seen_as own l.did ∷ view q (of (node_of l) before))) a ≡ Some at → l.did.tick ≤ at + late) →
       PacedAt late (seen_as own l.did) (view q (of (node_of l) before))
   one true e soon = record { order = order; level = level; aside = λ d is. let bad : ⊥ = cc in absurd bad; soon = soon }
-  one false e soon = record { order = order; level = level; aside = λ d is. let a = unshared l.did.deed (or_parts (l.port.0 == q.0) (is_shared l.did.deed) e).1 in level a.0 a.1; soon = soon }
+  one false e soon = record {
+    order = order;
+    level = level;
+    aside = λ d is. let a = unshared l.did.deed (or_parts (l.port.0 == q.0) (is_shared l.did.deed) e).1
+        in level a.0 a.1;
+    soon = soon;
+  }
 
-pub paced : (setting : Setting) (late : ℕ) (world : List Line) → Fits setting world → Attended late world → (m : Manner) (n : ℕ) (q : Port) → AlarmsFit m (view q (of n world)) → Paced late (view q (of n world))
+pub paced : (setting : Setting) (late : ℕ) (world : List Line) → Fits setting world → Attended late world → (m : Manner) (n : ℕ) (q : Port) →
+    AlarmsFit m (view q (of n world)) → Paced late (view q (of n world))
 paced setting late [] f a m n q fit = tt
-paced setting late (l ∷ before) f a m n q fit = by_node (node_of l == n) refl fit (on_time setting late (l ∷ before) f a m n q fit) (paced setting late before f.1 a.1 m n q) where
-  by_node : (b : Bool) → (node_of l == n) ≡ b → AlarmsFit m (view q (if b then l ∷ of n before else of n before)) →
-      ((alarm : Alarm) (at : ℕ) → deadline (armed (view q (if b then l ∷ of n before else of n before))) alarm ≡ Some at → newest (if b then l ∷ of n before else of n before) ≤ at + late) →
-      (AlarmsFit m (view q (of n before)) → Paced late (view q (of n before))) → Paced late (view q (if b then l ∷ of n before else of n before))
-  by_node false e fit soon older = older fit
-  by_node true e fit soon older =
-      let own = (l.port.0 == q.0) || is_shared l.did.deed in
-      let node : node_of l ≡ n = eqb-true (node_of l) n e in
-      let here : PacedAt late (seen_as own l.did) (view q (of (node_of l) before)) = one setting late l before f q own refl
-      (λ alarm at is. soon alarm at (subst (λ k. deadline (armed (seen_as own l.did ∷ view q (of k before))) alarm ≡ Some at) node is)) in
-      (subst (λ k. PacedAt late (seen_as own l.did) (view q (of k before))) node here, older (fit_before m own l.did (view q (of n before)) fit))
+paced setting late (l ∷ before) f a m n q fit = by_node (node_of l == n) refl fit (on_time setting late (l ∷ before) f a m n q fit)
+    (paced setting late before f.1 a.1 m n q) where
+      by_node : (b : Bool) → (node_of l == n) ≡ b → AlarmsFit m (view q (if b then l ∷ of n before else of n before)) →
+          ((alarm : Alarm) (at : ℕ) → deadline (armed (view q (if b then l ∷ of n before else of n before))) alarm ≡ Some at →
+          newest (if b then l ∷ of n before else of n before) ≤ at + late) →
+          (AlarmsFit m (view q (of n before)) → Paced late (view q (of n before))) → Paced late (view q (if b then l ∷ of n before else of n before))
+      by_node false e fit soon older = older fit
+      by_node true e fit soon older =
+          let own = (l.port.0 == q.0) || is_shared l.did.deed in
+          let node : node_of l ≡ n = eqb-true (node_of l) n e in
+          let here : PacedAt late (seen_as own l.did) (view q (of (node_of l) before)) = one setting late l before f q own refl
+          (λ alarm at is. soon alarm at (subst (λ k. deadline (armed (seen_as own l.did ∷ view q (of k before))) alarm ≡ Some at) node is)) in
+          (subst (λ k. PacedAt late (seen_as own l.did) (view q (of k before))) node here, older (fit_before m own l.did (view q (of n before)) fit))
 
-pub alone_stands : (m : ℕ → Manner) (setting : Setting) (late : ℕ) (world : List Line) → Fits setting world → Woken m world → Attended late world → late ≤ SLACK → AloneStands m late world
+pub alone_stands : (m : ℕ → Manner) (setting : Setting) (late : ℕ) (world : List Line) → Fits setting world → Woken m world → Attended late world →
+    late ≤ SLACK → AloneStands m late world
 alone_stands m setting late world f w a slack = Everywhere-from (AloneStandsAt m late) world (λ l before within begins may q idle.
     let n = node_of l in
     let whole = Everywhere-within _ (l ∷ before) world f within in

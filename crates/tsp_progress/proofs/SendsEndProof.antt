@@ -1,14 +1,20 @@
 -- A numbered send that is looked at in time ends soon.
-use Rattle.std.proofs.Common.{sym, ap, arith, subst, true≢false, ◌≡◌, ◌≤◌, ◌<◌, ℕ, ◌+◌, ◌==◌, ◌&&◌, if◌then◌else◌, Bool, true, false, List, [], ◌∷◌, Option, None, Some, refl}
-use Rattle.tsp_rules.specs.Values.{Boot, Post, Become, Acked, Gave, Message, Kind, AdjTime, Conflict, Election, QuitKind, SetDateReq, SetTime, PeerId, Peer, TRIES}
-use Rattle.tsp_base.specs.Words.{Acts, Deed, Did, Line, Seen, Here, Elsewhere, Sending, Setup, MessageValue, acting, is_numbered, message_of, did_of, of, open_to, posts_of, posts_of_after, sending_at, sending_of, view}
+use Rattle.std.proofs.Common.{sym, ap, arith, subst, true≢false, ◌≡◌, ◌≤◌, ◌<◌, ℕ, ◌+◌, ◌==◌, ◌&&◌, if◌then◌else◌, Bool, true, false, List, [], ◌∷◌, Option}
+use Rattle.std.proofs.Common.{None, Some, refl}
+use Rattle.tsp_rules.specs.Values.{Boot, Post, Become, Acked, Gave, Message, Kind, AdjTime, Conflict, Election, QuitKind, SetDateReq, SetTime, PeerId, Peer}
+use Rattle.tsp_rules.specs.Values.{TRIES}
+use Rattle.tsp_base.specs.Words.{Acts, Deed, Did, Line, Seen, Here, Elsewhere, Sending, Setup, MessageValue, acting, is_numbered, message_of, did_of, of}
+use Rattle.tsp_base.specs.Words.{open_to, posts_of, posts_of_after, sending_at, sending_of, view}
 use Rattle.tsp_rules.proofs.GuardFacts.{same_peer}
-use Rattle.tsp_promises.specs.{CorrectionFits.RepeatFits, DeedFits.DeedFits, DeedFits.MessageFits, Fits.Fits, Fits.node_of, PortFits.PortFits, Setting.Setting, Setting.setup_of}
+use Rattle.tsp_promises.specs.{CorrectionFits.RepeatFits, DeedFits.DeedFits, DeedFits.MessageFits, Fits.Fits, Fits.node_of, PortFits.PortFits, Setting.Setting}
+use Rattle.tsp_promises.specs.{Setting.setup_of}
 use Rattle.tsp_promises.proofs.{EverywhereLemmas.Everywhere-at, EverywhereLemmas.Everywhere-from, EverywhereLemmas.Everywhere-within, OwnFitsProof.port_fits}
-use Rattle.tsp_progress.specs.{SendsEnd.SendEnds, SendsEnd.SendsEnd, SendsEnd.SendsEnded, Watched.Attended, Watched.AttendedAt, Watched.BeginsAt, Watched.Told, Watched.Watched}
+use Rattle.tsp_progress.specs.{SendsEnd.SendEnds, SendsEnd.SendsEnd, SendsEnd.SendsEnded, Watched.Attended, Watched.AttendedAt, Watched.BeginsAt, Watched.Told}
+use Rattle.tsp_progress.specs.{Watched.Watched}
 
 -- a numbered post that begins no send repeats the open one
-repeats-of : (setup : Setup) (kind : Kind) (here : Did) (seen : List Seen) (p : PeerId) (m : MessageValue) → is_numbered kind ≡ true → MessageFits setup kind here seen p m → acting seen ≡ false → RepeatFits here seen p m
+repeats-of : (setup : Setup) (kind : Kind) (here : Did) (seen : List Seen) (p : PeerId) (m : MessageValue) → is_numbered kind ≡ true →
+    MessageFits setup kind here seen p m → acting seen ≡ false → RepeatFits here seen p m
 repeats-of setup AdjTime here seen p m n f = f.repeats
 repeats-of setup SetTime here seen p m n f = f.repeats
 repeats-of setup Election here seen p m n f = f.numbered.repeats
@@ -21,13 +27,15 @@ few-ended : (b : Bool) (n : ℕ) → n ≤ TRIES → (if b then 0 else n) ≤ TR
 few-ended true n few = omega arith
 few-ended false n few = few
 
-few-posted : (mine numbered begins : Bool) (n : ℕ) → n ≤ TRIES → (mine ≡ true → numbered ≡ true → begins ≡ false → n < TRIES) → (if mine && numbered then (if begins then 1 else n + 1) else n) ≤ TRIES
+few-posted : (mine numbered begins : Bool) (n : ℕ) → n ≤ TRIES → (mine ≡ true → numbered ≡ true → begins ≡ false → n < TRIES) →
+    (if mine && numbered then (if begins then 1 else n + 1) else n) ≤ TRIES
 few-posted true true true n few more = omega arith
 few-posted true true false n few more = (let less = more refl refl refl in omega (arith, less))
 few-posted true false begins n few more = few
 few-posted false numbered begins n few more = few
 
-few-deed : (setup : Setup) (p : PeerId) (d : Did) (before : List Seen) (deed : Deed) → DeedFits setup deed d before → posts_of p before ≤ TRIES → posts_of_after p deed (acting before) (posts_of p before) ≤ TRIES
+few-deed : (setup : Setup) (p : PeerId) (d : Did) (before : List Seen) (deed : Deed) → DeedFits setup deed d before → posts_of p before ≤ TRIES →
+    posts_of_after p deed (acting before) (posts_of p before) ≤ TRIES
 few-deed setup p d before (Acts Boot) f few = omega arith
 few-deed setup p d before (Acts (Become r)) f few = omega arith
 few-deed setup p d before (Acts (Post (Peer q) (Message m))) f few =
@@ -73,4 +81,5 @@ sends_end setting late world f a = Everywhere-from (BeginsAt (SendEnds late)) wo
     (Everywhere-at (AttendedAt late) l before world a w begins q))
 
 pub sends_ended : (setting : Setting) (late t n : ℕ) (world : List Line) → Fits setting world → Told late setting t n world → SendsEnded late setting t n world
-sends_ended setting late t n world f told q = send-ends (setup_of setting n q) late (setting.tick n t) (view q (of n world)) (port_fits setting n world f q) (told q)
+sends_ended setting late t n world f told q = send-ends (setup_of setting n q) late (setting.tick n t) (view q (of n world)) (port_fits setting n world f q)
+    (told q)

@@ -1,11 +1,14 @@
 -- Neither its boot nor a backing keeps a port from standing for election when Elect rings.
-use Rattle.std.proofs.Common.{sym, ap, subst, arith, true≢false, ◌∙◌, ◌≡◌, ◌≤◌, ◌⊎◌, inl, inr, ℕ, ◌+◌, ◌||◌, ◌&&◌, Bool, true, false, List, [], ◌∷◌, Option, None, Some, refl}
+use Rattle.std.proofs.Common.{sym, ap, subst, arith, true≢false, ◌∙◌, ◌≡◌, ◌≤◌, ◌⊎◌, inl, inr, ℕ, ◌+◌, ◌||◌, ◌&&◌, Bool, true, false, List, [], ◌∷◌, Option}
+use Rattle.std.proofs.Common.{None, Some, refl}
 use Rattle.tsp_rules.specs.Values.{Boot, Become, Arm, Ring, Late, Back, Alarm, Elect, Window, PeerId, Port, ELECT_MIN}
-use Rattle.tsp_base.specs.Words.{Acts, Deed, Did, Held, Line, Seen, Here, Elsewhere, armed, armed_after, dids, held, held_after, is_past, of, plain, tick_of, view}
+use Rattle.tsp_base.specs.Words.{Acts, Deed, Did, Held, Line, Seen, Here, Elsewhere, armed, armed_after, dids, held, held_after, is_past, of, plain, tick_of}
+use Rattle.tsp_base.specs.Words.{view}
 use Rattle.tsp_base.proofs.Views.{plain_view}
 use Rattle.tsp_promises.specs.{Fits.Fits, OwnFits.OwnFits, Setting.Setting}
 use Rattle.tsp_promises.proofs.OwnFitsProof.{own_fits}
-use Rattle.tsp_progress.specs.AlarmsFit.{AlarmFits, AlarmsFit, Arms, ArmFits, BackNext, IsFree, Manner, NextFits, NextTo, asks_next, owes_next, stands_by, stands_now}
+use Rattle.tsp_progress.specs.AlarmsFit.{AlarmFits, AlarmsFit, Arms, ArmFits, BackNext, IsFree, Manner, NextFits, NextTo, asks_next, owes_next, stands_by}
+use Rattle.tsp_progress.specs.AlarmsFit.{stands_now}
 use Rattle.tsp_progress.specs.{Stands.AfterElect, Stands.Stands, Stands.StandsOn, Wakes.AllWake}
 use Rattle.tsp_progress.proofs.InTimeProof.{none_some, value_of}
 
@@ -57,7 +60,8 @@ no-back e = let bad : ⊥ = cc in absurd bad
 module _ (d : Did) (before : List Seen) (rise : tick_of (plain before) ≤ d.tick) (inv : Elects before) where
   -- after this deed
   abbrev After : Deed → Type 0
-  After deed = Waits d.tick (held_after deed d.tick (held before)) (armed_after deed (armed before)).elect (backs deed) (stands_by deed || (backs deed && stands_now before))
+  After deed = Waits d.tick (held_after deed d.tick (held before)) (armed_after deed (armed before)).elect (backs deed)
+      (stands_by deed || (backs deed && stands_now before))
 
   boot-le : (held before).boot ≤ d.tick
   boot-le = let le = inv.boot_le in omega (arith, le, rise)
@@ -75,7 +79,8 @@ module _ (d : Did) (before : List Seen) (rise : tick_of (plain before) ≤ d.tic
   }
 
   -- a deed that leaves Elect alone, and isn't a backing
-  kept : (armed-elect : Option ℕ) → armed-elect ≡ (armed before).elect → (h : Held) → h.boot ≡ (held before).boot → h.back ≡ (held before).back → backs_now before ≡ false → Waits d.tick h armed-elect false false
+  kept : (armed-elect : Option ℕ) → armed-elect ≡ (armed before).elect → (h : Held) → h.boot ≡ (held before).boot → h.back ≡ (held before).back →
+      backs_now before ≡ false → Waits d.tick h armed-elect false false
   kept elect same h boot back n = record {
     boot_le = (let le = boot-le in omega (arith, le, boot));
     back_le = λ b p e. back-le b p (sym back ∙ e);
@@ -86,7 +91,13 @@ module _ (d : Did) (before : List Seen) (rise : tick_of (plain before) ≤ d.tic
 
   -- a deed that turns Elect off
   off : (h : Held) → h.boot ≤ d.tick → ((b : ℕ) (p : PeerId) → h.back ≡ Some (b, p) → b ≤ d.tick) → (backing stood : Bool) → Waits d.tick h None backing stood
-  off h boot back backing stood = record { boot_le = boot; back_le = back; boots = λ at e. none_some refl e; backs = λ at e n. none_some refl e; stands = λ e. refl }
+  off h boot back backing stood = record {
+    boot_le = boot;
+    back_le = back;
+    boots = λ at e. none_some refl e;
+    backs = λ at e n. none_some refl e;
+    stands = λ e. refl;
+  }
 
   arms : (a : Alarm) (at : ℕ) → ArmFits a d before at → backs_now before ≡ false → After (Acts (Arm a at))
   arms Elect at f n = arms-elect at f
@@ -134,19 +145,22 @@ module _ (d : Did) (before : List Seen) (rise : tick_of (plain before) ≤ d.tic
   }
 
 -- what comes after a backing
-after-back : (m : Manner) (last : Deed) (x : ℕ) (older : List Seen) (next : Deed) → backs last ≡ true → NextFits m last x older next → Arms Elect next ⊎ (Arms Window next × ((stands_by last || (backs last && stands_now older)) ≡ true))
+after-back : (m : Manner) (last : Deed) (x : ℕ) (older : List Seen) (next : Deed) → backs last ≡ true → NextFits m last x older next → Arms Elect next ⊎
+    (Arms Window next × ((stands_by last || (backs last && stands_now older)) ≡ true))
 after-back m (Acts (Back p)) x older next e f = by_stands (stands_now older) refl f where
   by_stands : (b : Bool) → stands_now older ≡ b → BackNext b next → Arms Elect next ⊎ (Arms Window next × (stands_now older ≡ true))
   by_stands true s k = inr (k, s)
   by_stands false s k = inl k
 after-back m _ x older next e f = absurd (true≢false (sym e))
 
-after-backing : (m : Manner) (before : List Seen) (next : Deed) → backs_now before ≡ true → NextTo m before next → Arms Elect next ⊎ (Arms Window next × (standing before ≡ true))
+after-backing : (m : Manner) (before : List Seen) (next : Deed) → backs_now before ≡ true → NextTo m before next → Arms Elect next ⊎
+    (Arms Window next × (standing before ≡ true))
 after-backing m [] next e f = absurd (true≢false (sym e))
 after-backing m (Elsewhere k ∷ older) next e f = absurd (true≢false (sym e))
 after-backing m (Here k ∷ older) next e f = after-back m k.deed k.tick older next e f
 
-step : (m : Manner) (d : Did) (before : List Seen) → tick_of (plain before) ≤ d.tick → Elects before → NextTo m before d.deed → AlarmFits d.deed d before → Elects (Here d ∷ before)
+step : (m : Manner) (d : Did) (before : List Seen) → tick_of (plain before) ≤ d.tick → Elects before → NextTo m before d.deed → AlarmFits d.deed d before →
+    Elects (Here d ∷ before)
 step m d before rise inv next fits = by_back (backs_now before) refl where
   by_back : (b : Bool) → backs_now before ≡ b → After d before rise inv d.deed
   by_back false e = by-deed d before rise inv d.deed fits e
@@ -156,17 +170,23 @@ step m d before rise inv next fits = by_back (backs_now before) refl where
   ]
 
 -- a deed that asks nothing is no backing
-asks-back : (deed : Deed) → asks_next deed ≡ false → backs deed ≡ false
-asks-back (Acts (Back p)) e = absurd (true≢false e)
-asks-back _ e = refl
+asks-back : (deed : Deed) (x : ℕ) (older : List Seen) → asks_next deed x older ≡ false → backs deed ≡ false
+asks-back (Acts (Back p)) x older e = absurd (true≢false e)
+asks-back _ x older e = refl
 
 not-back : (seen : List Seen) → owes_next seen ≡ false → backs_now seen ≡ false
 not-back [] e = refl
-not-back (Here d ∷ before) e = asks-back d.deed e
+not-back (Here d ∷ before) e = asks-back d.deed d.tick before e
 not-back (Elsewhere d ∷ before) e = refl
 
 elects : (m : Manner) (seen : List Seen) → AlarmsFit m seen → Rising seen → Elects seen
-elects m [] f r = record { boot_le = omega arith; back_le = λ b p e. no-back e; boots = λ at e. none_some refl e; backs = λ at e n. none_some refl e; stands = λ e. refl }
+elects m [] f r = record {
+  boot_le = omega arith;
+  back_le = λ b p e. no-back e;
+  boots = λ at e. none_some refl e;
+  backs = λ at e n. none_some refl e;
+  stands = λ e. refl;
+}
 elects m (Here d ∷ before) f r = step m d before r.0 (elects m before f.1.1 r.1) f.1.0 f.0
 elects m (Elsewhere d ∷ before) f r = kept d before r.0 (elects m before f.1 r.1) _ refl (held before) refl refl (not-back before f.0)
 
@@ -181,7 +201,8 @@ ring-free m before a next = by_back (backs_now before) refl where
   ]
 
 -- when Elect rings the port is free to stand, but for a QUIT
-is-free : (m : Manner) (r : Did) (older : List Seen) → r.deed ≡ Acts (Ring Elect) → AlarmsFit m (Here r ∷ older) → Rising older → is_past (held older).quit ELECT_MIN r.tick ≡ true → IsFree r.tick (held older)
+is-free : (m : Manner) (r : Did) (older : List Seen) → r.deed ≡ Acts (Ring Elect) → AlarmsFit m (Here r ∷ older) → Rising older →
+    is_past (held older).quit ELECT_MIN r.tick ≡ true → IsFree r.tick (held older)
 is-free m r older is f rise quit =
     let e = elects m older f.1.1 rise in
     let ring = subst (λ deed. AlarmFits deed r older) is f.0 in
@@ -206,7 +227,11 @@ stands_on m (Elsewhere d ∷ before) f r = stands_on m before f.1 r.1
 -- ticks of a node rise
 pub rising : (setting : Setting) (q : Port) (lines : List Line) → OwnFits setting lines → Rising (view q lines)
 rising setting q [] f = tt
-rising setting q (l ∷ before) f = (subst (λ ds. tick_of ds ≤ tick_of (plain (view q (l ∷ before)))) (sym (plain_view q before)) (subst (λ ds. tick_of (dids before) ≤ tick_of ds) (sym (plain_view q (l ∷ before))) f.0.tick), rising setting q before f.1)
+rising setting q (l ∷ before) f = (
+  subst (λ ds. tick_of ds ≤ tick_of (plain (view q (l ∷ before)))) (sym (plain_view q before))
+      (subst (λ ds. tick_of (dids before) ≤ tick_of ds) (sym (plain_view q (l ∷ before))) f.0.tick),
+  rising setting q before f.1,
+)
 
 pub stands : (m : ℕ → Manner) (setting : Setting) (world : List Line) → Fits setting world → AllWake m world → Stands m world
 stands m setting world f w n q = stands_on (m n) (view q (of n world)) (w n q).acts (rising setting q (of n world) (own_fits setting n world f))

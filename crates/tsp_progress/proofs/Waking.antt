@@ -1,18 +1,26 @@
 -- What single acts make of a port that has armed what its role asks for.
-use Rattle.std.proofs.Common.{sym, ap, arith, subst, true≢false, ◌∙◌, ◌≡◌, ◌≢◌, ◌≤◌, ℕ, ◌+◌, ◌||◌, Bool, true, false, List, [], ◌∷◌, Option, None, Some, inl, inr, is_some, refl, leb-true, leb-false}
-use Rattle.std.proofs.lemmas.Bool.{or_right}
-use Rattle.tsp_rules.specs.Values.{Act, Boot, Become, Arm, Ring, Late, Back, Alarm, Quiet, Search, Elect, Window, Probe, CloseAlarm, ResolveAlarm, Round, PeerId, Role, Starting, Loose, Follow, Candidate, Master, SLACK, QUIET, WINDOW, ROUND, WAIT, PROBE, CLOSE}
+use Rattle.std.proofs.Common.{sym, ap, ℤ, pos, arith, subst, true≢false, ◌∙◌, ◌≡◌, ◌≢◌, ◌≤◌, ℕ, ◌+◌, ◌||◌, Bool, true, false, List, [], ◌∷◌, Option, None, Some}
+use Rattle.std.proofs.Common.{inl}
+use Rattle.std.proofs.Common.{inr, is_some, refl, leb-true, leb-false, nat_le}
+use Rattle.std.proofs.lemmas.Bool.{and_left, and_right, lt-leb, not-false, or_right}
+use Rattle.tsp_rules.specs.Values.{Act, Boot, Become, Arm, Ring, Late, Back, Alarm, Quiet, Search, Elect, Window, Probe, CloseAlarm, ResolveAlarm, Round}
+use Rattle.tsp_rules.specs.ClockRows.{adjusts}
+use Rattle.tsp_rules.specs.Values.{Close, Correct, PeerId, Role, Starting, Loose, Follow, Candidate, Master, SLACK, QUIET, WINDOW, ROUND, WAIT, PROBE, CLOSE}
 use Rattle.tsp_base.specs.Words.{Acts, Deed, Did, Here, Elsewhere, Seen, Past, Row, Leads, role, armed, deadline, held, stood, grown, arms, puts, plain, word}
 use Rattle.tsp_base.proofs.LeadsLemmas.{Leads_puts, Leads_reading}
 use Rattle.tsp_rules.specs.{CommonRows.arms_elect, Guards.delay, Guards.delay_at, Guards.is_due, Guards.is_in_time, Guards.is_met, Guards.is_over}
-use Rattle.tsp_rules.proofs.Emits.{Sort, Booting, Leading, Following, Changing, Backing, Alarming, Rounding, Emits, Keeps_by, is_in, sort_of}
-use Rattle.tsp_progress.specs.AlarmsFit.{AlarmsFit, ArmFits, LateFits, Manner, NextFits, NextTo, RingFits, BackNext, asks_next, is_candidate, owes_next, stands_by, stands_now}
+use Rattle.tsp_rules.proofs.Emits.{Sort, Booting, Leading, Following, Changing, Backing, Alarming, Rounding, Closing, Emits, Keeps_by, is_in, sort_of}
+use Rattle.tsp_progress.specs.AlarmsFit.{AlarmsFit, ArmFits, LateFits, Manner, NextFits, NextTo, RingFits, BackNext, CloseNext, ProbeNext, RoundNext}
+use Rattle.tsp_progress.specs.AlarmsFit.{arms_round_by, asks_next, begins_round, newest_is, rings_round, rounds_by, is_zero}
+use Rattle.tsp_progress.specs.AlarmsFit.{is_candidate, owes_next}
+use Rattle.tsp_progress.specs.AlarmsFit.{stands_by, stands_now}
 use Rattle.tsp_progress.specs.{CausesFit.CausesFit, Wakes.Wakes, Wakes.Windowed}
 
 -- a port in the midst of a row: whether a port that is Loose or follows, and whether a master, has armed what it needs
 pub record Waking (m : Manner) (idle lead : Bool) (seen : List Seen) : Type 0 where
   pub acts : AlarmsFit m seen
-  pub starting : role seen ≡ Starting → (start : Did) (before : List Seen) → stood seen ≡ Here start ∷ before → (armed seen).quiet ≡ Some ((held seen).boot + QUIET)
+  pub starting : role seen ≡ Starting → (start : Did) (before : List Seen) → stood seen ≡ Here start ∷ before → (armed seen).quiet ≡
+      Some ((held seen).boot + QUIET)
   pub candidate : role seen ≡ Candidate → Windowed seen
   pub loose : idle ≡ true → role seen ≡ Loose → (is_some (armed seen).search || is_some (armed seen).elect) ≡ true
   pub follow : idle ≡ true → (p : PeerId) → role seen ≡ Follow p → is_some (armed seen).elect ≡ true
@@ -51,16 +59,36 @@ pub record Became (r : Role) (x : ℕ) (past : Past) : Type 0 where
   pub stands : stands_now past.seen ≡ is_candidate r
   pub backs : r ≡ Candidate → (p : PeerId) → NextTo (manner past) past.seen (Acts (Back p))
   pub free : owes_next past.seen ≡ is_candidate r
+  pub newest : (test : Deed → Bool) → newest_is test past.seen ≡ test (Acts (Become r))
 
 pub wakes_of : {m : Manner} {seen : List Seen} → Settled m true true seen → CausesFit seen → Wakes m seen
-wakes_of s c = let w = s.waking in record { acts = w.acts; settled = s.free; causes = c; starting = w.starting; candidate = w.candidate; loose = w.loose refl; follow = w.follow refl; master = w.master refl }
+wakes_of s c = let w = s.waking in record {
+  acts = w.acts;
+  settled = s.free;
+  causes = c;
+  starting = w.starting;
+  candidate = w.candidate;
+  loose = w.loose refl;
+  follow = w.follow refl;
+  master = w.master refl;
+}
 
 pub waking_of : {m : Manner} {seen : List Seen} → Wakes m seen → Settled m true true seen
-waking_of w = record { waking = record { acts = w.acts; starting = w.starting; candidate = w.candidate; loose = λ e. w.loose; follow = λ e. w.follow; master = λ e. w.master }; free = w.settled }
+waking_of w = record {
+  waking = record {
+    acts = w.acts;
+    starting = w.starting;
+    candidate = w.candidate;
+    loose = λ e. w.loose;
+    follow = λ e. w.follow;
+    master = λ e. w.master;
+  };
+  free = w.settled;
+}
 
 -- what asks nothing lets anything come
 
-free-next : (m : Manner) (deed : Deed) (x : ℕ) (older : List Seen) (next : Deed) → asks_next deed ≡ false → NextFits m deed x older next
+free-next : (m : Manner) (deed : Deed) (x : ℕ) (older : List Seen) (next : Deed) → asks_next deed x older ≡ false → NextFits m deed x older next
 free-next m (Acts (Ring Quiet)) x older next e = absurd (true≢false e)
 free-next m (Acts (Ring Search)) x older next e = absurd (true≢false e)
 free-next m (Acts (Ring Elect)) x older next e = absurd (true≢false e)
@@ -75,9 +103,13 @@ free-next m (Acts (Late Round)) x older next e = absurd (true≢false e)
 free-next m (Acts (Late CloseAlarm)) x older next e = absurd (true≢false e)
 free-next m (Acts (Late Probe)) x older next e = absurd (true≢false e)
 free-next m (Acts (Late _)) x older next e = tt
+free-next m (Acts (Arm Round at)) x older next e = subst (λ b. RoundNext b next) (sym e) tt
+free-next m (Acts (Arm Probe at)) x older next e = subst (λ b. ProbeNext b next) (sym e) tt
+free-next m (Acts (Arm _ at)) x older next e = tt
 free-next m (Acts (Become Candidate)) x older next e = absurd (true≢false e)
 free-next m (Acts (Become _)) x older next e = tt
 free-next m (Acts (Back p)) x older next e = absurd (true≢false e)
+free-next m (Acts (Close count lo size mean)) x older next e = subst (λ b. CloseNext b mean next) (sym (not-false (is_zero mean) e)) tt
 free-next m _ x older next e = tt
 
 pub free_to : (m : Manner) (seen : List Seen) (next : Deed) → owes_next seen ≡ false → NextTo m seen next
@@ -86,13 +118,13 @@ free_to m (Here d ∷ before) next e = free-next m d.deed d.tick before next e
 free_to m (Elsewhere d ∷ before) next e = tt
 
 -- a port whose newest act asks nothing hasn't just stood for election
-stands-asks : (deed : Deed) → asks_next deed ≡ false → stands_by deed ≡ false
-stands-asks (Acts (Become r)) e = e
-stands-asks _ e = refl
+stands-asks : (deed : Deed) (x : ℕ) (older : List Seen) → asks_next deed x older ≡ false → stands_by deed ≡ false
+stands-asks (Acts (Become r)) x older e = e
+stands-asks _ x older e = refl
 
 pub not_standing : (seen : List Seen) → owes_next seen ≡ false → stands_now seen ≡ false
 not_standing [] e = refl
-not_standing (Here d ∷ before) e = stands-asks d.deed e
+not_standing (Here d ∷ before) e = stands-asks d.deed d.tick before e
 not_standing (Elsewhere d ∷ before) e = refl
 
 -- acts that are no change of the role, none on an alarm and no backing
@@ -103,19 +135,30 @@ is_far (Arm a at) = false
 is_far (Ring a) = false
 is_far (Late a) = false
 is_far (Back p) = false
+is_far (Close count lo size mean) = false
 is_far _ = true
 
-windowed-keeps : (d : Did) (seen : List Seen) → stood (Here d ∷ seen) ≡ stood seen → (armed (Here d ∷ seen)).window ≡ (armed seen).window → Windowed seen → Windowed (Here d ∷ seen)
+windowed-keeps : (d : Did) (seen : List Seen) → stood (Here d ∷ seen) ≡ stood seen → (armed (Here d ∷ seen)).window ≡ (armed seen).window → Windowed seen →
+    Windowed (Here d ∷ seen)
 windowed-keeps d seen s a w = record { start = w.start; idle = w.idle; stood_is = s ∙ w.stood_is; window_is = a ∙ w.window_is }
 
-far-waking : {idle lead : Bool} (a : Act) → is_far a ≡ true → (x : ℕ) (past : Past) → NextTo (manner past) past.seen (Acts a) → Waking (manner past) idle lead past.seen → Waking (manner past) idle lead (grown x past (a ∷ [])).seen
+far-waking : {idle lead : Bool} (a : Act) → is_far a ≡ true → (x : ℕ) (past : Past) → NextTo (manner past) past.seen (Acts a) →
+    Waking (manner past) idle lead past.seen → Waking (manner past) idle lead (grown x past (a ∷ [])).seen
 far-waking Boot e x past n w = absurd (true≢false (sym e))
 far-waking (Become r) e x past n w = absurd (true≢false (sym e))
 far-waking (Arm a at) e x past n w = absurd (true≢false (sym e))
 far-waking (Ring a) e x past n w = absurd (true≢false (sym e))
 far-waking (Late a) e x past n w = absurd (true≢false (sym e))
 far-waking (Back p) e x past n w = absurd (true≢false (sym e))
-far-waking _ e x past n w = record { acts = (tt, (n, w.acts)); starting = w.starting; candidate = λ r. windowed-keeps _ past.seen refl refl (w.candidate r); loose = w.loose; follow = w.follow; master = w.master }
+far-waking (Close count lo size mean) e x past n w = absurd (true≢false (sym e))
+far-waking _ e x past n w = record {
+  acts = (tt, (n, w.acts));
+  starting = w.starting;
+  candidate = λ r. windowed-keeps _ past.seen refl refl (w.candidate r);
+  loose = w.loose;
+  follow = w.follow;
+  master = w.master;
+}
 
 far-free : (a : Act) → is_far a ≡ true → (x : ℕ) (past : Past) → owes_next (grown x past (a ∷ [])).seen ≡ false
 far-free Boot e x past = absurd (true≢false (sym e))
@@ -124,6 +167,7 @@ far-free (Arm a at) e x past = absurd (true≢false (sym e))
 far-free (Ring a) e x past = absurd (true≢false (sym e))
 far-free (Late a) e x past = absurd (true≢false (sym e))
 far-free (Back p) e x past = absurd (true≢false (sym e))
+far-free (Close count lo size mean) e x past = absurd (true≢false (sym e))
 far-free _ e x past = refl
 
 -- they leave what is armed alone
@@ -135,7 +179,7 @@ far a e = Leads_puts a (keeps a e)
 
 -- acts of other sorts are far
 abbrev pub near_sorts : List Sort
-near_sorts = Booting ∷ Leading ∷ Following ∷ Changing ∷ Backing ∷ Alarming ∷ Rounding ∷ []
+near_sorts = Booting ∷ Leading ∷ Following ∷ Changing ∷ Backing ∷ Alarming ∷ Rounding ∷ Closing ∷ []
 
 far-arm : (a : Alarm) (at : ℕ) → is_in (sort_of (Arm a at)) near_sorts ≡ false → is_far (Arm a at) ≡ true
 far-arm Probe at e = absurd (true≢false e)
@@ -164,12 +208,17 @@ other-far (Arm a at) e = far-arm a at e
 other-far (Ring a) e = far-ring a e
 other-far (Late a) e = far-late a e
 other-far (Back p) e = absurd (true≢false e)
+other-far (Close count lo size mean) e = absurd (true≢false e)
 other-far _ e = refl
 
 -- a row of other sorts
-pub far_row : (sorts : List Sort) (row : Row) → ((a : Act) → is_in (sort_of a) sorts ≡ true → is_in (sort_of a) near_sorts ≡ false) → Emits sorts row → {idle lead : Bool} → Leads (Nearly idle lead) row (Nearly idle lead)
+pub far_row : (sorts : List Sort) (row : Row) → ((a : Act) → is_in (sort_of a) sorts ≡ true → is_in (sort_of a) near_sorts ≡ false) → Emits sorts row →
+    {idle lead : Bool} → Leads (Nearly idle lead) row (Nearly idle lead)
 unfolding puts
-far_row sorts row out e {idle} {lead} = record { run = λ x past h. Keeps_by {T = ℕ} sorts (λ p n. Nearly idle lead n p) row (λ a i y p n k. keeps a (other-far a (out a i)) y p k) e x past x h }
+far_row sorts row out e {idle} {lead} = record {
+  run = λ x past h. Keeps_by {T = ℕ} sorts (λ p n. Nearly idle lead n p) row
+      (λ a i y p n k. keeps a (other-far a (out a i)) y p k) e x past x h;
+}
 
 -- a change of the role turns all alarms off
 pub becomes : (r : Role) → Leads (Ready r) (puts (Become r)) (Became r)
@@ -183,6 +232,7 @@ becomes r = Leads_puts (Become r) (λ x past h. record {
   stands = refl;
   backs = λ e p. subst (λ k. NextFits (manner past) (Acts (Become k)) x past.seen (Acts (Back p))) (sym e) (p, refl);
   free = refl;
+  newest = λ test. refl;
 })
 
 pub ready : {idle lead : Bool} (r : Role) (x : ℕ) (past : Past) → Nearly idle lead x past → Ready r x past
@@ -250,16 +300,21 @@ unfolding arms
 master_rounds = record {
   run = λ x past h. record {
     waking = record {
-      acts = (inl refl, (free_to (manner past) past.seen _ h.free, h.acts));
+      acts = ((inl refl, h.newest rounds_by), (free_to (manner past) past.seen _ h.free, h.acts));
       starting = λ r. other-role Master Starting h.role_is r (λ e. let bad : ⊥ = cc in bad);
       candidate = λ r. other-role Master Candidate h.role_is r (λ e. let bad : ⊥ = cc in bad);
       loose = λ i r. other-role Master Loose h.role_is r (λ e. let bad : ⊥ = cc in bad);
       follow = λ i p r. other-role Master (Follow p) h.role_is r (λ e. let bad : ⊥ = cc in bad);
       master = λ l r. refl;
     };
-    free = refl;
+    free = and_left (newest_is rings_round past.seen) (nat_le (x + ROUND) (x + ROUND)) (h.newest rings_round);
   };
 }
+
+-- a round closed with this mean, and the clock is to be moved by it
+pub record Closed (mean : ℤ) (x : ℕ) (past : Past) : Type 0 where
+  pub waking : Waking (manner past) true true past.seen
+  pub next : (stepped : Bool) (shown : ℤ) → NextTo (manner past) past.seen (Acts (Correct mean stepped shown))
 
 -- the port stood for election now, and backed itself
 pub record Backed (x : ℕ) (past : Past) : Type 0 where
@@ -381,27 +436,6 @@ arms_search = record {
   };
 }
 
-arm-round : {idle lead : Bool} (x at : ℕ) (past : Past) → ArmFits Round (record { step = past.step; tick = x; deed = Acts (Arm Round at) }) past.seen at → Arming Round idle lead x past → Nearly idle true x (grown x past (Arm Round at ∷ []))
-arm-round x at past fits h = let w = h.waking in record {
-  waking = record {
-    acts = (fits, (h.next at, w.acts));
-    starting = w.starting;
-    candidate = λ r. windowed-keeps _ past.seen refl refl (w.candidate r);
-    loose = w.loose;
-    follow = w.follow;
-    master = λ l r. refl;
-  };
-  free = refl;
-}
-
-pub arms_round : {idle lead : Bool} → Leads (Arming Round idle lead) (arms Round ROUND) (Nearly idle true)
-unfolding arms
-arms_round = record { run = λ x past h. arm-round x (x + ROUND) past (inl refl) h }
-
-pub arms_wait : {idle lead : Bool} → Leads (Arming Round idle lead) (arms Round WAIT) (Nearly idle true)
-unfolding arms
-arms_wait = record { run = λ x past h. arm-round x (x + WAIT) past (inr refl) h }
-
 -- alarms that no role needs
 abbrev pub is_needed : Alarm → Bool
 is_needed Probe = false
@@ -409,27 +443,57 @@ is_needed CloseAlarm = false
 is_needed ResolveAlarm = false
 is_needed _ = true
 
-arm-waking : {idle lead : Bool} (a : Alarm) → is_needed a ≡ false → (x at : ℕ) (past : Past) → ArmFits a (record { step = past.step; tick = x; deed = Acts (Arm a at) }) past.seen at → NextTo (manner past) past.seen (Acts (Arm a at)) →
+arm-waking : {idle lead : Bool} (a : Alarm) → is_needed a ≡ false → (x at : ℕ) (past : Past) →
+    ArmFits a (record { step = past.step; tick = x; deed = Acts (Arm a at) }) past.seen at → NextTo (manner past) past.seen (Acts (Arm a at)) →
     Waking (manner past) idle lead past.seen → Waking (manner past) idle lead (grown x past (Arm a at ∷ [])).seen
-arm-waking Probe e x at past fits n w = record { acts = (fits, (n, w.acts)); starting = w.starting; candidate = λ r. windowed-keeps _ past.seen refl refl (w.candidate r); loose = w.loose; follow = w.follow; master = w.master }
-arm-waking CloseAlarm e x at past fits n w = record { acts = (fits, (n, w.acts)); starting = w.starting; candidate = λ r. windowed-keeps _ past.seen refl refl (w.candidate r); loose = w.loose; follow = w.follow; master = w.master }
-arm-waking ResolveAlarm e x at past fits n w = record { acts = (fits, (n, w.acts)); starting = w.starting; candidate = λ r. windowed-keeps _ past.seen refl refl (w.candidate r); loose = w.loose; follow = w.follow; master = w.master }
+arm-waking Probe e x at past fits n w = record {
+  acts = (fits, (n, w.acts));
+  starting = w.starting;
+  candidate = λ r. windowed-keeps _ past.seen refl refl (w.candidate r);
+  loose = w.loose;
+  follow = w.follow;
+  master = w.master;
+}
+arm-waking CloseAlarm e x at past fits n w = record {
+  acts = (fits, (n, w.acts));
+  starting = w.starting;
+  candidate = λ r. windowed-keeps _ past.seen refl refl (w.candidate r);
+  loose = w.loose;
+  follow = w.follow;
+  master = w.master;
+}
+arm-waking ResolveAlarm e x at past fits n w = record {
+  acts = (fits, (n, w.acts));
+  starting = w.starting;
+  candidate = λ r. windowed-keeps _ past.seen refl refl (w.candidate r);
+  loose = w.loose;
+  follow = w.follow;
+  master = w.master;
+}
 arm-waking _ e x at past fits n w = absurd (true≢false e)
 
-arm-other : {idle lead : Bool} (a : Alarm) → is_needed a ≡ false → (x at : ℕ) (past : Past) → ArmFits a (record { step = past.step; tick = x; deed = Acts (Arm a at) }) past.seen at → Nearly idle lead x past → Nearly idle lead x (grown x past (Arm a at ∷ []))
-arm-other a e x at past fits s = record { waking = arm-waking a e x at past fits (free_to (manner past) past.seen (Acts (Arm a at)) s.free) s.waking; free = refl }
+-- Probe may be armed: no round begins with it
+pub record Probing (x : ℕ) (past : Past) : Type 0 where
+  pub awake : Awake x past
+  pub other : newest_is arms_round_by past.seen ≡ false
 
-pub arms_probe : {idle lead : Bool} → Leads (Nearly idle lead) (arms Probe PROBE) (Nearly idle lead)
+pub arms_probe : Leads Probing (arms Probe PROBE) Awake
 unfolding arms
-arms_probe = record { run = λ x past h. arm-other Probe refl x (x + PROBE) past refl h }
-
-pub arms_close : {idle lead : Bool} → Leads (Nearly idle lead) (arms CloseAlarm CLOSE) (Nearly idle lead)
-unfolding arms
-arms_close = record { run = λ x past h. arm-other CloseAlarm refl x (x + CLOSE) past refl h }
+arms_probe = record {
+  run = λ x past h. record {
+    waking = arm-waking Probe refl x (x + PROBE) past refl (free_to (manner past) past.seen (Acts (Arm Probe (x + PROBE))) h.awake.free) h.awake.waking;
+    free = h.other;
+  };
+}
 
 pub arms_resolve : {idle lead : Bool} → Leads (Nearly idle lead) (arms ResolveAlarm WINDOW) (Nearly idle lead)
 unfolding arms
-arms_resolve = record { run = λ x past h. arm-other ResolveAlarm refl x (x + WINDOW) past refl h }
+arms_resolve = record {
+  run = λ x past h. record {
+    waking = arm-waking ResolveAlarm refl x (x + WINDOW) past refl (free_to (manner past) past.seen (Acts (Arm ResolveAlarm (x + WINDOW))) h.free) h.waking;
+    free = refl;
+  };
+}
 
 -- an alarm that is due rings, or is late
 
@@ -441,7 +505,8 @@ over-is : (o : Option ℕ) (x : ℕ) → is_over o x ≡ true → (at : ℕ) × 
 over-is None x e = absurd (true≢false (sym e))
 over-is (Some at) x e = (at, (refl, leb-true at x e))
 
-rings-fits : (a : Alarm) (here : Did) (x : ℕ) (past : Past) → here.tick ≡ x → is_due a x past ≡ true → (a ≢ Quiet → is_in_time a x past ≡ true) → RingFits a here past.seen
+rings-fits : (a : Alarm) (here : Did) (x : ℕ) (past : Past) → here.tick ≡ x → is_due a x past ≡ true → (a ≢ Quiet → is_in_time a x past ≡ true) →
+    RingFits a here past.seen
 rings-fits a here x past now due soon =
     let o = over-is (deadline (armed past.seen) a) x due in
     let at = o.1.1 in
@@ -449,10 +514,12 @@ rings-fits a here x past now due soon =
       at = o.0;
       armed_is = o.1.0;
       due = omega (arith, at, now);
-      soon = λ n. let met : is_met (Some o.0) x ≡ true = sym (ap (λ k. is_met k x) o.1.0) ∙ soon n in let le = leb-true x (o.0 + SLACK) met in omega (arith, le, now);
+      soon = λ n. let met : is_met (Some o.0) x ≡ true = sym (ap (λ k. is_met k x) o.1.0) ∙ soon n in let le = leb-true x (o.0 + SLACK) met in
+          omega (arith, le, now);
     }
 
-late-fits : (a : Alarm) (here : Did) (x : ℕ) (past : Past) → here.tick ≡ x → a ≢ Quiet → is_due a x past ≡ true → is_in_time a x past ≡ false → LateFits a here past.seen
+late-fits : (a : Alarm) (here : Did) (x : ℕ) (past : Past) → here.tick ≡ x → a ≢ Quiet → is_due a x past ≡ true → is_in_time a x past ≡ false →
+    LateFits a here past.seen
 late-fits a here x past now other due late =
     let o = over-is (deadline (armed past.seen) a) x due in
     let not-met : is_met (Some o.0) x ≡ false = sym (ap (λ k. is_met k x) o.1.0) ∙ late in
@@ -465,12 +532,27 @@ pub record Rang (deed : Deed) (x : ℕ) (past : Past) : Type 0 where
   pub older : List Seen
   pub next : (next : Deed) → NextFits (manner past) deed x older next → NextTo (manner past) past.seen next
   pub held_is : held older ≡ held past.seen
+  pub is : (test : Deed → Bool) → newest_is test past.seen ≡ test deed
 
-ring-rang : (a : Alarm) (x : ℕ) (past : Past) → RingFits a (record { step = past.step; tick = x; deed = Acts (Ring a) }) past.seen → Awake x past → Rang (Acts (Ring a)) x (grown x past (Ring a ∷ []))
-ring-rang a x past f s = record { acts = (f, (free_to (manner past) past.seen (Acts (Ring a)) s.free, s.waking.acts)); older = past.seen; next = λ n k. k; held_is = refl }
+ring-rang : (a : Alarm) (x : ℕ) (past : Past) → RingFits a (record { step = past.step; tick = x; deed = Acts (Ring a) }) past.seen → Awake x past →
+    Rang (Acts (Ring a)) x (grown x past (Ring a ∷ []))
+ring-rang a x past f s = record {
+  acts = (f, (free_to (manner past) past.seen (Acts (Ring a)) s.free, s.waking.acts));
+  older = past.seen;
+  next = λ n k. k;
+  held_is = refl;
+  is = λ test. refl;
+}
 
-late-rang : (a : Alarm) (x : ℕ) (past : Past) → LateFits a (record { step = past.step; tick = x; deed = Acts (Late a) }) past.seen → Awake x past → Rang (Acts (Late a)) x (grown x past (Late a ∷ []))
-late-rang a x past f s = record { acts = (f, (free_to (manner past) past.seen (Acts (Late a)) s.free, s.waking.acts)); older = past.seen; next = λ n k. k; held_is = refl }
+late-rang : (a : Alarm) (x : ℕ) (past : Past) → LateFits a (record { step = past.step; tick = x; deed = Acts (Late a) }) past.seen → Awake x past →
+    Rang (Acts (Late a)) x (grown x past (Late a ∷ []))
+late-rang a x past f s = record {
+  acts = (f, (free_to (manner past) past.seen (Acts (Late a)) s.free, s.waking.acts));
+  older = past.seen;
+  next = λ n k. k;
+  held_is = refl;
+  is = λ test. refl;
+}
 
 -- alarms that don't end a role
 abbrev pub is_lasting : Alarm → Bool
@@ -489,21 +571,83 @@ lead_after Round = false
 lead_after _ = true
 
 module _ (x : ℕ) (past : Past) (s : Awake x past) where
-  ring-waking : (a : Alarm) → is_lasting a ≡ true → RingFits a (record { step = past.step; tick = x; deed = Acts (Ring a) }) past.seen → Waking (manner past) (idle_after a) (lead_after a) (grown x past (Ring a ∷ [])).seen
+  ring-waking : (a : Alarm) → is_lasting a ≡ true → RingFits a (record { step = past.step; tick = x; deed = Acts (Ring a) }) past.seen →
+      Waking (manner past) (idle_after a) (lead_after a) (grown x past (Ring a ∷ [])).seen
   ring-waking Quiet e f = absurd (true≢false (sym e))
   ring-waking Window e f = absurd (true≢false (sym e))
-  ring-waking Search e f = let w = s.waking in record { acts = (f, (free_to (manner past) past.seen _ s.free, w.acts)); starting = w.starting; candidate = λ r. windowed-keeps _ past.seen refl refl (w.candidate r); loose = λ i r. absurd (true≢false (sym i)); follow = λ i p r. absurd (true≢false (sym i)); master = w.master }
-  ring-waking Elect e f = let w = s.waking in record { acts = (f, (free_to (manner past) past.seen _ s.free, w.acts)); starting = w.starting; candidate = λ r. windowed-keeps _ past.seen refl refl (w.candidate r); loose = λ i r. absurd (true≢false (sym i)); follow = λ i p r. absurd (true≢false (sym i)); master = w.master }
-  ring-waking Round e f = let w = s.waking in record { acts = (f, (free_to (manner past) past.seen _ s.free, w.acts)); starting = w.starting; candidate = λ r. windowed-keeps _ past.seen refl refl (w.candidate r); loose = w.loose; follow = w.follow; master = λ l r. absurd (true≢false (sym l)) }
-  ring-waking _ e f = let w = s.waking in record { acts = (f, (free_to (manner past) past.seen _ s.free, w.acts)); starting = w.starting; candidate = λ r. windowed-keeps _ past.seen refl refl (w.candidate r); loose = w.loose; follow = w.follow; master = w.master }
+  ring-waking Search e f = let w = s.waking in record {
+    acts = (f, (free_to (manner past) past.seen _ s.free, w.acts));
+    starting = w.starting;
+    candidate = λ r. windowed-keeps _ past.seen refl refl (w.candidate r);
+    loose = λ i r. absurd (true≢false (sym i));
+    follow =
+        λ i p r. absurd (true≢false (sym i));
+    master = w.master;
+  }
+  ring-waking Elect e f = let w = s.waking in record {
+    acts = (f, (free_to (manner past) past.seen _ s.free, w.acts));
+    starting = w.starting;
+    candidate = λ r. windowed-keeps _ past.seen refl refl (w.candidate r);
+    loose = λ i r. absurd (true≢false (sym i));
+    follow =
+        λ i p r. absurd (true≢false (sym i));
+    master = w.master;
+  }
+  ring-waking Round e f = let w = s.waking in record {
+    acts = (f, (free_to (manner past) past.seen _ s.free, w.acts));
+    starting = w.starting;
+    candidate = λ r. windowed-keeps _ past.seen refl refl (w.candidate r);
+    loose = w.loose;
+    follow = w.follow;
+    master = λ l r. absurd (true≢false (sym l));
+  }
+  ring-waking _ e f = let w = s.waking in record {
+    acts = (f, (free_to (manner past) past.seen _ s.free, w.acts));
+    starting = w.starting;
+    candidate = λ r. windowed-keeps _ past.seen refl refl (w.candidate r);
+    loose = w.loose;
+    follow = w.follow;
+    master = w.master;
+  }
 
-  late-waking : (a : Alarm) → is_lasting a ≡ true → LateFits a (record { step = past.step; tick = x; deed = Acts (Late a) }) past.seen → Waking (manner past) (idle_after a) (lead_after a) (grown x past (Late a ∷ [])).seen
+  late-waking : (a : Alarm) → is_lasting a ≡ true → LateFits a (record { step = past.step; tick = x; deed = Acts (Late a) }) past.seen →
+      Waking (manner past) (idle_after a) (lead_after a) (grown x past (Late a ∷ [])).seen
   late-waking Quiet e f = absurd (true≢false (sym e))
   late-waking Window e f = absurd (true≢false (sym e))
-  late-waking Search e f = let w = s.waking in record { acts = (f, (free_to (manner past) past.seen _ s.free, w.acts)); starting = w.starting; candidate = λ r. windowed-keeps _ past.seen refl refl (w.candidate r); loose = λ i r. absurd (true≢false (sym i)); follow = λ i p r. absurd (true≢false (sym i)); master = w.master }
-  late-waking Elect e f = let w = s.waking in record { acts = (f, (free_to (manner past) past.seen _ s.free, w.acts)); starting = w.starting; candidate = λ r. windowed-keeps _ past.seen refl refl (w.candidate r); loose = λ i r. absurd (true≢false (sym i)); follow = λ i p r. absurd (true≢false (sym i)); master = w.master }
-  late-waking Round e f = let w = s.waking in record { acts = (f, (free_to (manner past) past.seen _ s.free, w.acts)); starting = w.starting; candidate = λ r. windowed-keeps _ past.seen refl refl (w.candidate r); loose = w.loose; follow = w.follow; master = λ l r. absurd (true≢false (sym l)) }
-  late-waking _ e f = let w = s.waking in record { acts = (f, (free_to (manner past) past.seen _ s.free, w.acts)); starting = w.starting; candidate = λ r. windowed-keeps _ past.seen refl refl (w.candidate r); loose = w.loose; follow = w.follow; master = w.master }
+  late-waking Search e f = let w = s.waking in record {
+    acts = (f, (free_to (manner past) past.seen _ s.free, w.acts));
+    starting = w.starting;
+    candidate = λ r. windowed-keeps _ past.seen refl refl (w.candidate r);
+    loose = λ i r. absurd (true≢false (sym i));
+    follow =
+        λ i p r. absurd (true≢false (sym i));
+    master = w.master;
+  }
+  late-waking Elect e f = let w = s.waking in record {
+    acts = (f, (free_to (manner past) past.seen _ s.free, w.acts));
+    starting = w.starting;
+    candidate = λ r. windowed-keeps _ past.seen refl refl (w.candidate r);
+    loose = λ i r. absurd (true≢false (sym i));
+    follow =
+        λ i p r. absurd (true≢false (sym i));
+    master = w.master;
+  }
+  late-waking Round e f = let w = s.waking in record {
+    acts = (f, (free_to (manner past) past.seen _ s.free, w.acts));
+    starting = w.starting;
+    candidate = λ r. windowed-keeps _ past.seen refl refl (w.candidate r);
+    loose = w.loose;
+    follow = w.follow;
+    master = λ l r. absurd (true≢false (sym l));
+  }
+  late-waking _ e f = let w = s.waking in record {
+    acts = (f, (free_to (manner past) past.seen _ s.free, w.acts));
+    starting = w.starting;
+    candidate = λ r. windowed-keeps _ past.seen refl refl (w.candidate r);
+    loose = w.loose;
+    follow = w.follow;
+    master = w.master;
+  }
 
 -- the newest act and what is armed
 pub record Off (a : Alarm) (deed : Deed) (x : ℕ) (past : Past) : Type 0 where
@@ -517,7 +661,8 @@ rings_off a lasts = Leads_puts (Ring a) (λ x past h.
     record { rang = ring-rang a x past f h.0.0; waking = ring-waking x past h.0.0 a lasts f })
 
 -- it is late
-pub late_off : (a : Alarm) → is_lasting a ≡ true → a ≢ Quiet → Leads (λ x past. Due a x past × (is_in_time a x past ≡ false)) (puts (Late a)) (Off a (Acts (Late a)))
+pub late_off : (a : Alarm) → is_lasting a ≡ true → a ≢ Quiet → Leads (λ x past. Due a x past × (is_in_time a x past ≡ false)) (puts (Late a))
+    (Off a (Acts (Late a)))
 late_off a lasts other = Leads_puts (Late a) (λ x past h.
     let f = late-fits a (record { step = past.step; tick = x; deed = Acts (Late a) }) x past refl other h.0.1 h.1 in
     record { rang = late-rang a x past f h.0.0; waking = late-waking x past h.0.0 a lasts f })
@@ -534,20 +679,131 @@ pub window_late : Leads (λ x past. Due Window x past × (is_in_time Window x pa
 window_late = Leads_puts (Late Window) (λ x past h. late-rang Window x past (late-fits Window _ x past refl (λ e. let bad : ⊥ = cc in bad) h.0.1 h.1) h.0.0)
 
 -- a role that an alarm's act asks for
-pub ready_by : {deed : Deed} (r : Role) → ((m : Manner) (x : ℕ) (older : List Seen) → NextFits m deed x older (Acts (Become r))) → (x : ℕ) (past : Past) → Rang deed x past → Ready r x past
+pub ready_by : {deed : Deed} (r : Role) → ((m : Manner) (x : ℕ) (older : List Seen) → NextFits m deed x older (Acts (Become r))) → (x : ℕ) (past : Past) →
+    Rang deed x past → Ready r x past
 ready_by r k x past h = record { acts = h.acts; next = h.next (Acts (Become r)) (k (manner past) x h.older) }
 
 -- an alarm that it asks for
-pub arming_by : {deed : Deed} (a b : Alarm) → ((m : Manner) (x : ℕ) (older : List Seen) (at : ℕ) → NextFits m deed x older (Acts (Arm b at))) → (x : ℕ) (past : Past) → Off a deed x past → Arming b (idle_after a) (lead_after a) x past
+pub arming_by : {deed : Deed} (a b : Alarm) → ((m : Manner) (x : ℕ) (older : List Seen) (at : ℕ) → NextFits m deed x older (Acts (Arm b at))) →
+    (x : ℕ) (past : Past) → Off a deed x past → Arming b (idle_after a) (lead_after a) x past
 arming_by a b k x past h = record { waking = h.waking; next = λ at. h.rang.next (Acts (Arm b at)) (k (manner past) x h.rang.older at) }
 
 -- an act on an alarm that asks nothing
-pub settled_by : {deed : Deed} (a : Alarm) → (x : ℕ) (past : Past) → owes_next past.seen ≡ false → Off a deed x past → Nearly (idle_after a) (lead_after a) x past
+pub settled_by : {deed : Deed} (a : Alarm) → (x : ℕ) (past : Past) → owes_next past.seen ≡ false → Off a deed x past →
+    Nearly (idle_after a) (lead_after a) x past
 settled_by a x past free h = record { waking = h.waking; free = free }
 
 -- a far act that is asked for
-pub far_by : {deed : Deed} (a : Alarm) (act : Act) → is_far act ≡ true → ((m : Manner) (x : ℕ) (older : List Seen) → NextFits m deed x older (Acts act)) → Leads (Off a deed) (puts act) (Nearly (idle_after a) (lead_after a))
+pub far_by : {deed : Deed} (a : Alarm) (act : Act) → is_far act ≡ true → ((m : Manner) (x : ℕ) (older : List Seen) → NextFits m deed x older (Acts act)) →
+    Leads (Off a deed) (puts act) (Nearly (idle_after a) (lead_after a))
 far_by a act far k = Leads_puts act (λ x past h. record {
   waking = far-waking act far x past (h.rang.next (Acts act) (k (manner past) x h.rang.older)) h.waking;
   free = far-free act far x past;
 })
+
+close-waking : (count : ℕ) (lo size mean : ℤ) (x : ℕ) (past : Past) → NextTo (manner past) past.seen (Acts (Close count lo size mean)) →
+    Waking (manner past) true true past.seen → Waking (manner past) true true (grown x past (Close count lo size mean ∷ [])).seen
+close-waking count lo size mean x past n w = record {
+  acts = (tt, (n, w.acts));
+  starting = w.starting;
+  candidate = λ r. windowed-keeps _ past.seen refl refl (w.candidate r);
+  loose = w.loose;
+  follow = w.follow;
+  master = w.master;
+}
+
+close-next : (mean : ℤ) (stepped : Bool) (shown : ℤ) → CloseNext (is_zero mean) mean (Acts (Correct mean stepped shown))
+close-next mean stepped shown = by_zero (is_zero mean) where
+  by_zero : (b : Bool) → CloseNext b mean (Acts (Correct mean stepped shown))
+  by_zero true = tt
+  by_zero false = (stepped, (shown, refl))
+
+-- a round closes with any mean
+pub closes_by : (count : ℕ) (lo size mean : ℤ) → Leads (Off CloseAlarm (Acts (Ring CloseAlarm))) (puts (Close count lo size mean)) (Closed mean)
+closes_by count lo size mean = Leads_puts (Close count lo size mean) (λ x past h. record {
+  waking = close-waking count lo size mean x past (h.rang.next (Acts (Close count lo size mean)) (inl (count, (lo, (size, (mean, refl)))))) h.waking;
+  next = λ stepped shown. close-next mean stepped shown;
+})
+
+-- with the mean 0 nothing is asked
+pub closes_still : (count : ℕ) (lo size : ℤ) → Leads (Off CloseAlarm (Acts (Ring CloseAlarm))) (puts (Close count lo size (pos 0))) Awake
+closes_still count lo size = Leads_puts (Close count lo size (pos 0)) (λ x past h. record {
+  waking = close-waking count lo size (pos 0) x past (h.rang.next (Acts (Close count lo size (pos 0))) (inl (count, (lo, (size, (pos 0, refl)))))) h.waking;
+  free = refl;
+})
+
+-- the clock is moved by the mean
+pub corrects_by_mean : (mean : ℤ) → Leads (Closed mean) (adjusts mean) Awake
+unfolding adjusts
+corrects_by_mean mean = record { run = λ x past h. record { waking = far-waking _ refl x past (h.next _ _) h.waking; free = refl } }
+
+-- Round is armed again, for a round or to wait
+
+round-waking : (x at : ℕ) (past : Past) → ArmFits Round (record { step = past.step; tick = x; deed = Acts (Arm Round at) }) past.seen at →
+    NextTo (manner past) past.seen (Acts (Arm Round at)) → Waking (manner past) true false past.seen →
+    Waking (manner past) true true (grown x past (Arm Round at ∷ [])).seen
+round-waking x at past fits n w = record {
+  acts = (fits, (n, w.acts));
+  starting = w.starting;
+  candidate = λ r. windowed-keeps _ past.seen refl refl (w.candidate r);
+  loose = w.loose;
+  follow = w.follow;
+  master = λ l r. refl;
+}
+
+pub late_round : Leads (Off Round (Acts (Late Round))) (arms Round ROUND) Awake
+unfolding arms
+late_round = record {
+  run = λ x past h. record {
+    waking = round-waking x (x + ROUND) past (inl refl, h.rang.is rounds_by) (h.rang.next (Acts (Arm Round (x + ROUND))) (x + ROUND, refl)) h.waking;
+    free = and_left (newest_is rings_round past.seen) (nat_le (x + ROUND) (x + ROUND)) (h.rang.is rings_round);
+  };
+}
+
+pub wait_round : Leads (Off Round (Acts (Ring Round))) (arms Round WAIT) Awake
+unfolding arms
+wait_round = record {
+  run = λ x past h. record {
+    waking = round-waking x (x + WAIT) past (inr refl, h.rang.is rounds_by) (h.rang.next (Acts (Arm Round (x + WAIT))) (x + WAIT, refl)) h.waking;
+    free = and_right (newest_is rings_round past.seen) (nat_le (x + ROUND) (x + WAIT)) (lt-leb (x + ROUND) (x + WAIT) (omega arith));
+  };
+}
+
+-- a round begins: Round is armed, then Probe, then Close
+pub record RoundArmed (x : ℕ) (past : Past) : Type 0 where
+  pub waking : Waking (manner past) true true past.seen
+  pub next : (at : ℕ) → NextTo (manner past) past.seen (Acts (Arm Probe at))
+
+pub record ProbeArmed (x : ℕ) (past : Past) : Type 0 where
+  pub waking : Waking (manner past) true true past.seen
+  pub next : (at : ℕ) → NextTo (manner past) past.seen (Acts (Arm CloseAlarm at))
+
+round-next : (b : Bool) (at : ℕ) → RoundNext b (Acts (Arm Probe at))
+round-next true at = (at, refl)
+round-next false at = tt
+
+probe-next : (b : Bool) (at : ℕ) → ProbeNext b (Acts (Arm CloseAlarm at))
+probe-next true at = (at, refl)
+probe-next false at = tt
+
+pub begin_round : Leads (Off Round (Acts (Ring Round))) (arms Round ROUND) RoundArmed
+unfolding arms
+begin_round = record {
+  run = λ x past h. record {
+    waking = round-waking x (x + ROUND) past (inl refl, h.rang.is rounds_by) (h.rang.next (Acts (Arm Round (x + ROUND))) (x + ROUND, refl)) h.waking;
+    next = λ at. round-next (begins_round past.seen x (x + ROUND)) at;
+  };
+}
+
+pub probe_round : Leads RoundArmed (arms Probe PROBE) ProbeArmed
+unfolding arms
+probe_round = record {
+  run = λ x past h. record {
+    waking = arm-waking Probe refl x (x + PROBE) past refl (h.next (x + PROBE)) h.waking;
+    next = λ at. probe-next (newest_is arms_round_by past.seen) at;
+  };
+}
+
+pub close_round : Leads ProbeArmed (arms CloseAlarm CLOSE) Awake
+unfolding arms
+close_round = record { run = λ x past h. record { waking = arm-waking CloseAlarm refl x (x + CLOSE) past refl (h.next (x + CLOSE)) h.waking; free = refl } }

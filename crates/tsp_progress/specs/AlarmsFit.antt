@@ -1,8 +1,23 @@
 -- What each act on an alarm owes to its port's past.
-use Rattle.std.specs.Prelude.{◌≡◌, ◌≢◌, ◌≤◌, ◌<◌, ◌⊎◌, ℕ, ◌+◌, ℤ, Bool, true, false, List, [], ◌∷◌, Some}
-use Rattle.tsp_rules.specs.Values.{Become, Arm, Ring, Late, Back, Abandon, Close, Alarm, Quiet, Window, Elect, Search, Round, Probe, CloseAlarm, ResolveAlarm, PeerId, Role, Loose, Candidate, Master, QUIET, WINDOW, PROBE, CLOSE, ROUND, WAIT, SLACK, HOLD, ELECT_MIN}
+use Rattle.std.specs.Prelude.{◌≡◌, ◌≢◌, ◌≤◌, ◌<◌, ◌⊎◌, ℕ, ◌+◌, ℤ, nat_abs, ◌==◌, ◌&&◌, nat_le, not, Bool, true, false, List, [], ◌∷◌, Some}
+use Rattle.tsp_rules.specs.Values.{Become, Arm, Ring, Late, Back, Abandon, Close, Correct, Alarm, Quiet, Window, Elect, Search, Round, Probe, CloseAlarm}
+use Rattle.tsp_rules.specs.Values.{ResolveAlarm}
+use Rattle.tsp_rules.specs.Values.{PeerId, Role, Loose, Candidate, Master, QUIET, WINDOW, PROBE, CLOSE, ROUND, WAIT, SLACK, HOLD, ELECT_MIN}
 use Rattle.tsp_rules.specs.Guards.{delay}
 use Rattle.tsp_base.specs.Words.{Deed, Acts, Did, Held, Seen, Here, Elsewhere, armed, deadline, held, is_past, plain, word}
+
+-- what the newest deed here is
+abbrev pub newest_is : (Deed → Bool) → List Seen → Bool
+newest_is test [] = false
+newest_is test (Here d ∷ before) = test d.deed
+newest_is test (Elsewhere d ∷ before) = false
+
+-- deeds after which Round is armed
+abbrev pub rounds_by : Deed → Bool
+rounds_by (Acts (Become Master)) = true
+rounds_by (Acts (Ring Round)) = true
+rounds_by (Acts (Late Round)) = true
+rounds_by _ = false
 
 -- how long ahead an alarm is armed: Elect for the node's delay; Round for ROUND, or for WAIT where another port has a
 -- round going; each other one always as long
@@ -14,7 +29,7 @@ ArmFits Window here before at = at ≡ here.tick + WINDOW
 ArmFits Probe here before at = at ≡ here.tick + PROBE
 ArmFits CloseAlarm here before at = at ≡ here.tick + CLOSE
 ArmFits ResolveAlarm here before at = at ≡ here.tick + WINDOW
-ArmFits Round here before at = (at ≡ here.tick + ROUND) ⊎ (at ≡ here.tick + WAIT)
+ArmFits Round here before at = ((at ≡ here.tick + ROUND) ⊎ (at ≡ here.tick + WAIT)) × (newest_is rounds_by before ≡ true)
 
 -- an alarm rings when it is due, and at most SLACK ticks after; but Quiet rings however late it is
 pub record RingFits (alarm : Alarm) (here : Did) (before : List Seen) : Type 0 where
@@ -66,6 +81,14 @@ pub record WindowNext (m : Manner) (next : Deed) : Type 0 where
 abbrev pub IsClose : Deed → Type 0
 IsClose next = (count : ℕ) × ((lo : ℤ) × ((size : ℤ) × ((mean : ℤ) × (next ≡ Acts (Close count lo size mean)))))
 
+-- after a Close with a mean other than 0 the clock is moved by the mean
+abbrev pub CloseNext : Bool → ℤ → Deed → Type 0
+CloseNext true mean next = Unit {0}
+CloseNext false mean next = (stepped : Bool) × ((shown : ℤ) × (next ≡ Acts (Correct mean stepped shown)))
+
+abbrev pub is_zero : ℤ → Bool
+is_zero mean = nat_abs mean == 0
+
 abbrev pub is_candidate : Role → Bool
 is_candidate Candidate = true
 is_candidate _ = false
@@ -90,6 +113,27 @@ abbrev pub StandNext : Bool → Deed → Type 0
 StandNext true next = (p : PeerId) × (next ≡ Acts (Back p))
 StandNext false next = Unit {0}
 
+abbrev pub rings_round : Deed → Bool
+rings_round (Acts (Ring Round)) = true
+rings_round _ = false
+
+abbrev pub arms_round_by : Deed → Bool
+arms_round_by (Acts (Arm Round at)) = true
+arms_round_by _ = false
+
+-- whether a round begins: Round rang, and is armed for ROUND ticks from tick x
+abbrev pub begins_round : List Seen → ℕ → ℕ → Bool
+begins_round older x at = newest_is rings_round older && nat_le (x + ROUND) at
+
+-- a round begins with Round, Probe and Close
+abbrev pub RoundNext : Bool → Deed → Type 0
+RoundNext true next = Arms Probe next
+RoundNext false next = Unit {0}
+
+abbrev pub ProbeNext : Bool → Deed → Type 0
+ProbeNext true next = Arms CloseAlarm next
+ProbeNext false next = Unit {0}
+
 -- what a deed at tick x, and what was seen before it, ask of the next deed
 abbrev pub NextFits : Manner → Deed → ℕ → List Seen → Deed → Type 0
 NextFits m (Acts (Ring Quiet)) x older next = next ≡ Acts (Become Loose)
@@ -104,26 +148,32 @@ NextFits m (Acts (Late Round)) x older next = Arms Round next
 NextFits m (Acts (Ring CloseAlarm)) x older next = IsClose next ⊎ (next ≡ Acts Abandon)
 NextFits m (Acts (Late CloseAlarm)) x older next = next ≡ Acts Abandon
 NextFits m (Acts (Late Probe)) x older next = next ≡ Acts Abandon
+NextFits m (Acts (Arm Round at)) x older next = RoundNext (begins_round older x at) next
+NextFits m (Acts (Arm Probe at)) x older next = ProbeNext (newest_is arms_round_by older) next
+NextFits m (Acts (Close count lo size mean)) x older next = CloseNext (is_zero mean) mean next
 NextFits m (Acts (Become r)) x older next = StandNext (is_candidate r) next
 NextFits m (Acts (Back p)) x older next = BackNext (stands_now older) next
 NextFits m _ x older next = Unit {0}
 
--- whether a deed asks something of the next one
-abbrev pub asks_next : Deed → Bool
-asks_next (Acts (Ring Probe)) = false
-asks_next (Acts (Ring ResolveAlarm)) = false
-asks_next (Acts (Ring alarm)) = true
-asks_next (Acts (Late Quiet)) = false
-asks_next (Acts (Late ResolveAlarm)) = false
-asks_next (Acts (Late alarm)) = true
-asks_next (Acts (Become r)) = is_candidate r
-asks_next (Acts (Back p)) = true
-asks_next _ = false
+-- whether a deed at tick x asks something of the next one, after this
+abbrev pub asks_next : Deed → ℕ → List Seen → Bool
+asks_next (Acts (Ring Probe)) x older = false
+asks_next (Acts (Ring ResolveAlarm)) x older = false
+asks_next (Acts (Ring alarm)) x older = true
+asks_next (Acts (Late Quiet)) x older = false
+asks_next (Acts (Late ResolveAlarm)) x older = false
+asks_next (Acts (Late alarm)) x older = true
+asks_next (Acts (Arm Round at)) x older = begins_round older x at
+asks_next (Acts (Arm Probe at)) x older = newest_is arms_round_by older
+asks_next (Acts (Close count lo size mean)) x older = not (is_zero mean)
+asks_next (Acts (Become r)) x older = is_candidate r
+asks_next (Acts (Back p)) x older = true
+asks_next _ x older = false
 
 -- whether the newest deed here asks something of the next one
 abbrev pub owes_next : List Seen → Bool
 owes_next [] = false
-owes_next (Here d ∷ before) = asks_next d.deed
+owes_next (Here d ∷ before) = asks_next d.deed d.tick before
 owes_next (Elsewhere d ∷ before) = false
 
 -- the next deed here is as the one before it asks

@@ -4,12 +4,12 @@ use Rattle.tsp_rules.specs.Values.{Boot, Took, Port, WINDOW}
 use Rattle.tsp_rules.specs.Guards.{is_master}
 use Rattle.tsp_base.specs.Words.{Acts, Begins, Deed, Did, Line, Seen, Here, Elsewhere, of, role, stood, view}
 use Rattle.tsp_promises.specs.{Everywhere.Everywhere, Fits.node_of}
-use Rattle.tsp_progress.specs.{AlarmsFit.Manner, AloneStands.patience}
+use Rattle.tsp_progress.specs.{AlarmsFit.Manner, AloneStands.patience, CausesFit.stirs_in}
 
--- deeds by which a port hears something: a boot, and a datagram that it takes
+-- deeds by which a port hears something: a boot, and a message of a kind that stirs
 abbrev pub is_word : Deed → Bool
 is_word (Acts Boot) = true
-is_word (Acts (Took from taken)) = true
+is_word (Acts (Took from taken)) = stirs_in taken
 is_word _ = false
 
 -- the tick of the last of them on this port; 0 before the first

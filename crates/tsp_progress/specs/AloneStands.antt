@@ -4,12 +4,12 @@ use Rattle.tsp_rules.specs.Values.{Boot, Took, Become, Port, Candidate, ELECT_MI
 use Rattle.tsp_rules.specs.CommonRows.{is_idle}
 use Rattle.tsp_base.specs.Words.{Acts, Begins, Deed, Line, Seen, Here, Elsewhere, of, role, view}
 use Rattle.tsp_promises.specs.{Everywhere.Everywhere, Fits.node_of}
-use Rattle.tsp_progress.specs.AlarmsFit.{Manner}
+use Rattle.tsp_progress.specs.{AlarmsFit.Manner, CausesFit.stirs_in}
 
--- deeds after which a port's waiting begins anew: a boot, a datagram that it takes, and that it stands for election
+-- deeds after which a port's waiting begins anew: a boot, a message of a kind that stirs, and that it stands for election
 abbrev pub is_news : Deed → Bool
 is_news (Acts Boot) = true
-is_news (Acts (Took from taken)) = true
+is_news (Acts (Took from taken)) = stirs_in taken
 is_news (Acts (Become Candidate)) = true
 is_news _ = false
 

@@ -1,14 +1,10 @@
 -- What must have come before an act on an alarm, a change of the role or a Quit.
-use Rattle.std.specs.Prelude.{◌≡◌, ◌⊎◌, Bool, true, false, if◌then◌else◌, List, [], ◌∷◌, is_some}
-use Rattle.tsp_rules.specs.Values.{Become, Arm, Ring, Late, Back, Quit, Quiet, Window, Elect, Search, Starting, Loose, Follow, Candidate, Master}
-use Rattle.tsp_base.specs.Words.{Deed, Acts, Did, Seen, Here, Elsewhere, held, role, taken}
+use Rattle.std.specs.Prelude.{◌≡◌, ◌⊎◌, Bool, true, false, if◌then◌else◌, List, [], ◌∷◌, Option, None, Some}
+use Rattle.tsp_rules.specs.Values.{Become, Arm, Ring, Late, Back, Quit, Quiet, Window, Elect, Search, Starting, Loose, Follow, Candidate, Master, Message}
+use Rattle.tsp_rules.specs.Values.{Taken, Good, Kind, AdjTime, SetTime, Election, MasterUp, MasterAck, QuitKind, Refuse, Test, LoopKind}
+use Rattle.tsp_base.specs.Words.{Deed, Acts, Did, Seen, Here, Elsewhere, Received, held, role, taken}
+pub use Rattle.tsp_progress.specs.AlarmsFit.{newest_is}
 use Rattle.tsp_progress.specs.AlarmsFit.{stands_now}
-
--- what the newest deed here is
-abbrev pub newest_is : (Deed → Bool) → List Seen → Bool
-newest_is test [] = false
-newest_is test (Here d ∷ before) = test d.deed
-newest_is test (Elsewhere d ∷ before) = false
 
 -- deeds after which Elect is armed
 abbrev pub seeks_by : Deed → Bool
@@ -52,11 +48,33 @@ backs_itself_now [] = false
 backs_itself_now (Here d ∷ before) = if backs_by d.deed then stands_now before else false
 backs_itself_now (Elsewhere d ∷ before) = false
 
--- the step has taken a datagram on this port
-abbrev pub Heard : List Seen → Type 0
-Heard seen = is_some (taken seen) ≡ true
+-- kinds of messages that may end what a port waits for: those of masters and candidates, and what asks a port to stand or to give up. What
+-- ports that search, slaves and clients send isn't among them
+abbrev pub stirs : Kind → Bool
+stirs AdjTime = true
+stirs SetTime = true
+stirs Election = true
+stirs MasterUp = true
+stirs MasterAck = true
+stirs QuitKind = true
+stirs Refuse = true
+stirs Test = true
+stirs LoopKind = true
+stirs _ = false
 
--- what a deed owes in a step that has taken nothing on this port: Quiet is armed at the boot, Search and Elect after an alarm or a change
+abbrev pub stirs_in : Taken → Bool
+stirs_in (Good (Message m)) = stirs m.kind
+stirs_in _ = false
+
+abbrev pub stirred : Option Received → Bool
+stirred None = false
+stirred (Some r) = stirs_in r.taken
+
+-- the step has taken such a message on this port
+abbrev pub Heard : List Seen → Type 0
+Heard seen = stirred (taken seen) ≡ true
+
+-- what a deed owes in a step that has taken no such message on this port: Quiet is armed at the boot, Search and Elect after an alarm or a change
 -- to Loose, Window when the port stands; the port becomes Loose, a candidate or master after an alarm, and Starting while it is; and it
 -- neither follows nor notes a QUIT
 abbrev pub Unheard : Deed → Did → List Seen → Type 0
@@ -72,7 +90,7 @@ Unheard (Acts (Become Starting)) here before = role before ≡ Starting
 Unheard (Acts (Quit p)) here before = ⊥
 Unheard _ here before = Unit {0}
 
--- each deed of this port owes that, unless its step has taken a datagram
+-- each deed of this port owes that, unless its step has taken such a message
 abbrev pub CausesFit : List Seen → Type 0
 CausesFit [] = Unit {0}
 CausesFit (Here d ∷ before) = (Heard before ⊎ Unheard d.deed d before) × CausesFit before

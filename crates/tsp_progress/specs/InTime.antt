@@ -1,6 +1,7 @@
 -- What a port that is looked at in time does in time.
 use Rattle.std.specs.Prelude.{◌≡◌, ◌≤◌, ◌⊎◌, ℕ, ◌+◌, ◌==◌, Bool, true, if◌then◌else◌, List, [], ◌∷◌, Some, is_some}
-use Rattle.tsp_rules.specs.Values.{Boot, Arm, Alarm, Quiet, Window, Elect, Search, Round, Probe, CloseAlarm, ResolveAlarm, PeerId, Starting, Loose, Follow, Candidate, Master, QUIET, WINDOW, PROBE, CLOSE, ROUND, ELECT_MIN, ELECT_SPREAD}
+use Rattle.tsp_rules.specs.Values.{Boot, Arm, Alarm, Quiet, Window, Elect, Search, Round, Probe, CloseAlarm, ResolveAlarm, PeerId, Starting, Loose, Follow}
+use Rattle.tsp_rules.specs.Values.{Candidate, Master, QUIET, WINDOW, PROBE, CLOSE, ROUND, ELECT_MIN, ELECT_SPREAD}
 use Rattle.tsp_base.specs.Words.{Deed, Acts, Did, Line, Seen, Here, Elsewhere, armed, deadline, held, is_going, role, started, stood}
 use Rattle.tsp_promises.specs.Setting.{Setting}
 use Rattle.tsp_progress.specs.Watched.{AtBegins, AtEnd}

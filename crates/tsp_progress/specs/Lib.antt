@@ -3,8 +3,10 @@ pub mod AloneLeads
 pub mod AloneStands
 pub mod CausesFit
 pub mod InTime
+pub mod Needed
 pub mod NeverLate
 pub mod Progress
+pub mod RoundsRecur
 pub mod RunsWake
 pub mod SendsEnd
 pub mod Stands

@@ -1,10 +1,13 @@
 -- A run that is looked at in time, written out, and runs that aren't.
 use Rattle.std.specs.Prelude.{◌≡◌, ℕ, pos, true, false, List, [], ◌∷◌, codes, None, Some}
-use Rattle.tsp_rules.specs.Values.{Act, Boot, Post, Become, Arm, Ring, Back, Close, Correct, Gave, Quiet, Elect, Search, Window, Round, Probe, CloseAlarm, Message, Event, BootAt, Turn, Election, MasterReq, MasterUp, Peer, Starting, Loose, Candidate, Master, SLACK}
+use Rattle.tsp_rules.specs.Values.{Act, Boot, Post, Become, Arm, Ring, Back, Close, Correct, Gave, Quiet, Elect, Search, Window, Round, Probe, CloseAlarm}
+use Rattle.tsp_rules.specs.Values.{Message, Event, BootAt, Turn, Election, MasterReq, MasterUp, Peer, Starting, Loose, Candidate, Master, SLACK}
 use Rattle.tsp_base.specs.Words.{HeaderValue, bare, peer_of as peer}
 use Rattle.tsp_run.specs.{Refusals.Valid, Run.run, Run.told, declared.line.Line.Line}
+use Rattle.tsp_promises.specs.Setting.{Setting}
+use Rattle.tsp_run.specs.Setting.{SetBy}
 use Rattle.tsp_progress.specs.InTime.{CandidatureEnds, RoundCloses, RoundRecurs, SearchEnds, StartEnds}
-use Rattle.tsp_progress.specs.{NeverLate.NeverLate, SendsEnd.SendsEnd, Watched.Attended, Watched.AtBegins}
+use Rattle.tsp_progress.specs.{NeverLate.NeverLate, SendsEnd.SendsEnd, Watched.Attended, Watched.AtBegins, Watched.Told}
 
 -- a (node 0) may be master, b (node 1) may not; neither has drift, and both wall clocks are 0
 abbrev pub one_may : HeaderValue
@@ -88,6 +91,8 @@ pub record PromptUse : Type 0 where
   pub valid : Valid one_may until_closes
   pub attended : Attended 0 (run one_may until_closes)
   pub told_is : told one_may until_closes ≡ told_until_closes
+  -- the run is told until the close
+  pub told_to : (setting : Setting) → SetBy one_may setting → Told 0 setting 638000000 0 (run one_may until_closes)
 
 -- a's Window is looked at one tick more than SLACK late
 abbrev pub late_window : List Event

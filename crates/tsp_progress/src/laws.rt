@@ -64,6 +64,16 @@ pub fn never_late()
         → NeverLate world }
 {}
 
+ghost use Rattle.tsp_progress.specs.RoundsRecur.{RoundsRecur};
+/// A master that is looked at within `SLACK` won, or began a round, at most `ROUND`, 240 s, and
+/// `late` ago; at a gateway it may wait instead for another port's round, since at most `WAIT`, 20 s,
+/// and `late`.
+pub fn rounds_recur()
+    ensures { (m : ℕ → Manner) (setting : Setting) (late : ℕ) (world : List Line)
+        → Fits setting world → Woken m world → Attended late world → late ≤ SLACK
+        → RoundsRecur late world }
+{}
+
 ghost use Rattle.tsp_progress.specs.Worked.{LateUse, PromptUse};
 /// A small run that is looked at in time, and what happens in it, and when.
 pub fn prompt_use()
@@ -113,4 +123,10 @@ pub fn runs_progress()
 /// So it does of a run by any clocks.
 pub fn clocked_runs_progress()
     ensures { ClockedRunsProgress }
+{}
+
+ghost use Rattle.tsp_progress.specs.Needed.{Needed};
+/// Each premise is needed: small histories and runs without it, of which the promise isn't so.
+pub fn needed()
+    ensures { Needed }
 {}

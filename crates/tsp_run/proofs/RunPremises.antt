@@ -25,7 +25,7 @@ before-joined : (P : Line → List Line → Type 0) (step : Step) (x : ℕ) (act
 before-joined P step x [] h e = e
 before-joined P step x (a ∷ rest) h e = (before-joined P step x rest (line_of step x a.port (Acts a.act) ∷ h) e).1
 
-before-joins : (P : Line → List Line → Type 0) (o : Option Happening) (h : List Line) → Everywhere P (joins o h) → Everywhere P h
+pub before-joins : (P : Line → List Line → Type 0) (o : Option Happening) (h : List Line) → Everywhere P (joins o h) → Everywhere P h
 before-joins P None h e = e
 before-joins P (Some s) h e = (before-joined P s.step s.tick s.acts (line_of s.step s.tick first_port Begins ∷ h) e).1
 
