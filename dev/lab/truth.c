@@ -18,7 +18,7 @@
 #define KEPT 64
 #define TRIES 100
 #define DELAY INT64_C(400000000)
-#define WRITTEN INT64_C(20000000) /* the nanoseconds in which a daemon surely has written a correction */
+#define WRITTEN INT64_C(1000000000) /* the nanoseconds in which a daemon surely has written a correction, also on a busy machine */
 #define PACE INT64_C(30000)
 #define ROOM (1 << 19)
 #define WIDEST 2000000
