@@ -163,7 +163,7 @@ def try_metrics(made, before):
     wanted(found['tsp_clock_rate_ppm'] == f'{made.daemon.rate / 1000:.3f}', f'the rate is {found["tsp_clock_rate_ppm"]}')
     wanted(found.get('tsp_clock_learned_rate_ppm') == (f'{made.look.learned / 1000:.3f}' if made.look.had else None), 'the learned rate is wrong')
     wanted(found['tsp_clock_steps_total'] == str(made.daemon.steps), 'the steps are wrong')
-    wanted(found['tsp_clock_counter_raw'] == str(int(made.daemon.counter == RAW)), 'the counter is wrong')
+    wanted(found['tsp_clock_raw'] == str(int(made.daemon.counter == RAW)), 'the counter is wrong')
 
 
 def try_offset(made, before):

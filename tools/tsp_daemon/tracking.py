@@ -203,5 +203,5 @@ def prometheus(seen):
         found.append(gauge(f'tsp_clock_{name}_ppm', text, None if value is None else f'{value / 1000:.3f}'))
     found.append(gauge('tsp_clock_steps_total', 'Steps of the clock in this life of the daemon.', daemon.steps if is_known else None, 'counter'))
     is_raw = int(daemon.counter == tsp_clock.RAW) if is_known else None
-    found.append(gauge('tsp_clock_counter_raw', 'Whether the daemon counts by CLOCK_MONOTONIC_RAW, which nobody slews.', is_raw))
+    found.append(gauge('tsp_clock_raw', 'Whether the daemon counts by CLOCK_MONOTONIC_RAW, which nobody slews.', is_raw))
     return metrics.text_of(found)
