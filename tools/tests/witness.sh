@@ -2,8 +2,8 @@
 # tsp-witness puts traces of daemons together, which are then alike and hold, and finds what was changed in them, or is missing. These traces
 # are of daemons on networks of dev/network, but for `hand` and `repeated`, which were worked out by hand.
 . "$(dirname "$0")/common.sh"
-./tsp show </dev/null || fail "the program isn't there"
-export TSP_PROGRAM=crates/tsp_cli/out/tsp_cli
+serving_program
+export TSP_PROGRAM=$program
 given=tools/tests/witness
 
 # Witnesses the traces of a folder by a hosts file; a daemon's name stands before the dash, and the starts are in the order of their numbers.
@@ -110,24 +110,28 @@ tools/tsp-witness --check --file "$out/hosts" "a=$out/launched/a" "b=$out/launch
 [ "$(cat "$out/said")" = "$(cat "$out/launched/a" "$out/launched/b" | grep -c '^[0-9]') acts alike, holds" ] && [ "$status" -eq 0 ] || fail "daemons of the launcher: $(cat "$out/said" "$out/besides")"
 grep -q ' reply ' "$out/launched/a" || fail 'the trace has no clock'
 
-# Clocks that drift fit no times without rates, and do with them.
-wants 3 '' drifting "$given/drifting" --drift 0
-tells 'the clocks fit no times within a drift of 0'
-wants 0 "$(written "$given/drifting") acts alike, holds" drifting "$given/drifting" --drift 200
+# Clocks that drift fit no times where they may not, and do else; a schedule has their rates. What contradicts each other is named.
+wants 1 "$(written "$given/drifting") acts alike, but no counters within a drift of 0 fit what was taken when" drifting "$given/drifting" --drift 0
+tells 'these contradict each other by ' ' parts in a million apart, and may be 0' '  b in turn ' ' takes "' ' posts'
 wants 0 "$(written "$given/drifting") acts alike, holds" drifting "$given/drifting"
 witness drifting "$given/drifting" --drift 200 --schedule "$out/schedule"
 rate=$(sed -n 's/^node b \(-[0-9]*\) .*/\1/p' "$out/schedule")
 [ "$rate" -le -95 ] && [ "$rate" -ge -105 ] || fail "a clock that is slow by a ten-thousandth has the rate $rate"
+status=0
+witness drifting "$given/drifting" --drift 0 --schedule "$out/schedule" 2>"$out/besides" || status=$?
+[ "$status" -eq 3 ] || fail "a schedule of clocks that fit none gives the status $status"
+grep -q 'no constant rates within a drift of 0 fit' "$out/besides" || fail "of clocks that fit no schedule it says '$(cat "$out/besides")'"
 
-# A host whose wall clock was set between two starts: what came before is judged, and it is said what isn't.
-# (its second start takes the MASTERUP that the other one posts when its window is over, so it was before that)
-before=$(sed '/ ring window$/,$d' "$given/stepped/a-1.trace" | cat - "$given/stepped/b-2.trace" | wc -l)
-wants 1 "$before acts alike, holds" stepped "$given/stepped"
+# A host whose wall clock was set between two starts, and one whose counter had a rate and that was started again: all is judged. A schedule
+# ends before that start, and an audit with it.
+wants 0 "$(written "$given/stepped") acts alike, holds" stepped "$given/stepped"
+wants 0 "$(written "$given/rated") acts alike, holds" rated "$given/rated" --drift 1000
+wants 1 "$(written "$given/stepped") acts alike, holds; the audit holds" stepped "$given/stepped" --audit
 tells 'b (start 2): its wall clock had been stepped by 500'
-
-# A host whose counter had a rate, and that was started again: likewise, and that is said.
-wants 1 '191 acts alike, holds' rated "$given/rated" --drift 1000
+wants 1 "$(written "$given/rated") acts alike, holds; the audit holds" rated "$given/rated" --drift 1000 --audit
 tells 'c (start 2): its counter was 1000000 parts in 10^9 faster than its wall clock'
+wants 1 "$(written "$given/rated") acts alike, but no counters within a drift of 100 fit what was taken when" rated "$given/rated"
+tells 'with any other counter of c all fits: its counter is beyond the drift'
 
 # A daemon changed an octet of a datagram on its way out: it is named, with what it posted. By what came all is as it should be.
 wants 1 "$(written "$given/spoiled") acts alike, holds" spoiled "$given/spoiled"
@@ -204,8 +208,12 @@ bounded() {
     timeout 30 $limited tools/tsp-witness --check --file "$given/hand.hosts" "$@" >"$out/said" 2>"$out/besides" || status=$?
     [ "$status" -eq "$wanted" ] && [ "$(wc -l <"$out/besides")" -le 10 ] && ! grep -q Traceback "$out/besides" || fail "$*: status $status, $(head -c 2000 "$out/besides")"
 }
-limited=''
-! has prlimit || limited='prlimit --as=400000000'
+# (a program that checks its own memory needs more)
+limit_memory() {
+    limited=''
+    ! has prlimit || ! prlimit "--as=$1" "$program" show </dev/null 2>"$out/told" || limited="prlimit --as=$1"
+}
+limit_memory 400000000
 hand=$given/hand
 great=99999999999999999999999999
 for line in "5 0 0 $great trace on" "$great 0 0 5 trace on" "5 0 0 5 took - ack $great x" "5 0 0 5 correct $great slew -$great" "5 0 0 5 post 5 1 ack $great a"; do
@@ -235,8 +243,7 @@ bounded 3 "a=$out/hostile" "b=$hand/b-2.trace"
 bounded 1 "a=$out/hostile" "b=$hand/b-2.trace"
 [ "$(wc -l <"$out/besides")" -eq 10 ] && grep -q '^tsp-witness: and 19[0-9]* more$' "$out/besides" || fail "of two million bad lines it says '$(tail -n 1 "$out/besides")'"
 { cat "$hand/a-1.trace"; awk 'BEGIN { for (i = 0; i < 1100000; i++) print "900 0 0 999999999 trace on" }'; } >"$out/hostile"
-limited=''
-! has prlimit || limited='prlimit --as=1500000000'
+limit_memory 1500000000
 bounded 3 "a=$out/hostile" "b=$hand/b-2.trace"
 tells 'there are more than 1000000 acts'
 rm "$out/hostile"
