@@ -47,7 +47,7 @@ change() {
     ! cmp -s "$given/$1/$2.trace" "$out/changed/$2.trace" || fail "$3 changes nothing in $2"
 }
 
-for worked in witness_times distances_worked witness_long; do
+for worked in witness_times distances_worked witness_long witness_wander; do
     PYTHONPATH=tools:dev python3 -B "tools/tests/$worked.py" "$TSP_PROGRAM" 2>"$out/told" || fail "$(cat "$out/told")"
 done
 

@@ -5,8 +5,8 @@ itself, and earlier: then these contradict each other. Times are made earlier by
 in time and now backwards, until all are kept, or until a way around is found.
 
 A counter's law has whole microseconds: over x of them it counts x, give or take the drift's share of x, rounded up. What is
-asked here is a little more: a line through the readings whose slope is off by less than the drift, by twice its square. Times that
-are then rounded to whole microseconds keep the law, whatever two of them one takes.
+asked here is a little more: a line through the readings whose slope is off by less than the drift, by twice its square, and that no
+microsecond is shorter than one. Times that are then rounded to whole microseconds keep the law, whatever two of them one takes.
 """
 import heapq
 from collections import namedtuple
@@ -30,8 +30,8 @@ def slope(drift):
 
 
 def least_of(ticks, rate):
-    """The least time that passes while a counter counts so much."""
-    return -(-ticks * PARTS * WHOLE // (WHOLE + rate))
+    """The least time that passes while a counter counts so much. (two ticks would else have one time)"""
+    return PARTS if ticks == 1 else -(-ticks * PARTS * WHOLE // (WHOLE + rate))
 
 
 def most_of(ticks, rate):

@@ -1,8 +1,7 @@
 """The judgement of a network's journals: whether each daemon did what the rules say, and whether there are counters within the drift by which all
 of it happened. Then it was a run, and it is proved that these keep the promises, as long as each counter stays within the drift."""
-from tsp_texts import schedule
 from tsp_witness import Unusable, faults, rules
-from tsp_witness.matching import Matching
+from tsp_witness.matching import LIFE, Matching
 from tsp_witness.timing import Fitting, Readings
 
 # So many datagrams may be what they are by chance, and so often it is tried whether it is these.
@@ -24,6 +23,7 @@ class Judgement:
         self.fitting, self.doubted, self.lacks, self.beyond = Fitting(self.readings, drift), [], [], []
         if self.fitting.contradiction:
             self.explain()
+        self.late = 0 if self.fitting.contradiction else self.fitting.late()
         self.notes, self.altered = faults.notes_of(network, journals, self.matching), []
         for turn in self.matching.strange:
             if self.matching.sender(turn)[0] in journals:
@@ -89,6 +89,8 @@ class Judgement:
             said += f', but no counters within a drift of {self.drift} fit what was taken when'
         elif not self.differences:
             said += ', holds'
+        if self.late:
+            said += f'; of {self.late} datagrams that were on their way for more than {LIFE // MILLION} s some promises say nothing'
         return said + (f'; not compared: {"; ".join(self.unjudged)}' if self.unjudged else '')
 
     def explained(self):

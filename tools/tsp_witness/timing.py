@@ -17,6 +17,8 @@ class Readings:
         self.ways = [(turn, [post.turn for post in ([turn.post] if turn.post else matching.choices.get(turn, []))]) for life in self.lives for turn in life.turns]
         self.ways = [way for way in self.ways if way[1]]
         needed = {turn for way in self.ways for turn in (way[0], *way[1])}
+        # (a microsecond has a bound of its own)
+        needed |= {turn for life in self.lives for pair in zip(life.turns, life.turns[1:]) if pair[1].tick - pair[0].tick == 1 for turn in pair}
         self.chains = {life: [Turn(life, 0, 0), *(turn for turn in life.turns if turn in needed or turn is life.turns[-1])] for life in self.lives}
         self.begins = self.found_begins()
         self.turns = self.ordered()
@@ -85,7 +87,8 @@ class Readings:
 
 
 class Fitting:
-    """Times that fit the datagrams. Of a datagram that may have been one of several posts, the last post is taken that leaves times that fit."""
+    """Times that fit the datagrams. Of a datagram that may have been one of several posts, the last post is taken that leaves times that fit; but none
+    from which it would have been on its way for longer than a datagram lives, if there is another."""
 
     def __init__(self, readings, drift, free=None):
         self.readings, self.times = readings, readings.times(drift, free)
@@ -121,7 +124,7 @@ class Fitting:
                 place = len(before) - 1 if before else 0
                 if is_old and len(before) < len(told) and self.time(told[len(before)]) <= here + LIFE:
                     place = len(before)
-                self.choices[turn] = told[:place]
+                self.choices[turn] = [post for post in told[:place] if here - self.time(post) <= LIFE]
                 self.take(turn, told[place])
 
     def settle(self):
@@ -150,6 +153,10 @@ class Fitting:
             made.choose()
         made.settle()
         return made
+
+    def late(self):
+        """How many datagrams were on their way for longer than a datagram lives."""
+        return sum(self.time(turn) - self.time(post) > LIFE for turn, post in self.posts.items())
 
     def lack(self):
         """By how many microseconds the bounds contradict each other."""
