@@ -71,6 +71,14 @@ class Times:
         self.before[later].remove(earlier)
         self.parent = [-1] * len(self.parent)
 
+    def move(self, places, later):
+        """Moves the times of some readings by so many parts of a microsecond."""
+        for place in places:
+            self.times[place] += later
+        self.parent = [-1] * len(self.parent)
+        for place in range(len(self.times)):
+            self.touch(place)
+
     def touch(self, place):
         """A reading's bounds are to be looked at."""
         if not self.is_forth[place]:

@@ -6,6 +6,8 @@ from tsp_witness.timing import Fitting, Readings
 
 # So many datagrams may be what they are by chance, and so often it is tried whether it is these.
 MOST_DOUBTED, MOST_TRIED = 3, 40
+# Of so many starts the first act that differs is shown.
+MOST_SHOWN = 5
 MILLION = 1_000_000
 
 
@@ -20,7 +22,7 @@ class Judgement:
         self.compare(program)
         self.matching = Matching(network, journals)
         self.readings = Readings(self.matching)
-        self.fitting, self.doubted, self.lacks, self.beyond = Fitting(self.readings, drift), [], [], []
+        self.fitting, self.doubted, self.lacks, self.beyond, self.tried = Fitting(self.readings, drift), [], [], [], 0
         if self.fitting.contradiction:
             self.explain()
         self.late = 0 if self.fitting.contradiction else self.fitting.late()
@@ -50,7 +52,6 @@ class Judgement:
 
     def explain(self):
         """Finds a datagram, a host or a few datagrams without which there are times."""
-        self.tried = 0
         if not self.doubt(self.fitting, [], [], 1):
             self.beyond = [node for node in self.fitting.hosts() if not Fitting(self.readings, self.drift, node).contradiction]
             if not self.beyond:
@@ -95,8 +96,10 @@ class Judgement:
 
     def explained(self):
         """Lines for a reader: the first acts that differ, and the datagrams that contradict each other."""
-        for life, found in self.differences:
+        for life, found in self.differences[:MOST_SHOWN]:
             yield from rules.explain(self.network, self.name(life), found.difference)
+        if len(self.differences) > MOST_SHOWN:
+            yield f'and {len(self.differences) - MOST_SHOWN} starts more'
         if self.fitting.contradiction:
             yield from self.contradiction()
 

@@ -7,6 +7,9 @@ from tsp_witness.drift import MILLION, Times
 from tsp_witness.journal import Turn
 from tsp_witness.matching import LIFE
 
+# So many microseconds apart times tell of one moment.
+NEAR = 5_000_000
+
 
 class Readings:
     """The turns whose times matter, in an order of time and of cause and effect: those in which a datagram was taken whose post is known, or that may
@@ -20,26 +23,36 @@ class Readings:
         # (a microsecond has a bound of its own)
         needed |= {turn for life in self.lives for pair in zip(life.turns, life.turns[1:]) if pair[1].tick - pair[0].tick == 1 for turn in pair}
         self.chains = {life: [Turn(life, 0, 0), *(turn for turn in life.turns if turn in needed or turn is life.turns[-1])] for life in self.lives}
+        self.groups = []
         self.begins = self.found_begins()
         self.turns = self.ordered()
         self.place = {turn: place for place, turn in enumerate(self.turns)}
+        # (the ways of each start whose posts aren't known)
+        self.open = {life: [] for life in self.lives}
+        for way in self.ways:
+            for life in {turn.life for turn in (way[0], *way[1])} if len(way[1]) > 1 else ():
+                self.open[life].append(way)
 
     def found_begins(self):
-        """Roughly the time of each start: by the first datagram of each two, and else by wall clocks."""
+        """Roughly the time of each start: by the first datagram of each two whose post is known; and of others by wall clocks, or behind the start before.
+        `groups` are the starts that such datagrams join, the largest first."""
         near, ways = {life: {} for life in self.lives}, sorted((way for way in self.ways if len(way[1]) == 1), key=lambda way: way[0].tick)
         for turn, (post,) in ways:
             near[turn.life].setdefault(post.life, turn.tick - post.tick)
             near[post.life].setdefault(turn.life, post.tick - turn.tick)
-        begins = {}
+        before, begins = {later: life for life, later in zip(self.lives, self.lives[1:]) if life.node == later.node}, {}
         for first in sorted(self.lives, key=lambda life: life.base is None):
             if first in begins:
                 continue
-            begins[first], reached = first.base or 0, [first]
-            for life in reached:
+            last = before.get(first)
+            begins[first] = first.base if first.base is not None else begins[last] + last.turns[-1].tick if last in begins else 0
+            self.groups.append([first])
+            for life in self.groups[-1]:
                 for other, later in near[life].items():
                     if other not in begins:
                         begins[other] = begins[life] + later
-                        reached.append(other)
+                        self.groups[-1].append(other)
+        self.groups.sort(key=lambda group: -sum(len(self.chains[life]) for life in group))
         return begins
 
     def rough(self, turn):
@@ -98,8 +111,7 @@ class Fitting:
                 self.take(turn, posts[0])
         self.contradiction = self.times.settle()
         if not self.contradiction:
-            self.choose()
-            self.settle()
+            self.choose_well()
 
     def take(self, turn, post):
         """The turn took what that one posted."""
@@ -113,6 +125,35 @@ class Fitting:
     def time(self, turn):
         """A turn's time so far, in microseconds."""
         return self.times.times[self.readings.place[turn]] / MILLION
+
+    def choose_well(self):
+        """Chooses posts by times that fit what is known of others, and finds times."""
+        joined = set(self.readings.groups[0])
+        for group in self.readings.groups[1:]:
+            self.move(group, joined)
+            joined.update(group)
+        self.contradiction = self.times.settle()
+        if not self.contradiction:
+            self.choose()
+            self.settle()
+
+    def move(self, group, joined):
+        """Moves starts of which no datagram tells when they were against those of which one does: so that most of what was taken may just have been posted,
+        and by as little as that leaves."""
+        group, votes = set(group), []
+        for turn, posts in [way for life in group for way in self.readings.open[life]]:
+            for post in posts:
+                if turn.life in group and post.life in joined or turn.life in joined and post.life in group:
+                    votes.append((self.time(post) - self.time(turn)) * (1 if turn.life in group else -1))
+        votes.sort()
+        best, first = None, 0
+        for last, vote in enumerate(votes):
+            while vote - votes[first] > NEAR:
+                first += 1
+            found = last - first, -abs(vote), vote
+            best = max(best or found, found)
+        if best:
+            self.times.move([self.readings.place[turn] for life in group for turn in self.readings.chains[life]], round(best[2] * MILLION))
 
     def choose(self):
         """Chooses the post of each datagram of which there may be several: the last one before it, or one that seems to come right behind."""
@@ -149,9 +190,10 @@ class Fitting:
         made = copy.copy(self)
         made.times, made.posts, made.choices = self.times.copy(), dict(self.posts), dict(self.choices)
         made.drop(turn)
-        if not made.choices and any(len(way[1]) > 1 for way in made.readings.ways) and not made.times.settle():
-            made.choose()
-        made.settle()
+        if made.choices or made.times.settle():
+            made.settle()
+        else:
+            made.choose_well()
         return made
 
     def late(self):
