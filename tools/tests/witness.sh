@@ -171,6 +171,22 @@ wants 0 "$(written "$out/changed") acts alike, holds" hand "$out/changed"
 sed -i '/ settime /d' "$out/changed/a-1.trace"
 wants 0 "$(written "$out/changed") acts alike, holds" hand "$out/changed"
 
+# A network with more hosts than a replay has room for: times are judged, and it is said whose acts aren't. A host's replay has its own networks' alone.
+{
+    cat "$given/hand.hosts"
+    i=3
+    while [ "$i" -le 100 ]; do echo "h$i 192.0.2.$i slave"; i=$((i + 1)); done
+} >"$out/hosts"
+change hand b-2 '/in the trace peer/d'
+set -- "a=$given/hand/a-1.trace" "b=$out/changed/b-2.trace"
+status=0
+tools/tsp-witness --check --file "$out/hosts" "$@" >"$out/said" 2>"$out/besides" || status=$?
+many='which has more than 63 peers'
+[ "$status" -eq 1 ] && [ "$(cat "$out/said")" = "0 acts alike, holds so far; not compared: a, $many; b, $many" ] || fail "100 hosts: $(cat "$out/said" "$out/besides")"
+sed 's/^h3 /+\nh3 /' "$out/hosts" >"$out/hosts2"
+tools/tsp-witness --check --file "$out/hosts2" "$@" >"$out/said" 2>"$out/besides" || fail "100 hosts in two networks: $(cat "$out/said" "$out/besides")"
+[ "$(cat "$out/said")" = "$(written "$given/hand") acts alike, holds" ] || fail "100 hosts in two networks: $(cat "$out/said" "$out/besides")"
+
 # A host without a trace, and a trace that begins late.
 rm -rf "$out/changed"
 cp -r "$given/three" "$out/changed"
@@ -229,6 +245,10 @@ for line in '900 0 0 18446744073709551615 trace on' '9999999 0 0 999999999 took 
     case $status in 1 | 3) ;; *) fail "'$line' ends with status $status: $(cat "$out/besides")" ;; esac
     [ "$(wc -l <"$out/besides")" -le 10 ] && ! grep -q Traceback "$out/besides" || fail "'$line': $(cat "$out/besides")"
 done
+# (as journalctl -r writes them)
+awk 'BEGIN { for (i = 104000; i > 0; i--) print i " 0 0 " i * 1000 " trace on" }' >"$out/hostile"
+bounded 3 "a=$out/hostile" "b=$hand/b-2.trace"
+tells 'there are more than 1000 starts, or the lines stand in the order of `journalctl -r`'
 { cat "$hand/a-1.trace"; printf '5 0 0 5 took - ack 5 '; head -c 3000 /dev/zero | tr '\0' x; echo; } >"$out/hostile"
 bounded 0 "a=$out/hostile" "b=$hand/b-2.trace"
 { printf 'tsp-launch: in the trace peer 0 is a'; awk 'BEGIN { for (i = 1; i < 4000000; i++) printf ", 1 bbbbbb" }'; echo; cat "$hand/a-1.trace"; } >"$out/hostile"

@@ -9,7 +9,7 @@ from tsp_witness.story import Story
 ROWS = (
     (20_000, 200_000, False, ' acts alike, holds; the audit holds'),
     (100, 200_000, False, ' acts alike, holds; the audit holds, so far as its first 100 events go'),
-    (100, 30, False, ' acts alike, holds; not compared: a (start 1) from turn 597 on, as a replay has room for 30 turns; '
+    (100, 30, False, ' acts alike, holds so far; not compared: a (start 1) from turn 597 on, as a replay has room for 30 turns; '
      'a (start 2) from turn 75 on, as a replay has room for 30 turns; b from turn 952 on, as a replay has room for 30 turns; '
      'c from turn 1108 on, as a replay has room for 30 turns; the audit holds, so far as its first 100 events go'),
     (20_000, 200_000, True, ' acts alike, and then one that differs; by the audit it is broken at event 31 that only masters correct'),

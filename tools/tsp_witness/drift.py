@@ -42,20 +42,21 @@ def most_of(ticks, rate):
 class Times:
     """Readings in an order, each with a time that it may have at first, and the bounds on their times.
 
-    `follows` has for each reading the next one of its counter and the ticks between them, or None. A free counter keeps no drift. Readings are told
-    by their places in the order; it is best if no reading stands before one that it isn't earlier than.
+    `follows` has for each reading the next one of its counter, the ticks between them, and the drift that it keeps, which is None where any time may pass;
+    or None. Readings are told by their places in the order; it is best if no reading stands before one that it isn't earlier than.
     """
 
-    def __init__(self, begin, follows, drift, free=()):
-        count, rate = len(begin), slope(drift)
+    def __init__(self, begin, follows):
+        count = len(begin)
         self.times, self.parent = [time * PARTS for time in begin], [-1] * count
         self.next, self.last = [-1] * count, [-1] * count
         self.most, self.least = [0] * count, [0] * count
         for place, following in enumerate(follows):
             if following:
-                later, ticks = following
-                self.next[place], self.last[later] = (-1 if place in free else later), place
-                self.most[place], self.least[place] = most_of(ticks, rate), 0 if place in free else least_of(ticks, rate)
+                later, ticks, drift = following
+                self.last[later] = place
+                if drift is not None:
+                    self.next[place], self.most[place], self.least[place] = later, most_of(ticks, slope(drift)), least_of(ticks, slope(drift))
         self.before = [[] for _ in range(count)]
         self.forth, self.back = list(range(count)), list(range(1 - count, 1))
         self.is_forth, self.is_back = [True] * count, [True] * count

@@ -6,6 +6,8 @@ from tsp_witness.timing import Fitting, Readings
 
 # So many datagrams may be what they are by chance, and so often it is tried whether it is these.
 MOST_DOUBTED, MOST_TRIED = 3, 40
+# How far a counter may be off that is tried as the one beyond the drift, in parts in a million; None where it may stand still, or jump.
+LOOSE = (5000, 50_000, None)
 # Of so many starts the first act that differs is shown.
 MOST_SHOWN = 5
 MILLION = 1_000_000
@@ -16,13 +18,13 @@ class Judgement:
 
     def __init__(self, program, network, journals, drift):
         self.network, self.journals, self.drift = network, journals, drift
-        self.alike, self.differences, self.unjudged = 0, [], []
+        self.alike, self.differences, self.unjudged, self.is_whole = 0, [], [], True
         if not any(journal.lives for journal in journals.values()):
             raise Unusable('there is no line of a trace')
         self.compare(program)
         self.matching = Matching(network, journals)
         self.readings = Readings(self.matching)
-        self.fitting, self.doubted, self.lacks, self.beyond, self.tried = Fitting(self.readings, drift), [], [], [], 0
+        self.fitting, self.doubted, self.lacks, self.beyond, self.tried = self.fitted(), [], [], [], 0
         if self.fitting.contradiction:
             self.explain()
         self.late = 0 if self.fitting.contradiction else self.fitting.late()
@@ -40,6 +42,7 @@ class Judgement:
         """Compares the acts of each start with those of the rules."""
         for node, journal in self.journals.items():
             if not rules.can_judge(self.network, node):
+                self.is_whole = False
                 self.unjudged.append(f'{self.network.names[node]}, which has more than {rules.MOST_PEERS} peers')
                 continue
             for life in journal.lives:
@@ -53,9 +56,17 @@ class Judgement:
     def explain(self):
         """Finds a datagram, a host or a few datagrams without which there are times."""
         if not self.doubt(self.fitting, [], [], 1):
-            self.beyond = [node for node in self.fitting.hosts() if not Fitting(self.readings, self.drift, node).contradiction]
+            self.beyond = next(filter(None, map(self.culprits, LOOSE)), [])
             if not self.beyond:
                 any(self.doubt(self.fitting, [], [], count) for count in range(2, MOST_DOUBTED + 1))
+
+    def fitted(self, node=None, loose=None):
+        """Times by the drift, where one host's counter may keep another, or none."""
+        return Fitting(self.readings, {other: loose if other == node else self.drift for other in self.journals})
+
+    def culprits(self, loose):
+        """The hosts of the contradiction with whose counter all fits if it keeps this drift, or none."""
+        return [node for node in self.fitting.hosts() if not self.fitted(node, loose).contradiction]
 
     def doubt(self, fitting, doubted, lacks, left):
         """Whether there are times without so many datagrams more."""
@@ -79,7 +90,7 @@ class Judgement:
 
     def is_well(self):
         """Whether all that was judged is as it should be."""
-        return not self.differences and not self.fitting.contradiction
+        return self.is_whole and not self.differences and not self.fitting.contradiction
 
     def text(self):
         """The verdict in a line."""
@@ -89,7 +100,7 @@ class Judgement:
         if self.fitting.contradiction:
             said += f', but no counters within a drift of {self.drift} fit what was taken when'
         elif not self.differences:
-            said += ', holds'
+            said += ', holds so far' if self.unjudged else ', holds'
         if self.late:
             said += f'; of {self.late} datagrams that were on their way for more than {LIFE // MILLION} s some promises say nothing'
         return said + (f'; not compared: {"; ".join(self.unjudged)}' if self.unjudged else '')

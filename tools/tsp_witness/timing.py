@@ -86,14 +86,13 @@ class Readings:
         known = set(found)
         return found + sorted((turn for turn in waits if turn not in known), key=self.rough)
 
-    def times(self, drift, free=None):
-        """The readings' times before anything is known of datagrams. The counters of a free host keep no drift."""
+    def times(self, drifts):
+        """The readings' times before anything is known of datagrams, by the drift that each host's counters keep, or None."""
         follows = [None] * len(self.turns)
         for chain in self.chains.values():
             for turn, later in zip(chain, chain[1:]):
-                follows[self.place[turn]] = self.place[later], later.tick - turn.tick
-        loose = {place for place, turn in enumerate(self.turns) if turn.life.node == free}
-        times = Times([self.rough(turn) for turn in self.turns], follows, drift, loose)
+                follows[self.place[turn]] = self.place[later], later.tick - turn.tick, drifts[turn.life.node]
+        times = Times([self.rough(turn) for turn in self.turns], follows)
         for last, first in self.followers():
             times.order(self.place[last], self.place[first])
         return times
@@ -103,8 +102,8 @@ class Fitting:
     """Times that fit the datagrams. Of a datagram that may have been one of several posts, the last post is taken that leaves times that fit; but none
     from which it would have been on its way for longer than a datagram lives, if there is another."""
 
-    def __init__(self, readings, drift, free=None):
-        self.readings, self.times = readings, readings.times(drift, free)
+    def __init__(self, readings, drifts):
+        self.readings, self.times = readings, readings.times(drifts)
         self.posts, self.choices = {}, {}
         for turn, posts in readings.ways:
             if len(posts) == 1:
