@@ -2,6 +2,7 @@ pub mod AloneLeadsProof
 pub mod AloneProof
 pub mod CauseLeads
 pub mod CauseNodes
+pub mod FreshProof
 pub mod InTimeProof
 pub mod NeverLateProof
 pub mod NodeKeeps

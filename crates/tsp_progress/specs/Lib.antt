@@ -2,6 +2,7 @@ pub mod AlarmsFit
 pub mod AloneLeads
 pub mod AloneStands
 pub mod CausesFit
+pub mod FreshLeads
 pub mod InTime
 pub mod Needed
 pub mod NeverLate

@@ -95,8 +95,8 @@ pub fn stands()
 
 ghost use Rattle.tsp_progress.specs.AloneStands.{AloneStands};
 /// A port of a node that may be master, if it is looked at within `SLACK`, is Loose or follows for at
-/// most 1,210 s and four times `late` after its node booted, it took a datagram or it stood for
-/// election: then it stands.
+/// most 1,210 s and four times `late` after its node booted, it took a message of a kind that stirs,
+/// or it stood for election: then it stands.
 pub fn alone_stands()
     ensures { (m : ℕ → Manner) (setting : Setting) (late : ℕ) (world : List Line)
         → Fits setting world → Woken m world → Attended late world → late ≤ SLACK
@@ -104,13 +104,21 @@ pub fn alone_stands()
 {}
 
 ghost use Rattle.tsp_progress.specs.AloneLeads.{AloneLeads};
-/// Where elections aren't strict, it is master at most `WINDOW`, 5 s, and `late` after that time,
-/// unless it takes a datagram. So a node alone leads within 1,215 s of its boot, and five times
-/// `late`.
+/// Where elections aren't strict, it is master at most 1,215 s and five times `late` after its boot or
+/// the last message of a kind that stirs.
 pub fn alone_leads()
     ensures { (m : ℕ → Manner) (setting : Setting) (late : ℕ) (world : List Line)
         → Fits setting world → Woken m world → Attended late world → late ≤ SLACK
         → AloneLeads m late world }
+{}
+
+ghost use Rattle.tsp_progress.specs.FreshLeads.{FreshLeads};
+/// If it has taken no such message since its boot, it is master at most 690 s, 11 and a half minutes,
+/// and four times `late` after the boot.
+pub fn fresh_leads()
+    ensures { (m : ℕ → Manner) (setting : Setting) (late : ℕ) (world : List Line)
+        → Fits setting world → Woken m world → Attended late world → late ≤ SLACK
+        → FreshLeads m late world }
 {}
 
 ghost use Rattle.tsp_progress.specs.Progress.{ClockedRunsProgress, RunsProgress};
