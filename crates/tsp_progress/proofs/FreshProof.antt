@@ -101,7 +101,7 @@ module _ (late : ℕ) (slack : late ≤ SLACK) (m : Manner) (may : m.may ≡ tru
   After deed = FreshIn late (held before).boot d.tick (held before).quit (stirred (taken before)) (role_after deed (role before))
       (armed_after deed (armed before)) (moves_by deed) (waits_by deed) (ends_by deed) (starts_by deed)
       (elects_by deed) (seeks_by deed) (searches_by deed) (loosens_by deed) (wins_by deed)
-          (stands_by deed || (if backs_by deed then stands_now before else false))
+      (stands_by deed || (if backs_by deed then stands_now before else false))
 
   rung : (a : Alarm) (at : ℕ) → deadline (armed before) a ≡ Some at → d.tick ≤ at + late
   rung a at e = let le = soon_before late before pace a at e in omega (arith, le, level)
@@ -116,9 +116,9 @@ module _ (late : ℕ) (slack : late ≤ SLACK) (m : Manner) (may : m.may ≡ tru
 
   in-phase : (rl : Role) (dl : Deadlines) (moved waited ended started elected sought searched loosened won stood : Bool) →
       (Before late (held before).boot d.tick rl dl moved waited elected ended stood ⊎
-          Behind late (held before).boot d.tick rl dl started elected sought searched loosened won stood) →
+      Behind late (held before).boot d.tick rl dl started elected sought searched loosened won stood) →
       FreshIn late (held before).boot d.tick (held before).quit (stirred (taken before)) rl dl moved waited ended started elected sought searched loosened won
-          stood
+      stood
   in-phase rl dl moved waited ended started elected sought searched loosened won stood p = record { heard = inv.heard; quit_is = inv.quit_is; phase = p }
 
   -- Elect that rang is followed by a candidature
@@ -162,8 +162,8 @@ module _ (late : ℕ) (slack : late ≤ SLACK) (m : Manner) (may : m.may ≡ tru
   before-act : (dl : Deadlines) → Kept dl → Before late (held before).boot (tick_of (plain before)) (role before) (armed before) (newest_is moves_by before)
       (newest_is waits_by before) (newest_is elects_by before) (newest_is ends_by before) (stands_now before || backs_itself_now before) →
       (moved waited elected stood : Bool) → (moved ≡ true → d.tick ≤ (held before).boot + (QUIET + late)) →
-          (waited ≡ true → d.tick ≤ (held before).boot + (boot_search late + late)) →
-          (elected ≡ true → d.tick ≤ (held before).boot + (boot_elect late + late)) → stood ≡ false →
+      (waited ≡ true → d.tick ≤ (held before).boot + (boot_search late + late)) →
+      (elected ≡ true → d.tick ≤ (held before).boot + (boot_elect late + late)) → stood ≡ false →
       Before late (held before).boot d.tick (role before) dl moved waited elected false stood
   before-act dl k p moved waited elected stood mv wt el st = record {
     quiet = λ at e. p.quiet at (k.quiet at e);
@@ -212,13 +212,34 @@ module _ (late : ℕ) (slack : late ≤ SLACK) (m : Manner) (may : m.may ≡ tru
   -- a change of the role that isn't yet behind a candidature
   unarmed : (rl : Role) → is_leading rl ≡ false → (moved : Bool) → (moved ≡ true → d.tick ≤ (held before).boot + (QUIET + late)) →
       Before late (held before).boot d.tick rl none_armed moved false false false false
-  unarmed rl l moved mv = record { quiet = λ at e. none e; search = λ at e. none e; elect = λ at e. none e; window = refl; leads = l; moves = mv; waits = wrong;
-      elects = wrong; ended_not = refl; stood_not = refl }
+  unarmed rl l moved mv = record {
+    quiet = λ at e. none e;
+    search = λ at e. none e;
+    elect = λ at e. none e;
+    window = refl;
+    leads = l;
+    moves = mv;
+    waits = wrong;
+    elects = wrong;
+    ended_not = refl;
+    stood_not = refl;
+  }
 
   leading : (rl : Role) → is_leading rl ≡ true → (stood : Bool) → (stood ≡ true → d.tick ≤ (held before).boot + (boot_elect late + late)) →
       Behind late (held before).boot d.tick rl none_armed false false false false false false stood
-  leading rl l stood st = record { quiet = refl; search = refl; elect = refl; window = λ at e. none e; leads = l; started_not = refl; elected_not = refl;
-      sought_not = refl; searched_not = refl; wins = wrong; stands = st }
+  leading rl l stood st = record {
+    quiet = refl;
+    search = refl;
+    elect = refl;
+    window = λ at e. none e;
+    leads = l;
+    started_not = refl;
+    elected_not = refl;
+    sought_not = refl;
+    searched_not = refl;
+    wins = wrong;
+    stands = st;
+  }
 
   becomes : (r : Role) → AfterElect m before (Acts (Become r)) → NextTo m before (Acts (Become r)) → (Heard before ⊎ Unheard (Acts (Become r)) d before) →
       After (Acts (Become r))
@@ -358,19 +379,19 @@ module _ (late : ℕ) (slack : late ≤ SLACK) (m : Manner) (may : m.may ≡ tru
   rings Quiet f = in-phase (role before) _ true false false false false false false true false false (elim inv.phase [
     | inl p ↦ let due = rung Quiet f.at f.armed_is in let le = p.quiet f.at f.armed_is in
         inl (before-act _ (record { quiet = λ at e. none e; search = λ at e. e; elect = λ at e. e; window = λ at e. e }) p true false false false
-            (λ e. omega (arith, due, le)) wrong wrong refl)
+        (λ e. omega (arith, due, le)) wrong wrong refl)
     | inr p ↦ none_some p.quiet f.armed_is
   ])
   rings Search f = in-phase (role before) _ false true false false false true false false false false (elim inv.phase [
     | inl p ↦ let due = rung Search f.at f.armed_is in let le = p.search f.at f.armed_is in
         inl (before-act _ (record { quiet = λ at e. e; search = λ at e. none e; elect = λ at e. e; window = λ at e. e }) p false true false false wrong
-            (λ e. omega (arith, due, le)) wrong refl)
+        (λ e. omega (arith, due, le)) wrong refl)
     | inr p ↦ none_some p.search f.armed_is
   ])
   rings Elect f = in-phase (role before) _ false false false false true false true true false false (elim inv.phase [
     | inl p ↦ let due = rung Elect f.at f.armed_is in let le = p.elect f.at f.armed_is in
         inl (before-act _ (record { quiet = λ at e. e; search = λ at e. e; elect = λ at e. none e; window = λ at e. e }) p false false true false wrong wrong
-            (λ e. omega (arith, due, le)) refl)
+        (λ e. omega (arith, due, le)) refl)
     | inr p ↦ none_some p.elect f.armed_is
   ])
   rings Window f = in-phase (role before) _ true false true false false false false true true false (elim inv.phase [
@@ -403,8 +424,18 @@ booted : (late : ℕ) (d : Did) (before : List Seen) → not (stirred (taken bef
 booted late d before e = record {
   heard = not-true (stirred (taken before)) e;
   quit_is = refl;
-  phase = inl (record { quiet = λ at is. none is; search = λ at is. none is; elect = λ at is. none is; window = refl; leads = refl; moves = wrong;
-      waits = wrong; elects = wrong; ended_not = refl; stood_not = refl });
+  phase = inl (record {
+    quiet = λ at is. none is;
+    search = λ at is. none is;
+    elect = λ at is. none is;
+    window = refl;
+    leads = refl;
+    moves = wrong;
+    waits = wrong;
+    elects = wrong;
+    ended_not = refl;
+    stood_not = refl;
+  });
 }
 
 -- where nothing is done
@@ -414,10 +445,31 @@ still e f = record {
   heard = e;
   quit_is = f.quit_is;
   phase = elim f.phase [
-    | inl p ↦ inl (record { quiet = p.quiet; search = p.search; elect = p.elect; window = p.window; leads = p.leads; moves = wrong; waits = wrong;
-        elects = wrong; ended_not = refl; stood_not = refl })
-    | inr p ↦ inr (record { quiet = p.quiet; search = p.search; elect = p.elect; window = p.window; leads = p.leads; started_not = refl; elected_not = refl;
-        sought_not = refl; searched_not = refl; wins = wrong; stands = wrong })
+    | inl p ↦ inl (record {
+      quiet = p.quiet;
+      search = p.search;
+      elect = p.elect;
+      window = p.window;
+      leads = p.leads;
+      moves = wrong;
+      waits = wrong;
+      elects = wrong;
+      ended_not = refl;
+      stood_not = refl;
+    })
+    | inr p ↦ inr (record {
+      quiet = p.quiet;
+      search = p.search;
+      elect = p.elect;
+      window = p.window;
+      leads = p.leads;
+      started_not = refl;
+      elected_not = refl;
+      sought_not = refl;
+      searched_not = refl;
+      wins = wrong;
+      stands = wrong;
+    })
   ];
 }
 
@@ -440,10 +492,18 @@ module _ (late : ℕ) (slack : late ≤ SLACK) (m : Manner) (may : m.may ≡ tru
     by_act (Late al) is a n f c e = never late slack m may strict d before (p.level _ is) pace (older e) al f
     by_act (Back q) is a n f c e = backs late slack m may strict d before (p.level _ is) pace (older e) q
     by_act (Quit q) is a n f c e = unheard late slack m may strict d before (p.level _ is) pace (older e) c (λ by. absurd by)
-    by_act Abandon is a n f c e = goes-on late slack m may strict d before (p.level _ is) pace (older e) _ (record { quiet = λ to k. k; search = λ to k. k;
-        elect = λ to k. k; window = λ to k. k })
-    by_act _ is a n f c e = goes-on late slack m may strict d before (p.level _ is) pace (older e) _ (record { quiet = λ to k. k; search = λ to k. k;
-        elect = λ to k. k; window = λ to k. k })
+    by_act Abandon is a n f c e = goes-on late slack m may strict d before (p.level _ is) pace (older e) _ (record {
+      quiet = λ to k. k;
+      search = λ to k. k;
+      elect = λ to k. k;
+      window = λ to k. k;
+    })
+    by_act _ is a n f c e = goes-on late slack m may strict d before (p.level _ is) pace (older e) _ (record {
+      quiet = λ to k. k;
+      search = λ to k. k;
+      elect = λ to k. k;
+      window = λ to k. k;
+    })
 
     by_deed : (deed : Deed) → d.deed ≡ deed → AfterElect m before deed → NextTo m before deed → AlarmFits deed d before →
         (Heard before ⊎ Unheard deed d before) → untouched_after deed (taken before) (untouched before) ≡ true → FreshAfter late d before deed

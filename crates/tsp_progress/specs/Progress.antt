@@ -44,7 +44,7 @@ pub record ProgressTo (m : ℕ → Manner) (late : ℕ) (setting : Setting) (t n
       setting.tick n t ≤ last_word (view q (of n world)) + (patience late + WINDOW + late)
   pub fresh_leads : (m n).may ≡ true → (m n).strict ≡ false → (q : Port) → (start : Did) (idle : List Seen) → stood (view q (of n world)) ≡ Here start ∷ idle →
       is_master (role (view q (of n world))) ≡ false → untouched (view q (of n world)) ≡ true →
-          setting.tick n t ≤ (held (view q (of n world))).boot + first_lead late
+      setting.tick n t ≤ (held (view q (of n world))).boot + first_lead late
 
 -- the run of each possible schedule that is looked at within SLACK makes progress, up to each time up to which it is told
 abbrev pub RunsProgress : Type 0

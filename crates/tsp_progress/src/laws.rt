@@ -74,10 +74,15 @@ pub fn rounds_recur()
         → RoundsRecur late world }
 {}
 
-ghost use Rattle.tsp_progress.specs.Worked.{LateUse, PromptUse};
+ghost use Rattle.tsp_progress.specs.Worked.{LateUse, PromptUse, SlowUse};
 /// A small run that is looked at in time, and what happens in it, and when.
 pub fn prompt_use()
     ensures { PromptUse }
+{}
+
+/// The slowest run to a first lead: the bound of `fresh_leads` can't be lower by two ticks.
+pub fn slow_use()
+    ensures { SlowUse }
 {}
 
 /// Small runs that are looked at one tick too late, and what isn't so of them.
