@@ -4,6 +4,7 @@ pub mod CauseLeads
 pub mod CauseNodes
 pub mod FreshProof
 pub mod InTimeProof
+pub mod LoneProof
 pub mod NeverLateProof
 pub mod NodeKeeps
 pub mod NodeWakes

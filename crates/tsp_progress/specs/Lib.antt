@@ -4,6 +4,7 @@ pub mod AloneStands
 pub mod CausesFit
 pub mod FreshLeads
 pub mod InTime
+pub mod LoneLeads
 pub mod Needed
 pub mod NeverLate
 pub mod Progress
