@@ -1,20 +1,19 @@
-/* The network's time on this host, read from the page that tsp-launch writes beside the daemon. tsp_clock(3) says what it is.
+/* The network's time on this host, read from the page that the daemon and tsp-launch write. tsp_clock(3) says what it is.
  *
  *     tsp_clock clock;
  *     tsp_time now;
  *     if (tsp_clock_open(&clock, NULL) == 0 && tsp_clock_now(&clock, &now) == TSP_SYNCHRONISED)
  *         printf("%lld to %lld\n", (long long)now.earliest, (long long)now.latest);
  *
- * Times are microseconds since 1970. A call never waits for the writer for more than some 50 milliseconds. Each thread needs a tsp_clock of
+ * Times are microseconds since 1970. A call never waits for a writer for more than some 50 milliseconds. Each thread needs a tsp_clock of
  * its own. With -std=c99 define _POSIX_C_SOURCE as 200809L first.
  *
- * The interval: the supervisor read this host's clock, a, then the master's, s, and then its own again, d. It is proved (the law looks_bound_clocks, the
- * promise Looked) that later the master's clock is ahead of this one by no less than s - d - 2 * w, and no more than s - a + 2 * w. Here w is
- * width(P, x + width(P, x)), with x for the microseconds that this host's own counter passed since a, and width(P, x) = (P * x + 999999) / 1000000 + 1. It asks
- * that s was the master's clock (nobody forged this one exchange), that both counters run wrong by P parts in a million at most (TSP_DRIFT), and that
- * neither clock is corrected meanwhile. It holds for x up to 100 seconds, and a page with a master that answers is never older than 64. Only a host
- * whose master is gone reads on (TSP_HOLDING): past 100 seconds true time is taken to be x + 2 * width(P, x), which is always enough for a P up to
- * 1000, and the law's other half bounds the clocks by true time without an end.
+ * The page has two halves. The daemon writes its own clock into one. Into the other the supervisor writes its last look at the master: it read this host's
+ * clock, a, then the master's, s, and then its own again, d. Later the master's clock is ahead of this one by no less than s - d - 2 * w, and no
+ * more than s - a + 2 * w, less what this clock was corrected by since. Here w is width(P, x + width(P, x)), with x for the microseconds that this host's
+ * own counter passed since a, and width(P, x) = (P * x + 999999) / 1000000 + 1; if x is more than 100 seconds, w is width(P, x + 2 * width(P, x)).
+ * That asks that s was the master's clock (nobody forged this one exchange), that both counters run wrong by P parts in a million at most
+ * (TSP_DRIFT), and that neither host starts again and the master isn't corrected meanwhile.
  */
 #ifndef TSP_CLOCK_H
 #define TSP_CLOCK_H
@@ -55,32 +54,57 @@ typedef struct {
     int64_t earliest; /* the master's clock, as it ran on since it was asked, is no less */
     int64_t latest;   /* and no more */
     int64_t age;      /* how long ago it was asked */
-    uint64_t life;    /* it rises with each start of the daemon */
+    uint64_t life;    /* another number at each start of the daemon */
     uint64_t steps;   /* how often the clock was stepped in this life */
     int role;         /* an enum tsp_role */
     int status;       /* an enum tsp_status */
 } tsp_time;
 
+/* What the daemon writes: its clock, and whom it follows. Ticks are the microseconds that it counts. */
+typedef struct {
+    uint64_t sequence; /* odd while the daemon writes */
+    uint64_t life;
+    uint64_t counter;     /* by which clock it counts: 4 is CLOCK_MONOTONIC_RAW, 1 is CLOCK_MONOTONIC */
+    int64_t origin;       /* what that clock read in nanoseconds at the tick behind it, */
+    uint64_t origin_tick; /* from which on the daemon counts by this rate: */
+    int64_t rate;         /* so many parts in 10^9 faster */
+    uint64_t tick;        /* when the clock was corrected last, and what it aimed at then */
+    int64_t target;
+    int64_t rest;  /* what was still to be slewed of that */
+    int64_t least; /* the least that may be shown */
+    int64_t moved; /* the sum of all corrections of this life */
+    uint64_t steps, role;
+    uint64_t master; /* the number of the peer that it follows */
+    uint64_t alive;  /* when it wrote last */
+} tsp_daemon;
+
+/* What the supervisor writes: its last look at the master. */
+typedef struct {
+    uint64_t sequence; /* odd while the supervisor writes */
+    uint64_t life;     /* of the daemon that it looked for, */
+    int64_t moved;     /* and that one's corrections until then */
+    uint64_t looked;   /* the tick at which it began to ask */
+    int64_t low, high; /* by how much the master's clock was ahead of the target */
+    uint64_t master, drift, had;
+    int64_t learned; /* by how many parts in 10^9 the daemon should count faster, as far as that is known */
+} tsp_look;
+
 /* A page as it lies in memory, of 4096 octets, little-endian. */
 typedef struct {
     uint64_t magic;
     uint32_t version, length;
-    uint64_t sequence; /* odd while the page is written */
-    uint64_t life, steps;
-    uint32_t status, role;
-    int64_t alive;  /* when it was written, in nanoseconds of CLOCK_MONOTONIC */
-    int64_t anchor; /* when the daemon's tick was 0, in the same */
-    int64_t off;    /* by how many microseconds that may be wrong */
-    int64_t rate;   /* how much faster the daemon counts, in parts in 10^9 */
-    int64_t tick;   /* a tick, in microseconds, and what the clock aimed at then */
-    int64_t target;
-    int64_t rest;   /* what was still to be slewed of that */
-    int64_t least;  /* the least that may be shown */
-    int64_t looked; /* the tick at which the master was asked, and by how much it was ahead of the target */
-    int64_t low, high;
-    int64_t drift;  /* by how many parts in a million a counter of the network may be wrong */
+    uint64_t before[6];
+    tsp_daemon daemon; /* at 64 */
+    uint64_t between[41];
+    tsp_look look; /* at 512 */
     char master[256];
 } tsp_page;
+
+/* Both halves, copied from a page. */
+typedef struct {
+    tsp_daemon daemon;
+    tsp_look look;
+} tsp_halves;
 
 typedef struct {
     const tsp_page *page;
@@ -89,19 +113,28 @@ typedef struct {
 } tsp_clock;
 
 #define TSP_PAGE_SIZE 4096
+#define TSP_VERSION 2
 #define TSP_MAGIC UINT64_C(0x6b636f6c63707374) /* "tspclock" */
-#define TSP_LASTS INT64_C(64000000000)
-#define TSP_RECKONED INT64_C(100000000) /* the microseconds for which the own ticks tell the drift by the law */
-#define TSP_LONGEST (INT64_MAX / 2000) /* the longest wait in microseconds: 146 years, as good as without an end */
+#define TSP_LASTS INT64_C(64000000)            /* the microseconds that an old look, or a daemon that writes nothing, counts for */
+#define TSP_RECKONED INT64_C(100000000)        /* the microseconds for which the own ticks tell the drift most narrowly */
+#define TSP_LONGEST (INT64_MAX / 2000)         /* the longest wait in microseconds: 146 years, as good as without an end */
+#define TSP_FARTHEST (UINT64_C(1) << 56)       /* the greatest time on a page, and the greatest tick */
+#define TSP_LAST_TICK (INT64_C(1) << 53)
 #define TSP_AT_ONCE 64
-#define TSP_TRIES 512
+#define TSP_PATIENCE INT64_C(40000000) /* the nanoseconds for which a page that is being written is read again */
 
-/* Nanoseconds of CLOCK_MONOTONIC. */
+/* Nanoseconds of a clock of the kernel. */
+static inline int64_t tsp_nanoseconds_by(uint64_t counter)
+{
+    struct timespec time = {0, 0};
+    clock_gettime((clockid_t)counter, &time);
+    return (int64_t)time.tv_sec * INT64_C(1000000000) + (int64_t)time.tv_nsec;
+}
+
+/* Nanoseconds of CLOCK_MONOTONIC, by which waits are told. */
 static inline int64_t tsp_nanoseconds(void)
 {
-    struct timespec time;
-    clock_gettime(CLOCK_MONOTONIC, &time);
-    return (int64_t)time.tv_sec * INT64_C(1000000000) + (int64_t)time.tv_nsec;
+    return tsp_nanoseconds_by(CLOCK_MONOTONIC);
 }
 
 /* The quotient, rounded down. */
@@ -123,117 +156,162 @@ static inline int64_t tsp_spread(int64_t drift, int64_t passed)
     return 2 * tsp_width(drift, passed + (passed > TSP_RECKONED ? 2 * width : width));
 }
 
-/* A field of a page that another process may write meanwhile. */
-#define TSP_OF(page, field) __atomic_load_n(&(page)->field, __ATOMIC_RELAXED)
+/* By how much a number of a page is above the least that it may be, if none is farther from 0 than the most. */
+#define TSP_ABOVE(value, most) ((uint64_t)(value) + (uint64_t)(most))
 
-/* The daemon's tick at a nanosecond. */
-static inline int64_t tsp_tick_at(const tsp_page *page, int64_t now)
+/* Whether a daemon can have written this half. (one test of all bits, since a read is to take little more than a look at the clock) */
+static inline int tsp_is_sound(const tsp_daemon *d)
 {
-    int64_t passed = tsp_floor(now - TSP_OF(page, anchor), 1000), rate = TSP_OF(page, rate), billion = INT64_C(1000000000), whole;
-    if (rate == 0)
-        return passed;
+    return d->sequence != 0 && (d->counter == 4 || d->counter == 1) && (uint64_t)d->origin >> 62 == 0 && TSP_ABOVE(d->rate, 1000000) <= 2000000
+        && d->origin_tick <= (uint64_t)TSP_LAST_TICK >> 2 && d->tick <= (uint64_t)TSP_LAST_TICK && TSP_ABOVE(d->target, TSP_FARTHEST) <= 2 * TSP_FARTHEST
+        && TSP_ABOVE(d->rest, TSP_FARTHEST) <= 2 * TSP_FARTHEST && TSP_ABOVE(d->moved, TSP_FARTHEST) <= 2 * TSP_FARTHEST;
+}
+
+/* Whether a supervisor can have written this half. */
+static inline int tsp_is_sound_look(const tsp_look *l)
+{
+    return l->drift <= 1000 && TSP_ABOVE(l->moved, TSP_FARTHEST) <= 2 * TSP_FARTHEST
+        && TSP_ABOVE(l->low, TSP_FARTHEST) <= 2 * TSP_FARTHEST && TSP_ABOVE(l->high, TSP_FARTHEST) <= 2 * TSP_FARTHEST;
+}
+
+/* The daemon's tick at a nanosecond of its clock. */
+static inline int64_t tsp_tick_at(const tsp_daemon *d, int64_t now)
+{
+    int64_t passed = tsp_floor(now - d->origin, 1000), billion = INT64_C(1000000000), whole;
+    if (d->rate == 0)
+        return (int64_t)d->origin_tick + passed;
     whole = tsp_floor(passed, billion);
-    return passed + whole * rate + tsp_floor((passed - whole * billion) * rate, billion);
+    return (int64_t)d->origin_tick + passed + whole * d->rate + tsp_floor((passed - whole * billion) * d->rate, billion);
 }
 
-/* What is still to be slewed of so many microseconds when so many ticks have passed. */
-static inline int64_t tsp_rest_after(int64_t rest, int64_t passed)
+/* What the daemon's clock aims at, at a tick. */
+static inline int64_t tsp_target_at(const tsp_daemon *d, int64_t tick)
 {
-    int64_t moved = passed > 0 ? (int64_t)((uint64_t)passed / 200) : 0;
+    return d->target + (tick - (int64_t)d->tick);
+}
+
+/* What the daemon's clock shows at a tick. */
+static inline int64_t tsp_shown_at(const tsp_daemon *d, int64_t tick)
+{
+    int64_t passed = tick - (int64_t)d->tick, moved = passed > 0 ? (int64_t)((uint64_t)passed / 200) : 0, rest = d->rest, shown;
     if (rest > 0)
-        return rest > moved ? rest - moved : 0;
-    return rest < -moved ? rest + moved : 0;
+        rest = rest > moved ? rest - moved : 0;
+    else
+        rest = rest < -moved ? rest + moved : 0;
+    shown = tsp_target_at(d, tick) - rest;
+    return shown < d->least ? d->least : shown;
 }
 
-/* The time that a page gives at a nanosecond. */
-static inline int tsp_time_of(const tsp_page *page, int64_t now, tsp_time *time)
+/* The interval at a tick, by a look at the master, and what it is worth. */
+static inline int tsp_interval_of(const tsp_halves *page, int64_t tick, tsp_time *time)
 {
-    int64_t tick = tsp_tick_at(page, now), ahead = tick - TSP_OF(page, tick), target = TSP_OF(page, target) + ahead;
-    int64_t rest = TSP_OF(page, rest), least = TSP_OF(page, least), looked = TSP_OF(page, looked), spread = 0;
-    int64_t shown = rest == 0 ? target : target - tsp_rest_after(rest, ahead), passed = tick > looked ? tick - looked : 0;
-    time->life = TSP_OF(page, life);
-    time->steps = TSP_OF(page, steps);
-    time->role = (int)TSP_OF(page, role);
-    time->status = now - TSP_OF(page, alive) > TSP_LASTS ? TSP_STALE : (int)TSP_OF(page, status);
-    if (time->role != TSP_LEADS)
-        spread = tsp_spread(TSP_OF(page, drift), passed);
-    time->shown = shown < least ? least : shown;
-    time->age = passed;
-    time->earliest = target + TSP_OF(page, low) - spread;
-    time->latest = target + TSP_OF(page, high) + spread;
-    if (time->status == TSP_STALE)
-        time->shown = 0;
-    if (time->status < TSP_SYNCHRONISED)
-        time->age = time->earliest = time->latest = 0;
-    return time->status;
+    const tsp_daemon *d = &page->daemon;
+    const tsp_look *l = &page->look;
+    int64_t target = tsp_target_at(d, tick), spread;
+    time->age = 0;
+    time->earliest = time->latest = 0;
+    if (d->role == TSP_LEADS) {
+        time->earliest = time->latest = target;
+        return TSP_SYNCHRONISED;
+    }
+    if (l->had != 1 || l->life != d->life || l->looked > (uint64_t)tick)
+        return TSP_WAITING;
+    time->age = tick - (int64_t)l->looked;
+    spread = tsp_spread((int64_t)l->drift, time->age);
+    target -= d->moved - l->moved;
+    time->earliest = target + l->low - spread;
+    time->latest = target + l->high + spread;
+    return d->role == TSP_FOLLOWS && l->master == d->master && time->age <= TSP_LASTS ? TSP_SYNCHRONISED : TSP_HOLDING;
 }
 
-/* Begins to read a page: its sequence, which is odd while it is written. */
-static inline uint64_t tsp_begin(const tsp_page *page)
+/* What is told of a page that nobody writes. */
+static inline int tsp_is_stale(const tsp_daemon *d, tsp_time *time)
 {
-    return __atomic_load_n(&page->sequence, __ATOMIC_ACQUIRE);
+    memset(time, 0, sizeof *time);
+    time->life = d->life;
+    time->steps = d->steps;
+    return TSP_STALE;
 }
 
-/* Whether a page was the same all the time since it had this sequence. */
-static inline int tsp_is_whole(const tsp_page *page, uint64_t sequence)
+/* The time that a page gives at a nanosecond of the daemon's clock. */
+static inline int tsp_time_of(const tsp_halves *page, int64_t now, tsp_time *time)
 {
-    __atomic_thread_fence(__ATOMIC_ACQUIRE);
-    return sequence % 2 == 0 && __atomic_load_n(&page->sequence, __ATOMIC_RELAXED) == sequence;
+    const tsp_daemon *d = &page->daemon;
+    int64_t tick;
+    if (now < 0 || now >> 62 != 0 || !tsp_is_sound(d) || !tsp_is_sound_look(&page->look))
+        return tsp_is_stale(d, time);
+    tick = tsp_tick_at(d, now);
+    if ((uint64_t)tick > (uint64_t)TSP_LAST_TICK || d->alive > (uint64_t)tick || (uint64_t)tick - d->alive > (uint64_t)TSP_LASTS)
+        return tsp_is_stale(d, time);
+    time->life = d->life;
+    time->steps = d->steps;
+    time->role = d->role <= TSP_LEADS ? (int)d->role : TSP_NOBODY;
+    time->shown = tsp_shown_at(d, tick);
+    return time->status = tsp_interval_of(page, tick, time);
 }
 
-/* The time now by a page; 0 where it was written meanwhile. The clock is read in between, so that the page was the one of that moment. */
-static inline int tsp_time_once(const tsp_page *page, tsp_time *time)
-{
-    uint64_t sequence = tsp_begin(page);
-    tsp_time_of(page, tsp_nanoseconds(), time);
-    return tsp_is_whole(page, sequence);
-}
+/* Copies a field of a page that another process may write meanwhile. */
+#define TSP_LOAD(half, field) (copy->half.field = __atomic_load_n(&page->half.field, __ATOMIC_RELAXED))
 
-#define TSP_LOAD(field) (copy->field = TSP_OF(page, field))
-
-/* Copies what the time follows from. (in place a page is read faster, but only once) */
-static inline void tsp_copy(tsp_page *copy, const tsp_page *page)
+/* Copies what the time follows from. */
+static inline void tsp_copy(tsp_halves *copy, const tsp_page *page)
 {
-    TSP_LOAD(life);
-    TSP_LOAD(steps);
-    TSP_LOAD(status);
-    TSP_LOAD(role);
-    TSP_LOAD(alive);
-    TSP_LOAD(anchor);
-    TSP_LOAD(rate);
-    TSP_LOAD(tick);
-    TSP_LOAD(target);
-    TSP_LOAD(rest);
-    TSP_LOAD(least);
-    TSP_LOAD(looked);
-    TSP_LOAD(low);
-    TSP_LOAD(high);
-    TSP_LOAD(drift);
+    TSP_LOAD(daemon, life);
+    TSP_LOAD(daemon, counter);
+    TSP_LOAD(daemon, origin);
+    TSP_LOAD(daemon, origin_tick);
+    TSP_LOAD(daemon, rate);
+    TSP_LOAD(daemon, tick);
+    TSP_LOAD(daemon, target);
+    TSP_LOAD(daemon, rest);
+    TSP_LOAD(daemon, least);
+    TSP_LOAD(daemon, moved);
+    TSP_LOAD(daemon, steps);
+    TSP_LOAD(daemon, role);
+    TSP_LOAD(daemon, master);
+    TSP_LOAD(daemon, alive);
+    TSP_LOAD(look, life);
+    TSP_LOAD(look, moved);
+    TSP_LOAD(look, looked);
+    TSP_LOAD(look, low);
+    TSP_LOAD(look, high);
+    TSP_LOAD(look, master);
+    TSP_LOAD(look, drift);
+    TSP_LOAD(look, had);
 }
 
 #undef TSP_LOAD
 
-/* Copies a page, and reads the clock in between; 0 where it was written meanwhile. */
-static inline int tsp_read_once(const tsp_page *page, tsp_page *copy, int64_t *now)
+/* Copies both halves, and reads the daemon's clock in between, so that the page was the one of that moment; 0 where it was written meanwhile. */
+static inline int tsp_read_once(const tsp_page *page, tsp_halves *copy, int64_t *now)
 {
-    uint64_t sequence = tsp_begin(page);
+    copy->daemon.sequence = __atomic_load_n(&page->daemon.sequence, __ATOMIC_ACQUIRE);
+    copy->look.sequence = __atomic_load_n(&page->look.sequence, __ATOMIC_ACQUIRE);
+    *now = tsp_nanoseconds_by(__atomic_load_n(&page->daemon.counter, __ATOMIC_RELAXED) == 1 ? 1 : 4);
     tsp_copy(copy, page);
-    *now = tsp_nanoseconds();
-    return tsp_is_whole(page, sequence);
+    __atomic_thread_fence(__ATOMIC_ACQUIRE);
+    return copy->daemon.sequence % 2 == 0 && copy->look.sequence % 2 == 0
+        && __atomic_load_n(&page->daemon.sequence, __ATOMIC_RELAXED) == copy->daemon.sequence
+        && __atomic_load_n(&page->look.sequence, __ATOMIC_RELAXED) == copy->look.sequence;
 }
 
 /* Copies a page, again while it is being written; 0 where that never ends, since its writer was killed then. */
-static inline int tsp_read(const tsp_page *page, tsp_page *copy, int64_t *now)
+static inline int tsp_read(const tsp_page *page, tsp_halves *copy, int64_t *now)
 {
     const struct timespec pause = {0, 50000};
+    int64_t until = 0;
     int number;
-    for (number = 0; number < TSP_TRIES; number++) {
+    for (number = 0;; number++) {
         if (tsp_read_once(page, copy, now))
             return 1;
-        if (number >= TSP_AT_ONCE)
-            nanosleep(&pause, NULL);
+        if (number < TSP_AT_ONCE)
+            continue;
+        if (until == 0)
+            until = tsp_nanoseconds() + TSP_PATIENCE;
+        else if (tsp_nanoseconds() > until)
+            return 0;
+        nanosleep(&pause, NULL);
     }
-    return 0;
 }
 
 static inline void tsp_clock_close(tsp_clock *clock)
@@ -248,10 +326,10 @@ static inline int tsp_clock_map(tsp_clock *clock)
 {
     struct stat about;
     void *map = MAP_FAILED;
-    int file = open(clock->path, O_RDONLY | O_CLOEXEC), fault;
+    int file = open(clock->path, O_RDONLY | O_CLOEXEC | O_NONBLOCK), fault;
     if (file < 0)
         return -1;
-    if (fstat(file, &about) == 0 && about.st_size >= TSP_PAGE_SIZE)
+    if (fstat(file, &about) == 0 && S_ISREG(about.st_mode) && about.st_size >= TSP_PAGE_SIZE)
         map = mmap(NULL, TSP_PAGE_SIZE, PROT_READ, MAP_SHARED, file, 0);
     else
         errno = EINVAL;
@@ -262,7 +340,7 @@ static inline int tsp_clock_map(tsp_clock *clock)
         return -1;
     tsp_clock_close(clock);
     clock->page = (const tsp_page *)map;
-    if (clock->page->magic == TSP_MAGIC && clock->page->version == 1 && clock->page->length == sizeof(tsp_page))
+    if (clock->page->magic == TSP_MAGIC && clock->page->version == TSP_VERSION && clock->page->length == TSP_PAGE_SIZE)
         return 0;
     tsp_clock_close(clock);
     errno = EINVAL;
@@ -274,7 +352,7 @@ static inline int tsp_clock_map(tsp_clock *clock)
 static inline int tsp_clock_open(tsp_clock *clock, const char *path)
 {
     const char *named = getenv("TSP_CLOCK");
-    clock->page = NULL;
+    memset(clock, 0, sizeof *clock);
     clock->path = path != NULL ? path : named != NULL && *named != '\0' ? named : TSP_CLOCK_PATH;
     clock->tried = tsp_nanoseconds();
     return tsp_clock_map(clock);
@@ -283,12 +361,12 @@ static inline int tsp_clock_open(tsp_clock *clock, const char *path)
 /* The time by the page that is mapped. */
 static inline int tsp_clock_look(const tsp_clock *clock, tsp_time *time)
 {
-    tsp_page copy;
+    tsp_halves copy, again;
     int64_t now;
-    if (clock->page != NULL && tsp_time_once(clock->page, time))
-        return time->status;
-    if (clock->page != NULL && tsp_read(clock->page, &copy, &now))
+    if (clock->page != NULL && tsp_read_once(clock->page, &copy, &now))
         return tsp_time_of(&copy, now, time);
+    if (clock->page != NULL && tsp_read(clock->page, &again, &now))
+        return tsp_time_of(&again, now, time);
     memset(time, 0, sizeof *time);
     return TSP_STALE;
 }

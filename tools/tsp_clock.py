@@ -1,4 +1,4 @@
-"""The network's time on this host, read from the page that tsp-launch writes beside the daemon.
+"""The network's time on this host, read from the page that the daemon and tsp-launch write.
 
     clock = tsp_clock.Clock()
     now = clock.now()
@@ -8,6 +8,7 @@ Times are microseconds since 1970. tsp_clock(3) says what they are.
 """
 import mmap
 import os
+import stat
 import struct
 import time
 from typing import NamedTuple, Optional
@@ -17,50 +18,60 @@ PATH = '/run/tsp/clock'
 STALE, WAITING, SYNCHRONISED, HOLDING = 0, 1, 2, 3
 NOBODY, FOLLOWS, LEADS = 0, 1, 2
 
-MAGIC, VERSION, SIZE = int.from_bytes(b'tspclock', 'little'), 1, 4096
-# Magic word, version, length, sequence; and then life, steps, status, role, alive, anchor, off, rate, tick, target, rest, least, looked, low, high,
-# drift and the master's name. All are little-endian.
-HEAD, BODY = struct.Struct('<QIIQ'), struct.Struct('<QQIIqqqqqqqqqqqq256s')
-SEQUENCE, LENGTH = 16, HEAD.size + BODY.size
-# A page that wasn't written for so many nanoseconds is stale.
-LASTS = 64_000_000_000
-# The microseconds for which the own ticks tell the drift by the law.
+MAGIC, VERSION, SIZE = int.from_bytes(b'tspclock', 'little'), 2, 4096
+# Magic word, version and length; and where the two halves begin, with their sequences. All numbers are little-endian.
+HEAD, SEQUENCE, DAEMON_AT, LOOK_AT = struct.Struct('<QII'), struct.Struct('<Q'), 64, 512
+# Whom a look was for, how far its master was ahead, and the master's name.
+DAEMON_FIELDS, LOOK_FIELDS = struct.Struct('<QQqQqQqqqqQQQQ'), struct.Struct('<QqQqqQQQq256s')
+# The clocks by which a daemon may count, by the kernel's numbers.
+COUNTERS = RAW, MONOTONIC = 4, 1
+# A look, and a daemon that writes nothing, count for so many microseconds.
+LASTS = 64_000_000
+# The microseconds for which the own ticks tell the drift most narrowly.
 RECKONED = 100_000_000
 SLEW, MILLION, BILLION = 200, 1_000_000, 1_000_000_000
-# How often a page that is being written is read again at once, and then after a pause of so many seconds.
-AT_ONCE, TRIES, PAUSE = 64, 512, 0.00005
+# How often a page that is being written is read again at once, and then for how many seconds after pauses of so many.
+AT_ONCE, PATIENCE, PAUSE = 64, 0.04, 0.00005
 NEVER = -1 << 63
+# The greatest numbers of a page: an origin's nanoseconds, ticks, times and drifts; and the greatest nanosecond of a clock.
+MOST_ORIGIN, MOST_ORIGIN_TICK, MOST_TICK, MOST_TIME, MOST_DRIFT = 1 << 62, 1 << 51, 1 << 53, 1 << 56, 1000
+MOST_NOW = 1 << 62
 
 
-class Page(NamedTuple):
-    """What a page holds. Nanoseconds are those of CLOCK_MONOTONIC, ticks the daemon's microseconds since its first reading of that clock."""
+class Daemon(NamedTuple):
+    """What the daemon writes: its clock, and whom it follows. Ticks are the microseconds that it counts."""
     life: int = 0
-    steps: int = 0
-    status: int = STALE
-    role: int = NOBODY
-    # (nanoseconds of the last write, and of tick 0, and by how many microseconds that may be wrong)
-    alive: int = 0
-    anchor: int = 0
-    off: int = 0
-    # (how much faster the daemon counts, in parts in 10^9)
+    counter: int = RAW
+    # (what that clock read in nanoseconds at the tick behind it, from which on the daemon counts so many parts in 10^9 faster)
+    origin: int = 0
+    origin_tick: int = 0
     rate: int = 0
-    # (the target at a tick, what was still to be slewed of it then, and the least that may be shown now)
+    # (when the clock was corrected last, what it aimed at then, what was still to be slewed of that, and the least that may be shown)
     tick: int = 0
     target: int = 0
     rest: int = 0
     least: int = NEVER
-    # (the tick at which the master was asked, and between which bounds it was ahead of the target)
-    looked: int = 0
-    low: int = 0
-    high: int = 0
-    # (by how many parts in a million any counter of the network may be wrong)
-    drift: int = 100
-    master: bytes = b''
+    # (the sum of all corrections of this life, and how many were steps)
+    moved: int = 0
+    steps: int = 0
+    role: int = NOBODY
+    master: int = 0
+    # (when it wrote last)
+    alive: int = 0
+
+    def is_sound(self):
+        """Whether a daemon can have written this."""
+        return (self.counter in COUNTERS and 0 <= self.origin < MOST_ORIGIN and self.origin_tick <= MOST_ORIGIN_TICK and abs(self.rate) <= MILLION
+                and self.tick <= MOST_TICK and all(abs(value) <= MOST_TIME for value in (self.target, self.rest, self.moved)))
 
     def tick_at(self, now):
-        """The daemon's tick at a nanosecond."""
-        passed = (now - self.anchor) // 1000
-        return passed + passed * self.rate // BILLION
+        """The daemon's tick at a nanosecond of its clock."""
+        passed = (now - self.origin) // 1000
+        return self.origin_tick + passed + passed * self.rate // BILLION
+
+    def is_alive(self, tick):
+        """Whether it is known at a tick that the daemon runs."""
+        return 0 <= self.alive <= tick <= MOST_TICK and tick - self.alive <= LASTS
 
     def target_at(self, tick):
         """What the daemon's clock aims at."""
@@ -70,15 +81,39 @@ class Page(NamedTuple):
         """What the daemon's clock shows."""
         moved = max(tick - self.tick, 0) // SLEW
         rest = max(self.rest - moved, 0) if self.rest > 0 else min(self.rest + moved, 0)
-        return self.target_at(tick) - rest
+        return max(self.target_at(tick) - rest, self.least)
 
-    def spread_at(self, tick):
-        """By how much the master's clock may have parted from this one since it was asked."""
-        return 0 if self.role == LEADS else spread(self.drift, max(tick - self.looked, 0))
 
-    def packed(self):
-        """The page's octets behind its sequence."""
-        return BODY.pack(*self)
+class Look(NamedTuple):
+    """What the supervisor writes: its last look at the master."""
+    # (of the daemon that it looked for, and that one's corrections until then)
+    life: int = 0
+    moved: int = 0
+    # (the tick at which it began to ask, and by how much the master's clock was ahead of the target)
+    looked: int = 0
+    low: int = 0
+    high: int = 0
+    master: int = 0
+    # (by how many parts in a million any counter of the network may be wrong, and whether there was a look)
+    drift: int = 100
+    had: int = 0
+    # (by how many parts in 10^9 the daemon should count faster, as far as that is known)
+    learned: int = 0
+    name: bytes = b''
+
+    def is_sound(self):
+        """Whether a supervisor can have written this."""
+        return self.drift <= MOST_DRIFT and all(abs(value) <= MOST_TIME for value in (self.moved, self.low, self.high))
+
+    def is_of(self, daemon, tick):
+        """Whether this is of a look for a daemon, which was before a tick."""
+        return self.had == 1 and self.life == daemon.life and self.looked <= tick
+
+
+class Page(NamedTuple):
+    """What a page holds."""
+    daemon: Daemon = Daemon()
+    look: Look = Look()
 
 
 class Now(NamedTuple):
@@ -101,27 +136,65 @@ def width(drift, passed):
 
 
 def spread(drift, passed):
-    """By how many microseconds two clocks may have parted since the own counter was so many microseconds back.
-
-    By the proved law looks_bound_clocks (the promise Looked) that is 2 * w, with w = width(P, x + width(P, x)), for x up to 100 seconds. It asks that the look was
-    answered by the master's clock (nobody forged this one exchange), that both counters keep within the drift P, and that neither clock is corrected
-    meanwhile. Past that, true time is taken to be x + 2 * width(P, x), which is always enough for a P up to 1000.
-    """
+    """By how many microseconds two clocks may have parted since the own counter was so many microseconds back: twice the width of the true time that may
+    have passed since."""
     own = width(drift, passed)
     return 2 * width(drift, passed + (2 * own if passed > RECKONED else own))
 
 
 def now_of(page, now):
-    """The time that a page gives at a nanosecond."""
-    if page.status == STALE or now - page.alive > LASTS:
-        return Now(life=page.life, steps=page.steps)
-    tick = page.tick_at(now)
-    target, shown = page.target_at(tick), max(page.shown_at(tick), page.least)
-    master = page.master.rstrip(b'\0').decode('ascii', 'replace')
-    if page.status == WAITING:
-        return Now(shown, None, None, WAITING, None, page.life, page.steps, page.role, master)
-    spread, age = page.spread_at(tick), max(tick - page.looked, 0)
-    return Now(shown, target + page.low - spread, target + page.high + spread, page.status, age, page.life, page.steps, page.role, master)
+    """The time that a page gives at a nanosecond of the daemon's clock."""
+    daemon, look = page
+    tick = daemon.tick_at(now)
+    if not 0 <= now < MOST_NOW or not daemon.is_sound() or not look.is_sound() or not daemon.is_alive(tick):
+        return Now(life=daemon.life, steps=daemon.steps)
+    role = daemon.role if daemon.role <= LEADS else NOBODY
+    said = Now(daemon.shown_at(tick), status=WAITING, life=daemon.life, steps=daemon.steps, role=role)
+    target = daemon.target_at(tick)
+    if role == LEADS:
+        name = look.name if look.is_of(daemon, tick) and not look.master else b''
+        return said._replace(earliest=target, latest=target, status=SYNCHRONISED, age=0, master=text_of(name))
+    if not look.is_of(daemon, tick):
+        return said
+    age = tick - look.looked
+    is_known = role == FOLLOWS and look.master == daemon.master and age <= LASTS
+    target, apart = target - (daemon.moved - look.moved), spread(look.drift, age)
+    return said._replace(earliest=target + look.low - apart, latest=target + look.high + apart, status=SYNCHRONISED if is_known else HOLDING, age=age,
+                         master=text_of(look.name))
+
+
+def text_of(name):
+    """A name of a page."""
+    return name.partition(b'\0')[0].decode('ascii', 'replace')
+
+
+def read_once(octets_at):
+    """The page, and the nanosecond of the daemon's clock at which it was read; None where it was written meanwhile. `octets_at` gives so many octets from
+    a place on."""
+    def sequences():
+        return [SEQUENCE.unpack(octets_at(place, SEQUENCE.size))[0] for place in (DAEMON_AT, LOOK_AT)]
+    before = sequences()
+    daemon = Daemon(*DAEMON_FIELDS.unpack(octets_at(DAEMON_AT + SEQUENCE.size, DAEMON_FIELDS.size)))
+    look = Look(*LOOK_FIELDS.unpack(octets_at(LOOK_AT + SEQUENCE.size, LOOK_FIELDS.size)))
+    now = time.clock_gettime_ns(MONOTONIC if daemon.counter == MONOTONIC else RAW)
+    if sequences() != before or any(number % 2 for number in before):
+        return None
+    return Page(daemon if before[0] else Daemon(), look), now
+
+
+def read(octets_at):
+    """The same, again while the page is being written; None where that never ends."""
+    until = None
+    for number in range(1 << 20):
+        found = read_once(octets_at)
+        if found:
+            return found
+        if number >= AT_ONCE:
+            until = until or time.monotonic() + PATIENCE
+            if time.monotonic() > until:
+                break
+            time.sleep(PAUSE)
+    return None
 
 
 class Clock:
@@ -129,31 +202,26 @@ class Clock:
 
     def __init__(self, path=None):
         self.path = path or os.environ.get('TSP_CLOCK') or PATH
-        self.map, self.sequence, self.tried = None, None, 0
+        self.map, self.tried = None, 0
         self.open()
 
     def open(self):
         """Opens the page that is at the path now."""
-        with open(self.path, 'rb') as file:
-            if os.fstat(file.fileno()).st_size < SIZE:
+        number = os.open(self.path, os.O_RDONLY | os.O_CLOEXEC | os.O_NONBLOCK)
+        try:
+            about = os.fstat(number)
+            if not stat.S_ISREG(about.st_mode) or about.st_size < SIZE:
                 raise OSError(0, 'it is no page of the network\'s time', self.path)
-            found = mmap.mmap(file.fileno(), SIZE, access=mmap.ACCESS_READ)
-        if HEAD.unpack_from(found)[:3] != (MAGIC, VERSION, LENGTH):
+            found = mmap.mmap(number, SIZE, access=mmap.ACCESS_READ)
+        finally:
+            os.close(number)
+        if HEAD.unpack_from(found) != (MAGIC, VERSION, SIZE):
             raise OSError(0, 'it is no page of the network\'s time, or one of another version', self.path)
-        self.map, self.sequence = found, memoryview(found).cast('Q')
+        self.map = found
 
     def read(self):
-        """The page, and the nanosecond at which it was read; None where it is written and never done."""
-        place = SEQUENCE // 8
-        for number in range(TRIES):
-            before = self.sequence[place]
-            if before % 2 == 0:
-                octets, now = self.map[HEAD.size:LENGTH], time.monotonic_ns()
-                if self.sequence[place] == before:
-                    return Page(*BODY.unpack(octets)), now
-            if number >= AT_ONCE:
-                time.sleep(PAUSE)
-        return None
+        """The page, and the nanosecond of the daemon's clock at which it was read; None where it is written and never done."""
+        return read(lambda place, count: self.map[place:place + count])
 
     def now(self):
         """The network's time now."""

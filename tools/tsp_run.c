@@ -39,23 +39,20 @@ __attribute__((constructor)) static void begin(void)
 /* The shown time in microseconds; where the page is written no more, it runs on. 0 where there is none. */
 static int look(int64_t *shown)
 {
-    tsp_page page;
-    tsp_time time;
-    int64_t now;
+    tsp_halves page;
+    int64_t now, tick;
     const tsp_page *at = __atomic_load_n(&led.page, __ATOMIC_ACQUIRE);
-    if (at == NULL || !tsp_read(at, &page, &now) || page.life == 0)
+    if (at == NULL || !tsp_read(at, &page, &now) || !tsp_is_sound(&page.daemon))
         return 0;
-    if (page.status == TSP_STALE || now - page.alive > TSP_LASTS) {
+    tick = tsp_tick_at(&page.daemon, now);
+    if (page.daemon.sequence == 0 || tick - (int64_t)page.daemon.alive > TSP_LASTS) {
         static int64_t tried;
-        int64_t last = __atomic_load_n(&tried, __ATOMIC_RELAXED);
-        if (now - last > INT64_C(1000000000) && __atomic_compare_exchange_n(&tried, &last, now, 0, __ATOMIC_RELAXED, __ATOMIC_RELAXED))
+        int64_t last = __atomic_load_n(&tried, __ATOMIC_RELAXED), seen = tsp_nanoseconds();
+        if (seen - last > INT64_C(1000000000) && __atomic_compare_exchange_n(&tried, &last, seen, 0, __ATOMIC_RELAXED, __ATOMIC_RELAXED))
             renew();
-        page.status = TSP_WAITING;
     }
-    page.alive = now;
-    tsp_time_of(&page, now, &time);
-    *shown = time.shown;
-    return 1;
+    *shown = tsp_shown_at(&page.daemon, tick);
+    return page.daemon.origin != 0;
 }
 
 int clock_gettime(clockid_t id, struct timespec *time)

@@ -7,6 +7,9 @@
  *   FAST_HOLD   where it is set, time stands still from the first look at a clock until the program first waits
  *   FAST_STEP   the wall clock is set by so many nanoseconds
  *   FAST_AT     when fast time has passed for so many nanoseconds
+ *   FAST_SLEW   CLOCK_MONOTONIC and the wall clock are slewed by so many parts in a million, as NTP does, and CLOCK_MONOTONIC_RAW isn't:
+ *   FAST_SLEWS  from when fast time has passed for so many nanoseconds
+ *   FAST_SLEWN  for so many nanoseconds
  *   FAST_SPOIL  a type: the first datagram of this type that is sent has the last bit of its octet 11 changed
  *
  * All programs with the same FAST_FROM, FAST_RATE and FAST_DRIFT have the same fast time, whenever they start. Receives,
@@ -51,16 +54,27 @@ static int look(long long *now)
     return 0;
 }
 
+/* By how many nanoseconds a clock that is slewed is ahead of one that isn't. */
+static long long slewed(long long passed)
+{
+    long long since = passed - setting("FAST_SLEWS", 0), length = setting("FAST_SLEWN", 0);
+    if (since <= 0)
+        return 0;
+    return (long long)((__int128)(since < length ? since : length) * setting("FAST_SLEW", 0) / MILLION);
+}
+
 int clock_gettime(clockid_t id, struct timespec *time)
 {
     long long now;
-    if (id != CLOCK_MONOTONIC && id != CLOCK_REALTIME)
+    if (id != CLOCK_MONOTONIC && id != CLOCK_REALTIME && id != CLOCK_MONOTONIC_RAW)
         return syscall(SYS_clock_gettime, id, time);
     if (look(&now))
         return -1;
     long long from = setting("FAST_FROM", 0);
     long long passed = (now - from) * setting("FAST_RATE", 1);
     passed += (long long)((__int128)passed * setting("FAST_DRIFT", 0) / MILLION);
+    if (id != CLOCK_MONOTONIC_RAW)
+        passed += slewed(passed);
     long long shown = passed + from;
     if (id == CLOCK_REALTIME)
         shown = passed + setting("FAST_WALL", 0) + (passed >= setting("FAST_AT", 0) ? setting("FAST_STEP", 0) : 0);

@@ -2,11 +2,16 @@
 import os
 import signal
 import subprocess
+import sys
+import time
 
 from lab import process
 from lab.hosts import Failed, Namespaces
 
-LAUNCH = os.path.join(os.path.dirname(os.path.dirname(os.path.dirname(os.path.realpath(__file__)))), 'tools', 'tsp-launch')
+TOOLS = os.path.join(os.path.dirname(os.path.dirname(os.path.dirname(os.path.realpath(__file__)))), 'tools')
+LAUNCH = os.path.join(TOOLS, 'tsp-launch')
+sys.path.insert(0, TOOLS)
+import tsp_clock  # noqa: E402
 
 
 class Supervised(Namespaces):
@@ -27,6 +32,11 @@ class Supervised(Namespaces):
     def page(self, daemon):
         """The path of a host's page."""
         return os.path.join(self.folder, f'{daemon.name}.page')
+
+    def now(self, daemon):
+        """The network's time on a host, by its page and its own clock. (this process isn't in fast time)"""
+        found, passed = tsp_clock.Clock(self.page(daemon)).read(), (time.monotonic_ns() - self.begun) * self.rate
+        return tsp_clock.now_of(found[0], self.begun + passed + passed * daemon.drift // 1_000_000) if found else tsp_clock.Now()
 
     def start(self, daemon):
         """Starts a host's daemon under its supervisor."""

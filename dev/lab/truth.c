@@ -6,7 +6,7 @@
  *
  * Each sample is judged a while after it was read, when all is known of the corrections before it. It writes a line for each host: its name, how many
  * readings it gave with an interval, how many of these had the master's clock outside, how many were between a correction of the master and the
- * next look at it and aren't judged, how long that took at most, how often a shown value fell, and the widths of the interval at the
+ * next look at it (of a host that leads: until it has written that) and aren't judged, how long that took at most, how often a shown value fell, and the widths of the interval at the
  * median and at 99 in 100; all times are microseconds.
  */
 #define _POSIX_C_SOURCE 200809L
@@ -16,7 +16,9 @@
 
 #define MOST_HOSTS 16
 #define KEPT 64
+#define TRIES 100
 #define DELAY INT64_C(400000000)
+#define WRITTEN INT64_C(20000000) /* the nanoseconds in which a daemon surely has written a correction */
 #define PACE INT64_C(30000)
 #define ROOM (1 << 19)
 #define WIDEST 2000000
@@ -40,12 +42,12 @@ typedef struct {
     int64_t shown;
     long readings, outside, between, falls;
     int64_t longest, begun;
-    int leads;
     unsigned *widths;
 } host;
 
 typedef struct {
     int64_t at, earliest, latest, looked;
+    int64_t changed; /* the tick of the correction before it that the page has */
     int who, master;
 } sample;
 
@@ -61,14 +63,14 @@ static void over(int number)
     is_over = 1;
 }
 
-/* A host's monotonic clock in nanoseconds, at a nanosecond of the machine's. */
+/* A host's raw clock in nanoseconds, at a nanosecond of the machine's monotonic one. */
 static int64_t own_time(const host *h, int64_t at)
 {
     int64_t passed = (at - from) * rate;
     return passed + passed / MILLION * h->drift + passed % MILLION * h->drift / MILLION + from;
 }
 
-/* The machine's nanosecond at one of a host's monotonic clock. */
+/* The machine's nanosecond at one of a host's raw clock. */
 static int64_t machine_time(const host *h, int64_t own)
 {
     return from + (int64_t)((double)(own - from) * MILLION / (MILLION + (double)h->drift) / (double)rate);
@@ -89,27 +91,27 @@ static int64_t passed_at(const host *h, int64_t tick)
     return passed;
 }
 
-/* When a daemon's tick was 0, by the first page of its life: its wall clock was set before that, or wasn't; the page's anchor is much nearer to one. */
-static int64_t first_of(const host *h, const tsp_page *page)
+/* When a daemon's tick was 0, by the first page of its life: its wall clock was set before that, or wasn't; the page's origin is much nearer to one. */
+static int64_t first_of(const host *h, const tsp_daemon *d)
 {
-    int64_t plain = page->target - h->wall + from / THOUSAND, set = plain - h->step;
-    return llabs(plain - page->anchor / THOUSAND) <= llabs(set - page->anchor / THOUSAND) ? plain : set;
+    int64_t plain = d->target - (int64_t)d->tick - h->wall + from / THOUSAND, set = plain - h->step;
+    return llabs(plain - d->origin / THOUSAND) <= llabs(set - d->origin / THOUSAND) ? plain : set;
 }
 
-/* Notes a page that differs from the last one of its host. */
-static void note(host *h, const tsp_page *page)
+/* Notes a daemon's clock that differs from the last one of its host. */
+static void note(host *h, const tsp_daemon *d)
 {
     segment *last = h->count > 0 ? &h->segments[(h->count - 1) % KEPT] : NULL;
-    if (last != NULL && last->life == page->life && last->tick == page->tick && last->target == page->target)
+    if (last != NULL && last->life == d->life && last->tick == (int64_t)d->tick && last->target == d->target)
         return;
-    if (page->tick == 0)
-        h->first = first_of(h, page);
-    h->segments[h->count % KEPT] = (segment){page->life, page->tick, page->target};
+    if (d->moved == 0 && d->steps == 0)
+        h->first = first_of(h, d);
+    h->segments[h->count % KEPT] = (segment){d->life, (int64_t)d->tick, d->target};
     h->count++;
 }
 
-/* A host's target at a moment, and when that was corrected last; 0 where it isn't known. */
-static int truth(const host *h, int64_t at, int64_t *target, int64_t *corrected)
+/* A host's target at a moment, when that was corrected last, and at which tick; 0 where it isn't known. */
+static int truth(const host *h, int64_t at, int64_t *target, int64_t *corrected, int64_t *changed)
 {
     int64_t tick = ticks_of(h, tsp_floor(own_time(h, at), THOUSAND) - h->first);
     int number;
@@ -119,6 +121,7 @@ static int truth(const host *h, int64_t at, int64_t *target, int64_t *corrected)
             return 0;
         if (s->tick <= tick) {
             *target = s->target + tick - s->tick;
+            *changed = s->tick;
             *corrected = machine_time(h, (passed_at(h, s->tick) + h->first) * THOUSAND);
             return 1;
         }
@@ -126,15 +129,21 @@ static int truth(const host *h, int64_t at, int64_t *target, int64_t *corrected)
     return 0;
 }
 
+/* Whether a host that leads hasn't written its last correction yet, which it does some microseconds after the tick from which that counts. */
+static int is_unwritten(const sample *s, int64_t corrected, int64_t changed)
+{
+    return s->who == s->master && s->changed != changed && s->at - corrected < WRITTEN;
+}
+
 /* Compares a sample with the master's clock. */
 static void judge(const sample *s)
 {
     host *h = &hosts[s->who];
-    int64_t target, corrected, width = s->latest - s->earliest;
-    if (s->master < 0 || !truth(&hosts[s->master], s->at, &target, &corrected))
+    int64_t target, corrected, changed, width = s->latest - s->earliest;
+    if (s->master < 0 || !truth(&hosts[s->master], s->at, &target, &corrected, &changed))
         return;
     /* (both are known to the microsecond) */
-    if (corrected + 2 * THOUSAND >= machine_time(h, s->looked)) {
+    if (is_unwritten(s, corrected, changed) || (s->who != s->master && corrected + 2 * THOUSAND >= machine_time(h, s->looked))) {
         h->between++;
         if (h->begun == 0)
             h->begun = s->at;
@@ -149,10 +158,10 @@ static void judge(const sample *s)
 }
 
 /* Which host's page says that it leads, or that this page names; -1 where there is none. */
-static int master_of(int who, const tsp_page *page, const char *name)
+static int master_of(int who, const tsp_time *time, const char *name)
 {
     int number;
-    if (page->role == TSP_LEADS)
+    if (time->role == TSP_LEADS)
         return who;
     for (number = 0; number < hosts_count; number++)
         if (strcmp(hosts[number].name, name) == 0)
@@ -160,28 +169,42 @@ static int master_of(int who, const tsp_page *page, const char *name)
     return -1;
 }
 
+/* Copies a host's page, and reads the machine's clock in between. */
+static int read_page(const host *h, tsp_halves *page, char *name, int64_t *at)
+{
+    int64_t own;
+    int tries;
+    for (tries = 0; tries < TRIES; tries++) {
+        uint64_t daemon = __atomic_load_n(&h->clock.page->daemon.sequence, __ATOMIC_ACQUIRE);
+        *at = tsp_nanoseconds();
+        if (!tsp_read(h->clock.page, page, &own))
+            return 0;
+        memcpy(name, h->clock.page->master, sizeof h->clock.page->master);
+        if (page->daemon.sequence == daemon && __atomic_load_n(&h->clock.page->look.sequence, __ATOMIC_ACQUIRE) == page->look.sequence)
+            return 1;
+    }
+    return 0;
+}
+
 /* Reads a host's page, and fills in a sample of it; 0 where it gives no interval. */
 static int look(int who, sample *s)
 {
     host *h = &hosts[who];
-    tsp_page page;
+    tsp_halves page;
     tsp_time time;
     char name[256];
     int64_t at;
     if (h->clock.page == NULL && tsp_clock_open(&h->clock, h->path) != 0)
         return 0;
-    if (!tsp_read(h->clock.page, &page, &at) || page.status == TSP_STALE)
+    if (!read_page(h, &page, name, &at) || tsp_time_of(&page, own_time(h, at), &time) == TSP_STALE)
         return 0;
-    memcpy(name, h->clock.page->master, sizeof name);
-    note(h, &page);
-    tsp_time_of(&page, own_time(h, at), &time);
-    h->leads = page.role == TSP_LEADS;
-    if (time.life == h->life && time.steps == h->steps && time.status != TSP_STALE)
+    note(h, &page.daemon);
+    if (time.life == h->life && time.steps == h->steps)
         h->falls += time.shown < h->shown;
     h->life = time.life;
     h->steps = time.steps;
     h->shown = time.shown;
-    *s = (sample){at, time.earliest, time.latest, own_time(h, at) - time.age * THOUSAND, who, master_of(who, &page, name)};
+    *s = (sample){at, time.earliest, time.latest, own_time(h, at) - time.age * THOUSAND, (int64_t)page.daemon.tick, who, master_of(who, &time, name)};
     return time.status == TSP_SYNCHRONISED;
 }
 

@@ -14,14 +14,14 @@ import time
 HERE = os.path.dirname(os.path.realpath(__file__))
 TOOLS = os.path.dirname(HERE)
 sys.dont_write_bytecode = True
-sys.path.insert(0, TOOLS)
+sys.path[:0] = TOOLS, HERE
 import tsp_clock  # noqa: E402
-from tsp_daemon import trace  # noqa: E402
-from tsp_daemon.anchor import Anchor  # noqa: E402
-from tsp_daemon.keeper import MAXADJ, Keeper, after_correction  # noqa: E402
-from tsp_daemon.own import Exchange  # noqa: E402
-from tsp_daemon.page import Writer  # noqa: E402
+from tsp_clock import DAEMON_AT, DAEMON_FIELDS, LOOK_AT, LOOK_FIELDS, SEQUENCE, SIZE, Daemon, Look, Page  # noqa: E402
+from tsp_daemon import page as pages, trace  # noqa: E402
+from tsp_daemon.keeper import Keeper, Listener  # noqa: E402
+from tsp_daemon.page import NoPage, PageFile, Taken  # noqa: E402
 from tsp_witness.datagram import octets_of  # noqa: E402
+import made_page  # noqa: E402
 
 PROGRAM, READER, FOLDER = sys.argv[1:4]
 COUNT, SEED = map(int, sys.argv[4:6])
@@ -76,126 +76,86 @@ def slewed(corrections, tick):
     return max(left - steps, 0) if left > 0 else min(left + steps, 0)
 
 
+def corrected(daemon, tick, moved, is_step):
+    """The daemon's half after a correction at a tick."""
+    rest = 0 if is_step else daemon.target_at(tick) - daemon.shown_at(tick) + moved
+    return daemon._replace(tick=tick, target=daemon.target_at(tick) + moved, rest=rest, moved=daemon.moved + moved, steps=daemon.steps + is_step)
+
+
 def formula():
     """The page's target and shown value are those of `replay`, at each reading and each correction, and between them those of the rules."""
     compared = 0
     while compared < COUNT:
         wall = DRAW.randint(0, 10 ** 15)
-        page, corrections = tsp_clock.Page(target=wall), []
+        daemon, corrections = Daemon(target=wall), []
         for act in acts(schedule(wall)):
             word, *said = act.text.split(' ')
             if word == 'post' and said[2] == 'reply':
-                wanted(int(said[-1]) == page.target_at(act.tick), f'the target at {act.tick} isn\'t that of replay (seed {SEED})')
+                wanted(int(said[-1]) == daemon.target_at(act.tick), f'the target at {act.tick} isn\'t that of replay (seed {SEED})')
                 compared += 1
             if word != 'correct':
                 continue
             moved, is_step, shown = int(said[0]), said[1] == 'step', int(said[2])
-            before = page.shown_at(act.tick)
+            before = daemon.shown_at(act.tick)
             wanted(is_step or shown == before, f'the clock shows {shown} at {act.tick}, and {before} by the page (seed {SEED})')
-            page = after_correction(page, act.tick, moved, is_step, shown)
+            daemon = corrected(daemon, act.tick, moved, is_step)
+            wanted(daemon.shown_at(act.tick) == shown, f'the clock shows {shown} after {act.tick}, and the page another value (seed {SEED})')
             corrections.append((act.tick, moved, is_step))
-            compared += 1 + between(page, corrections[-50:], act.tick)
+            compared += 1 + between(daemon, corrections[-50:], act.tick)
     return compared
 
 
-def between(page, corrections, tick):
+def between(daemon, corrections, tick):
     """Compares some moments after a correction, and none shows less than one before it."""
     ticks = sorted(tick + DRAW.choice([DRAW.randint(0, 400), DRAW.randint(0, 5_000_000), DRAW.randint(0, 5 * 10 ** 9)]) for _ in range(20))
-    shown = [page.shown_at(at) for at in ticks]
+    shown = [daemon.shown_at(at) for at in ticks]
     wanted(shown == sorted(shown), f'a shown value falls after {tick} (seed {SEED})')
     if len(corrections) < 50:
-        wanted(all(page.target_at(at) - show == slewed(corrections, at) for at, show in zip(ticks, shown)), f'what is to be slewed after {tick} is another (seed {SEED})')
+        wanted(all(daemon.target_at(at) - show == slewed(corrections, at) for at, show in zip(ticks, shown)), f'what is to be slewed after {tick} is another (seed {SEED})')
     return len(ticks)
 
 
 def random_page():
-    """A page as it may be, and a nanosecond."""
-    rest, role = amount(), DRAW.choice([0, 1, 2])
-    anchor, tick = DRAW.randint(0, 10 ** 16), DRAW.randint(0, 10 ** 13)
-    now = anchor + 1000 * tick + DRAW.randint(0, DRAW.choice([10 ** 9, 10 ** 13, 10 ** 16]))
-    target = DRAW.randint(-2 ** 31 * 10 ** 6, 2 ** 31 * 10 ** 6)
-    return tsp_clock.Page(
-        DRAW.randint(0, 2 ** 63), DRAW.randint(0, 99), DRAW.randint(0, 3), role, now - DRAW.randint(0, 70 * 10 ** 9), anchor, DRAW.randint(0, 99),
-        DRAW.choice([0, DRAW.randint(-10 ** 6, 10 ** 6)]), tick, target, rest, DRAW.choice([tsp_clock.NEVER, target + DRAW.randint(-9, 10 ** 6)]),
-        tick - DRAW.randint(0, 10 ** 6), DRAW.randint(-10 ** 6, 10 ** 6), DRAW.randint(-10 ** 6, 10 ** 6), DRAW.randint(0, 1000), b'name'), now
+    """A page as it may be, or with a number that it can't have, and a nanosecond."""
+    ahead = DRAW.randint(0, DRAW.choice([10 ** 6, 10 ** 10, 10 ** 13]))
+    tick, rate = DRAW.randint(0, 10 ** 13), DRAW.choice([0, 0, DRAW.randint(-10 ** 6, 10 ** 6)])
+    origin, origin_tick = DRAW.randint(0, 10 ** 18), DRAW.choice([0, DRAW.randint(0, 10 ** 13)])
+    now = max(origin + 1000 * (tick + ahead - origin_tick) + DRAW.randint(0, 999), 0)
+    at = Daemon(0, origin=origin, origin_tick=origin_tick, rate=rate).tick_at(now)
+    alive = at - DRAW.choice([0, DRAW.randint(0, 10 ** 6), DRAW.randint(0, 7 * 10 ** 7), 64_000_000, 64_000_001, -1])
+    target, life, master = DRAW.randint(-2 ** 31 * 10 ** 6, 2 ** 31 * 10 ** 6), DRAW.randint(0, 2 ** 64 - 1), DRAW.randint(0, 3)
+    daemon = Daemon(life, DRAW.choice([1, 4]), origin, origin_tick, rate, tick, target, amount(),
+                    DRAW.choice([tsp_clock.NEVER, target + ahead + DRAW.randint(-9, 10 ** 6)]), DRAW.randint(-10 ** 9, 10 ** 9), DRAW.randint(0, 99), DRAW.randint(0, 3),
+                    master, max(alive, 0))
+    looked = max(at - DRAW.choice([0, DRAW.randint(0, 10 ** 8), DRAW.randint(0, 10 ** 10), 64_000_000, 64_000_001, 100_000_000, 100_000_001, -1]), 0)
+    look = Look(DRAW.choice([life, life, life, 1]), DRAW.randint(-10 ** 9, 10 ** 9), looked, DRAW.randint(-10 ** 6, 10 ** 6), DRAW.randint(-10 ** 6, 10 ** 6),
+                DRAW.choice([master, DRAW.randint(0, 3)]), DRAW.randint(0, 1000), DRAW.choice([1, 1, 1, 0, 2]), DRAW.randint(-10 ** 6, 10 ** 6), b'name')
+    if DRAW.random() < 0.2:
+        daemon = daemon._replace(**DRAW.choice([
+            {'counter': DRAW.randint(0, 9)}, {'origin': DRAW.choice([-1, 2 ** 62 - 1, 2 ** 62])}, {'rate': DRAW.choice([10 ** 6 + 1, -10 ** 6 - 1, -2 ** 63])},
+            {'tick': 2 ** 53 + DRAW.randint(0, 1)}, {'target': DRAW.choice([-1, 1]) * (2 ** 56 + DRAW.randint(0, 1))}, {'rest': 2 ** 56 + DRAW.randint(0, 1)},
+            {'moved': -2 ** 63}, {'alive': 2 ** 64 - 1}, {'origin_tick': 2 ** 51 + DRAW.randint(0, 1)}]))
+        look = look._replace(**DRAW.choice([{'moved': 2 ** 56 + DRAW.randint(0, 1)}, {'low': -2 ** 63}, {'high': 2 ** 63 - 1}, {'drift': 1001}, {'looked': 2 ** 64 - 1}]))
+    return Page(daemon, look), now
 
 
 def in_c():
     """The header's times are those of the module."""
-    pages = [random_page() for _ in range(max(COUNT // 10, 1000))]
-    path = os.path.join(FOLDER, 'pages')
+    made = [random_page() for _ in range(max(COUNT // 10, 1000))]
+    path, length = os.path.join(FOLDER, 'pages'), LOOK_AT + SEQUENCE.size + LOOK_FIELDS.size
     with open(path, 'wb') as file:
-        for page, now in pages:
-            file.write(tsp_clock.HEAD.pack(tsp_clock.MAGIC, 1, tsp_clock.LENGTH, 0) + page.packed() + struct.pack('<q', now))
+        for page, now in made:
+            file.write(made_page.octets(page)[:length] + struct.pack('<q', now))
     ran = subprocess.run([READER, 'times', path], stdout=subprocess.PIPE, check=True)
-    told = ran.stdout.decode().splitlines()
-    wanted(len(told) == len(pages), f'{len(told)} of {len(pages)} pages are read')
-    for (page, now), line in zip(pages, told):
+    told, statuses = ran.stdout.decode().splitlines(), [0] * 4
+    wanted(len(told) == len(made), f'{len(told)} of {len(made)} pages are read')
+    for (page, now), line in zip(made, told):
         found = tsp_clock.now_of(page, now)
-        values = [found.status, *(value or 0 for value in (found.shown, found.earliest, found.latest, found.age))]
+        values = [found.status, *(value or 0 for value in (found.shown, found.earliest, found.latest, found.age)), found.role]
         wanted(line == ' '.join(map(str, values)), f'{page} at {now} is {line} in C, and {values} in Python (seed {SEED})')
-    return len(pages)
-
-
-def anchors():
-    """The first reading is found from questions, whatever the counter's rate."""
-    for _ in range(2000):
-        rate, first, off = DRAW.choice([0, DRAW.randint(-10 ** 6, 10 ** 6)]), DRAW.randint(0, 10 ** 12), 0
-        anchor = Anchor(rate)
-        for _ in range(20):
-            passed = DRAW.randint(0, DRAW.choice([10 ** 6, 10 ** 12]))
-            sent = (first + passed) * 1000 + DRAW.randint(0, 999) - DRAW.randint(0, 10 ** 6)
-            got = (first + passed) * 1000 + DRAW.randint(0, 999) + DRAW.randint(0, 10 ** 6)
-            anchor.add(min(sent, got), max(sent, got), passed + passed * rate // 10 ** 9)
-        place, off = anchor.place()
-        wanted(abs(place - first * 1000) <= off * 1000, f'the first reading is {first}, and {place} +/- {off} is found, at rate {rate} (seed {SEED})')
-
-
-class Still:
-    """A loop in which no time passes, and nothing comes."""
-
-    def __getattr__(self, name):
-        return lambda *_: 0
-
-
-def missed():
-    """Corrections while the trace is off: a look finds them by what the daemon answers. A small one is slewed from then on, the page doesn't fall, and it
-    shows what the daemon does once that is over; the next one that is traced makes both the same at once. A great one is a step."""
-    writer, wall = Writer(os.path.join(FOLDER, 'missed')), 10 ** 15
-    keeper = Keeper(Still(), writer, ('127.0.0.1', 9), [('127.0.0.1', 9)], ['a', 'b'], 100)
-    begun = time.monotonic_ns() // 1000
-    keeper.page, keeper.is_placed = keeper.page._replace(life=2, anchor=begun * 1000, target=wall, tick=0), True
-    tick, clock, amount = 1_000_000, [], DRAW.choice([-1, 1]) * 15_000
-    clock.append((tick, amount, False))
-
-    def reading(at):
-        return wall + at + sum(moved for _, moved, _ in clock)
-
-    def shown(at):
-        return reading(at) - slewed(clock, at)
-
-    seen = tick + 800_000
-    before = keeper.page.shown_at(seen)
-    keeper.compared(Exchange(0, 0, seen, reading(seen)))
-    page = keeper.page
-    wanted(page.shown_at(seen) == before and page.target_at(seen) == reading(seen), f'a correction of {amount} us that was missed isn\'t slewed')
-    wanted(abs(page.shown_at(seen) - shown(seen)) <= 800_000 // 200, 'the page shows something else after a correction that was missed')
-    over = seen + 200 * abs(amount) + 200
-    wanted(page.shown_at(over) == shown(over) == reading(over), 'the page shows something else when a correction that was missed is slewed')
-    keeper.compared(Exchange(0, 0, seen + 100_000, reading(seen + 100_000)))
-    wanted((keeper.page.tick, keeper.page.target, keeper.page.rest) == (page.tick, page.target, page.rest), 'a correction that was missed is found twice')
-    # (the next one comes meanwhile, and is traced)
-    at = tick + 1_500_000
-    value = shown(at)
-    clock.append((at, -4000, False))
-    keeper.corrected(at, -4000, 'slew', value)
-    wanted(all(keeper.page.target_at(tick) == reading(tick) and keeper.page.shown_at(tick) == shown(tick) for tick in range(at, over, 9999)),
-           'the page shows something else after the next correction')
-    steps, at = keeper.page.steps, over + 1
-    clock.append((at, MAXADJ + 1, True))
-    keeper.compared(Exchange(0, 0, at + 5, reading(at + 5)))
-    wanted(keeper.page.steps == steps + 1 and keeper.page.shown_at(at + 9) == reading(at + 9), 'a step that was missed isn\'t one')
-    writer.close()
+        statuses[found.status] += 1
+    wanted(all(count > len(made) // 50 for count in statuses), f'of the four statuses there are {statuses}')
+    return len(made)
 
 
 def reckoned():
@@ -214,17 +174,17 @@ def reckoned():
 
 
 def torn():
-    """Pages that are read while they are written are whole, and those that nobody goes on writing end in status 0."""
+    """Pages that are read while both halves are written are whole, and those that nobody goes on writing end in status 0."""
     path = os.path.join(FOLDER, 'page')
+    made_page.write(path, Page())
     writing = os.fork()
     if writing == 0:
-        writer, number = Writer(path), 0
+        number = 1 << 40
         while True:
             number += 1
-            writer.write(tsp_clock.Page(number, number, 2, tsp_clock.LEADS, 0, number, 0, number, number, -number, number, 0, number, -number, number, number))
+            made_page.change(path, daemon=Daemon(number, 4, number, number, number, number, -number, number, number, number, number, 1, number, number), piece=8)
+            made_page.change(path, look=Look(number, number, number, -number, number, number, number, 1, number), piece=8)
     try:
-        while not os.path.exists(path) or os.path.getsize(path) < tsp_clock.SIZE:
-            time.sleep(0.01)
         time.sleep(0.2)
         told = subprocess.run([READER, 'torn', path, str(COUNT)], stdout=subprocess.PIPE, check=False).stdout.decode().strip()
         words = told.split()
@@ -232,51 +192,217 @@ def torn():
     finally:
         os.kill(writing, signal.SIGKILL)
         os.waitpid(writing, 0)
-    dead(path)
+    dead()
     return told
 
 
-def dead(path):
-    """A writer that was killed between the two numbers of the lock, and one that was killed a while ago."""
-    writer = Writer(path)
-    writer.write(tsp_clock.Page(1, 0, 2, 2, target=7))
-    wanted(tsp_clock.Clock(path).now().status == tsp_clock.SYNCHRONISED, 'a page that was just written isn\'t taken')
-    writer.words[tsp_clock.SEQUENCE // 8] += 1
+def statuses(path, status, text):
+    """Wants a status of a page, by the module and in C, within 50 ms or so."""
     begun = time.monotonic()
-    wanted(tsp_clock.Clock(path).now().status == tsp_clock.STALE, 'a page that is being written for ever has a status')
-    wanted(time.monotonic() - begun < 1, 'a reader hangs')
-    status, taken = map(int, subprocess.run([READER, 'now', path], stdout=subprocess.PIPE, check=True).stdout.split())
-    wanted(status == tsp_clock.STALE and taken < 1_000_000, f'in C it has status {status}, after {taken} us')
-    writer.words[tsp_clock.SEQUENCE // 8] += 1
-    writer.map[tsp_clock.HEAD.size:tsp_clock.LENGTH] = writer.last._replace(alive=time.monotonic_ns() - 65 * 10 ** 9).packed()
-    wanted(tsp_clock.Clock(path).now().status == tsp_clock.STALE, 'a page that nobody writes any more has a status')
-    wanted(subprocess.run([READER, 'now', path], stdout=subprocess.PIPE, check=True).stdout.split()[0] == b'0', 'in C it has one')
+    wanted(tsp_clock.Clock(path).now().status == status, f'{text} has another status than {status}')
+    wanted(time.monotonic() - begun < 0.2, f'{text} takes {time.monotonic() - begun:.3f} s to read')
+    found, taken = map(int, subprocess.run([READER, 'now', path], stdout=subprocess.PIPE, check=True).stdout.split())
+    wanted(found == status and taken < 200_000, f'{text} has status {found} in C, after {taken} us')
+
+
+def dead():
+    """A writer that was killed between the two numbers of its lock, and a daemon that wrote last a while ago, or that will."""
+    path = os.path.join(FOLDER, 'dead')
+    leads = made_page.leading(10 ** 15)
+    made_page.write(path, leads)
+    statuses(path, tsp_clock.SYNCHRONISED, 'a page that was just written')
+    for place in DAEMON_AT, LOOK_AT:
+        made_page.write(path, leads)
+        with open(path, 'r+b') as file:
+            os.pwrite(file.fileno(), SEQUENCE.pack(7), place)
+        statuses(path, tsp_clock.STALE, 'a half that is being written for ever')
+    for ago, status in ((63_000_000, tsp_clock.SYNCHRONISED), (65_000_000, tsp_clock.STALE), (-2_000_000, tsp_clock.STALE)):
+        daemon = leads.daemon
+        made_page.write(path, leads._replace(daemon=daemon._replace(alive=daemon.tick_at(time.clock_gettime_ns(tsp_clock.RAW)) - ago)))
+        statuses(path, status, f'a daemon that wrote {ago} us ago')
 
 
 def other():
-    """A page of another version takes the place of one that is read: it has no time, however often it is asked."""
+    """A page of another version takes the place of one that is read: it has no time, however often it is asked. A reader doesn't wait for a named pipe."""
     path = os.path.join(FOLDER, 'other')
-    writer = Writer(path)
-    writer.write(tsp_clock.Page(1, 0, 2, 2, target=7))
+    made_page.write(path, made_page.leading(10 ** 15))
     clock = tsp_clock.Clock(path)
     wanted(clock.now().status == tsp_clock.SYNCHRONISED, 'a page that was just written isn\'t taken')
-    writer.close()
+    daemon = clock.read()[0].daemon
+    made_page.write(path + '.new', Page(daemon._replace(alive=0)))
     os.rename(path, path + '.old')
-    page = tsp_clock.HEAD.pack(tsp_clock.MAGIC, 2, tsp_clock.LENGTH, 0) + tsp_clock.Page(1, 0, 2, 2, time.monotonic_ns()).packed()
+    with open(path + '.old', 'r+b') as file:
+        os.pwrite(file.fileno(), SEQUENCE.pack(0), DAEMON_AT)
     with open(path, 'wb') as file:
-        file.write(page.ljust(tsp_clock.SIZE, b'\0'))
+        file.write(tsp_clock.HEAD.pack(tsp_clock.MAGIC, 1, 424).ljust(SIZE, b'\0'))
     for _ in range(3):
         clock.tried = 0
         wanted(clock.now().status == tsp_clock.STALE, 'a page of another version has a status')
+    pipe = os.path.join(FOLDER, 'pipe')
+    os.mkfifo(pipe)
+    for opens in (lambda: tsp_clock.Clock(pipe), lambda: tsp_clock.Clock(path)):
+        try:
+            opens()
+            wanted(False, 'what is no page is opened')
+        except OSError as fault:
+            wanted('no page' in str(fault), f'it says {fault}')
+    for each in pipe, path:
+        wanted(subprocess.run([READER, 'now', each], stdout=subprocess.PIPE, check=False, timeout=5).returncode == 3, 'in C it is opened')
+
+
+class Still:
+    """A loop in which no time passes, and nothing comes."""
+
+    def __getattr__(self, name):
+        return lambda *_: 0
+
+
+class Asked:
+    """Questions that are answered at once, by a master whose clock is ahead by so much, and whom it names."""
+
+    def __init__(self, page, ahead, names):
+        self.page, self.ahead, self.names, self.between, self.other = page, ahead, names, None, ()
+
+    @staticmethod
+    def now():
+        return time.clock_gettime_ns(tsp_clock.RAW)
+
+    def stop(self):
+        pass
+
+    def ask(self, _, heard):
+        daemon = self.page.page().daemon
+        sent = self.now()
+        reading = daemon.target_at(daemon.tick_at(self.now())) + self.ahead
+        heard(reading, sent, self.now())
+
+    def ask_master(self, address, heard):
+        if address[1] == 9:
+            heard(*self.other)
+            return
+        if self.between:
+            self.between()
+        heard(*self.names)
+
+
+def looks():
+    """A look counts if whoever was asked is the master still, by its own words, and if the daemon's clock and its master are those of the look."""
+    path = os.path.join(FOLDER, 'looked')
+    page = PageFile(path)
+    page.keep()
+    told = []
+    listener = Listener()
+    listener.other_leads = lambda *names: told.append(names)
+    keeper = Keeper(Still(), page, [[('127.0.0.1', 9), ('127.0.0.1', 10)], [('127.0.0.1', 9)]], ['a', 'b', 'c', 'd'], 50, listener)
+    follows = made_page.following(10 ** 15, 2)
+    ahead = 5000
+
+    def seen(names, between=None, daemon=follows.daemon):
+        made_page.change(path, daemon=daemon)
+        page.write(Look())
+        keeper.stamps = Asked(page, ahead, names)
+        keeper.stamps.between = between
+        keeper.look()
+        return page.page().look
+
+    for names, text in (((), 'nobody answers'), (('',), 'it names nobody'), (('b',), 'it names another one'), (('a',), 'it names this host')):
+        wanted(seen(names).had == 0, f'a look counts though {text}')
+    look = seen(('c',))
+    wanted(look.had == 1 and look.low <= ahead <= look.high and look.high - look.low < 10 ** 5 and look.master == 2 and look.drift == 50, f'the look is {look}')
+    wanted(tsp_clock.now_of(*page.read()).status == tsp_clock.SYNCHRONISED, 'after a look the page isn\'t synchronised')
+    for change in ({'moved': 1}, {'master': 1}, {'life': 5}, {'role': tsp_clock.NOBODY}, {'rate': 7}):
+        found = seen(('c',), lambda change=change: made_page.change(path, daemon=follows.daemon._replace(**change)))
+        wanted(found.had == 0, f'a look counts though meanwhile there is {change}')
+    wanted(seen(('c',), daemon=follows.daemon._replace(moved=0, steps=0, tick=1)).had == 0, 'a daemon that was never corrected looks')
+    # (another one leads, on the master's network, where the master doesn't)
+    wanted(not told, f'it tells of {told}')
+    made_page.change(path, daemon=follows.daemon)
+    keeper.seen = follows.daemon
+    for names, other, wants in (((), ('b',), [('c', 'b')]), ((), ('c',), []), ((), ('',), []), (('b',), ('b',), [('c', 'b')]), (('c',), ('b',), []), ((), ('d',), [])):
+        told.clear()
+        keeper.stamps = Asked(page, ahead, names)
+        keeper.stamps.other = other
+        keeper.look()
+        wanted(told == wants, f'where the master names {names} and another host {other} it tells of {told}')
+    # (a correction since the look shifts the interval)
+    seen(('c',))
+    before = tsp_clock.now_of(*page.read())
+    made_page.change(path, daemon=corrected(follows.daemon, follows.daemon.tick_at(Asked.now()), 3000, False))
+    after = tsp_clock.now_of(*page.read())
+    wanted(abs(after.latest - before.latest) < 10 ** 6 and after.status == tsp_clock.SYNCHRONISED, f'a correction makes {after} of {before}')
+    leads = seen((), daemon=follows.daemon._replace(role=tsp_clock.LEADS, master=0))
+    wanted((leads.had, leads.low, leads.high, leads.master, leads.name.rstrip(b'\0')) == (1, 0, 0, 0, b'a'), f'a leader\'s look is {leads}')
+    page.close()
+
+
+def refused(kind, path):
+    """Wants a fault of this kind, and says what it is."""
+    try:
+        PageFile(path).close()
+    except kind as fault:
+        return fault
+    raise SystemExit(f'clock: {path} is taken for a page')
+
+
+def files():
+    """The page's file: what may become one, who may keep it, and what becomes of one that is removed."""
+    folder = os.path.join(FOLDER, 'files')
+    os.mkdir(folder)
+    path, mine = os.path.join(folder, 'clock'), os.path.join(folder, 'mine')
+    with open(mine, 'wb') as file:
+        file.write(b'something of mine')
+    os.chmod(mine, 0o600)
+    os.symlink(mine, path)
+    refused(OSError, path)
+    os.unlink(path)
+    refused(NoPage, mine)
+    with open(mine, 'rb') as file:
+        wanted(file.read() == b'something of mine' and os.stat(mine).st_mode & 0o777 == 0o600, 'a file that is no page was changed')
+    os.mkfifo(path)
+    refused(OSError, path)
+    os.unlink(path)
+    refused(OSError, '/dev/null')
+    for each in os.listdir(folder):
+        if each != 'mine':
+            os.unlink(os.path.join(folder, each))
+    page = PageFile(path)
+    wanted(os.stat(path).st_mode & 0o777 == 0o644 and os.stat(path + pages.LOCK).st_mode & 0o777 == 0o600, 'the page or its lock has another mode')
+    refused(Taken, path)
+    wanted(page.mend() is None, 'a page in its place is put back')
+    for remove in (lambda: os.unlink(path), lambda: os.rename(path, path + '.away'), lambda: (os.unlink(path), open(path, 'wb').close())):
+        inode = os.stat(path).st_ino
+        remove()
+        wanted(page.mend() and os.stat(path).st_ino == inode, 'a page that was removed isn\'t put back')
+    os.unlink(path)
+    os.unlink(path + pages.KEPT)
+    try:
+        page.mend()
+        wanted(False, 'a page that is gone is put back')
+    except OSError:
+        pass
+    page.close()
+    # (a truncated page ends nobody who writes it or reads it by reading)
+    page = PageFile(path)
+    made_page.change(path, daemon=made_page.leading(10 ** 15).daemon)
+    os.truncate(path, 0)
+    wanted(page.read() is None or tsp_clock.now_of(*page.read()).status == tsp_clock.STALE, 'a page that was cut off has a status')
+    wanted(page.mend() == 'was cut off' and tsp_clock.Clock(path).now().status == tsp_clock.STALE, 'a page that was cut off isn\'t mended')
+    page.write(Look())
+    page.close()
+    # a page of another version is begun anew
+    with open(path, 'wb') as file:
+        file.write(tsp_clock.HEAD.pack(tsp_clock.MAGIC, 1, 424) + bytes([255]) * 400)
+    PageFile(path).close()
+    wanted(tsp_clock.Clock(path).now().status == tsp_clock.STALE, 'a page that was of another version has a status')
 
 
 def main():
     other()
-    compared, pages = formula(), in_c()
-    anchors()
+    compared, found = formula(), in_c()
     reckoned()
-    missed()
-    print(f'{compared} moments as in replay, {pages} pages in C as in Python, {torn()}')
+    looks()
+    files()
+    print(f'{compared} moments as in replay, {found} pages in C as in Python, {torn()}')
 
 
 main()

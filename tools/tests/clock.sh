@@ -26,25 +26,26 @@ for shown in readme page; do
 done
 sed -n '/^import tsp_clock/,/^ *print/p' README.md >"$out/readme.py"
 [ "$(wc -l <"$out/shown") $(wc -l <"$out/readme.py")" = '4 4' ] || fail 'the README shows no four lines'
-for leads in 2 1; do
+# Writes a page, as tools/tests/made_page.py makes it.
+made() {
     python3 -B -c "
 import sys
-sys.path.insert(0, 'tools')
-import tsp_clock
-from tsp_daemon.page import Writer
-Writer('$out/led').write(tsp_clock.Page(1, 0, $leads, 2, target=10 ** 15))"
+sys.path[:0] = 'tools', 'tools/tests'
+import made_page, tsp_clock
+made_page.write('$out/led', $1)"
+}
+for leads in 2 1; do
+    case $leads in
+    2) made 'made_page.leading(10 ** 15)' ;;
+    *) made 'tsp_clock.Page(made_page.counting(10 ** 15))' ;;
+    esac
     for command in "$out/readme" 'python3 -B '"$out/readme.py" "$out/page"; do
         TSP_CLOCK="$out/led" PYTHONPATH=tools $command >"$out/said" || [ "$leads" -eq 1 ] || fail "'$command' fails"
         [ "$(grep -cE '^1[0-9]{15} to 1[0-9]{15}( us)?$' "$out/said")" -eq "$((leads - 1))" ] || fail "'$command' says $(cat "$out/said")"
     done
 done
 # A wait is as long as it is said: the longest ones overflow nothing, and the shortest ones don't wait. (the page's interval is 300 ms wide)
-python3 -B -c "
-import sys
-sys.path.insert(0, 'tools')
-import tsp_clock
-from tsp_daemon.page import Writer
-Writer('$out/led').write(tsp_clock.Page(1, 0, 2, 2, target=10 ** 15, high=300000))"
+made 'made_page.following(10 ** 15, width=150000)'
 for longest in 9223372036854775807:1 9223372036854775:1 9223372036854776:1 4611686018427387:1 10000000:1 0:0 -1:0 -9223372036854775808:0; do
     "$out/reader" after "$out/led" "${longest%:*}" >"$out/said" && [ "$(cat "$out/said")" = "${longest#*:}" ] || fail "a wait for ${longest%:*} us says $(cat "$out/said")"
 done
@@ -53,8 +54,8 @@ cat >"$out/roomless" <<'END'
 import sys
 sys.path.insert(0, 'tools')
 import tsp_clock
-from tsp_daemon.page import Writer
-for made in Writer, tsp_clock.Clock:
+from tsp_daemon.page import PageFile
+for made in PageFile, tsp_clock.Clock:
     try:
         made(sys.argv[1])
         sys.exit('there is a page where there is no room for one')
@@ -69,6 +70,19 @@ if unshare -rm true 2>/dev/null; then
 else
     skip 'there are no namespaces' 'a page without room'
 fi
+# The header tells what the proved functions tell, of a million pages. TSP_PAGES says of how many.
+library=crates/tsp_page_c/out/libtsp_page_c.a
+judged=''
+[ -e "$library" ] || ! has rt || (cd crates/tsp_page_c && rt lib >"$out/made" 2>&1) || fail "there is no $library: $(tail -n 3 "$out/made")"
+if [ -e "$library" ]; then
+    # shellcheck disable=SC2086
+    cc -std=c99 -O2 -Wall -Wextra -Werror -Itools -o "$out/judge" tools/tests/clock_judge.c "$library" || fail 'there is no judge of pages'
+    "$out/judge" "${TSP_PAGES:-1000000}" "${TSP_SEED:-1}" >"$out/said" || fail "the header tells something else than the proved functions: $(cat "$out/said")"
+    awk '{ for (i = 1; i < NF; i += 2) if ($i < 1000) exit 1 } END { exit NR != 1 }' "$out/said" || fail "there are too few pages of a status: $(cat "$out/said")"
+    judged=", ${TSP_PAGES:-1000000} pages as the proved functions have them"
+else
+    skip 'there is no rt' 'the header beside the proved functions'
+fi
 mkdir "$out/pages"
 python3 tools/tests/clock.py "$program" "$out/reader" "$out/pages" "${TSP_MOMENTS:-30000}" "${TSP_SEED:-1}" >"$out/told" || fail 'the page is another one'
 # A short form of dev/read-cost; how much a read may cost is looked at on a machine that has nothing else to do.
@@ -80,4 +94,4 @@ for words in '--reads 0' a '--most x'; do
     dev/read-cost $words >"$out/text" 2>"$out/said" || status=$?
     [ "$status" -eq 2 ] && [ "$(wc -l <"$out/said")" -eq 1 ] && [ ! -s "$out/text" ] || fail "'$words': status $status, $(cat "$out/said")"
 done
-echo "$check: $(cat "$out/told")$tried; a read in C takes $(sed -n 's/.*, *\([0-9.]*\) times as long/\1/p' "$out/cost" | head -n 1) times as long as clock_gettime"
+echo "$check: $(cat "$out/told")$judged$tried; a read in C takes $(sed -n 's/.*, *\([0-9.]*\) times as long/\1/p' "$out/cost" | head -n 1) times as long as clock_gettime"

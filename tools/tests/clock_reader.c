@@ -1,8 +1,8 @@
 /* Tries tsp_clock.h: `clock_reader WHAT PAGE [COUNT]`.
  *
  *   times  reads pages from a file, each with a nanosecond behind it, and writes the time that each gives
- *   torn   reads so often a page that is written without pause, all of whose fields come from one number, and counts those that don't; also
- *          of as many reads that don't look at the lock
+ *   torn   reads so often a page that is written without pause, in each half of which all fields come from one number, and counts those that don't; also
+ *          of as many reads that don't look at the locks
  *   now    reads the page once, and writes its status and the microseconds that this took
  *   after  waits for so many microseconds until each later time is after the latest that it is now, and writes whether it is
  *   cost   writes the nanoseconds that a read takes, those of clock_gettime right after it, and how many times as long the read takes: each at
@@ -19,44 +19,47 @@
 static int times(const char *path)
 {
     tsp_page page;
+    tsp_halves halves;
     tsp_time time;
     int64_t now;
     FILE *file = fopen(path, "rb");
     if (file == NULL)
         return 1;
     while (fread(&page, sizeof page, 1, file) == 1 && fread(&now, sizeof now, 1, file) == 1) {
-        tsp_time_of(&page, now, &time);
-        printf("%d %lld %lld %lld %lld\n", time.status, (long long)time.shown, (long long)time.earliest, (long long)time.latest, (long long)time.age);
+        halves.daemon = page.daemon;
+        halves.look = page.look;
+        tsp_time_of(&halves, now, &time);
+        printf("%d %lld %lld %lld %lld %d\n", time.status, (long long)time.shown, (long long)time.earliest, (long long)time.latest, (long long)time.age, time.role);
     }
     return fclose(file);
 }
 
-static int is_torn(const tsp_page *page)
+static int is_torn(const tsp_halves *h)
 {
-    int64_t number = (int64_t)page->life;
-    return page->steps != page->life || page->tick != number || page->target != -number || page->rest != number || page->looked != number
-        || page->low != -number || page->high != number || page->rate != number || page->anchor != number || page->drift != number;
+    const tsp_daemon *d = &h->daemon;
+    const tsp_look *l = &h->look;
+    int64_t number = (int64_t)d->life, look = (int64_t)l->life;
+    return d->origin != number || d->origin_tick != d->life || d->rate != number || d->tick != d->life || d->target != -number || d->rest != number
+        || d->least != number || d->moved != number || d->steps != d->life || d->master != d->life || l->moved != look || l->looked != l->life
+        || l->low != -look || l->high != look || l->master != l->life || l->drift != l->life;
 }
 
-static int torn(tsp_clock *clock, long count)
+static int torn(const tsp_clock *clock, long count)
 {
-    tsp_page page;
-    tsp_time time;
+    tsp_halves page;
     int64_t now, until = tsp_nanoseconds() + LONGEST;
     long number, torn = 0, bare = 0, pages = 0, unread = 0;
     uint64_t last = 0;
     for (number = 0; number < count || (pages < LEAST_PAGES && tsp_nanoseconds() < until); number++) {
         tsp_copy(&page, clock->page);
         bare += is_torn(&page);
-        if (tsp_time_once(clock->page, &time))
-            torn += time.steps != time.life || time.latest - time.earliest != 2 * (int64_t)time.life;
         if (!tsp_read(clock->page, &page, &now)) {
             unread++;
             continue;
         }
         torn += is_torn(&page);
-        pages += page.life != last;
-        last = page.life;
+        pages += page.daemon.life != last;
+        last = page.daemon.life;
     }
     printf("%ld torn, %ld unread, of %ld reads, which saw %ld pages, and %ld torn without the lock\n", torn, unread, number, pages, bare);
     return torn != 0;

@@ -27,6 +27,7 @@ dev/headline --check || fail 'docs/HEADLINE.md, its annex or docs/NETWORK.md is 
 python3 tools/tests/headline_names.py >"$out/names" || fail 'a name of docs/HEADLINE.md, its annex or docs/NETWORK.md stands for two things'
 [ "$(wc -w <docs/HEADLINE.md)" -le 25000 ] || fail 'docs/HEADLINE.md is more than an evening takes'
 dev/wrap --check || fail 'a line of a definition or a proof has more than 160 characters: dev/wrap breaks it'
+dev/sizes --check || fail 'the sizes of crates in docs/ARCHITECTURE.md are others: dev/sizes writes them'
 dev/layers --check || fail 'docs/layers.svg is out of date: dev/layers writes it'
 python3 tools/tests/proofs.py || fail 'docs/PROOFS.md names what is not there'
 [ "$count" -ge 4 ] || fail "only $count examples were tried"

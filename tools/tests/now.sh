@@ -165,23 +165,11 @@ mv "$out/set" "$ANSWERS/date-192.0.2.11:525"
 BEHIND=''
 
 # The page of this machine, which is read without a question: one that leads, one that follows, one without a master, and one that nobody writes.
-cat >"$out/write" <<'END'
-import sys, time
-sys.path.insert(0, 'tools')
-import tsp_clock
-from tsp_daemon.page import Writer
-status, low, high, ago = map(int, sys.argv[2:])
-writer, now = Writer(sys.argv[1]), time.monotonic_ns()
-tick = 10 ** 12
-writer.write(tsp_clock.Page(1, 0, status, 2 if low == high else 1, 0, now - now % 1000 - 1000 * tick, 30, 0, 0, time.time_ns() // 1000 + 7200 * 10 ** 6 - tick, 0, 0, tick, low, high, 0, b'beta'))
-if ago:
-    writer.map[tsp_clock.HEAD.size:tsp_clock.LENGTH] = writer.last._replace(alive=now - ago * 10 ** 9).packed()
-END
-page() { python3 -B "$out/write" "$out/page" "$@"; }
-page 2 0 0 0
+page() { python3 tools/tests/made_page.py "$out/page" "$1" 7200000000; }
+page 2
 ends 0
 [ "${said#* }" = '+/- 0.000000' ] && [ ! -s "$CALLS" ] || fail "a page of a host that leads gives '$said'"
-page 2 -2000 5000 0
+page -2000:5000
 ends 0 -u
 [ "${said#* }" = '+/- 0.005002' ] || fail "a page of a host that follows gives '$said'"
 ends 0 --offset
@@ -195,12 +183,12 @@ ends 1 --wait 5 --timeout 0.2
 ends 0 --after
 until=$(($(date -d "$said" +%s%6N) - 7200000000))
 [ "$(date +%s%6N)" -ge $((until + 2000)) ] || fail 'a stamp is given before it is over'
-page 1 0 0 0
+page 1
 ends 5
 [ "${said#* }" = unsynchronised ] || fail "a page without a master gives '$said'"
 ends 1 --wait --timeout 0.2
 [ "$told" = 'tsp-now: not synchronised in that time' ] || fail "a wait tells '$told'"
-page 2 0 0 70
+page 0
 ends 1
 [ "$told" = "tsp-now: the daemon of this host doesn't run, by $out/page" ] || fail "a page that nobody writes gives '$said$told'"
 rm "$out/page"

@@ -75,9 +75,8 @@ class Host:
         return process.stdout.readline().decode().rstrip('\n')
 
     def page(self):
-        """This host's page."""
-        found = tsp_clock.Clock(self.lab.page(self.daemon)).read()
-        return found[0] if found else tsp_clock.Page()
+        """What this host's page says now."""
+        return self.lab.now(self.daemon)
 
     def end(self):
         """Ends the programs."""

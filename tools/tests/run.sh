@@ -5,16 +5,7 @@ export TSP_CLOCK="$out/page"
 unset TSP_FAKETIME
 
 # Writes a page whose clock is ahead by so many microseconds, of which so many are still to be slewed, with a status, and in which life.
-cat >"$out/write" <<'END'
-import os, sys, time
-sys.path.insert(0, 'tools')
-import tsp_clock
-from tsp_daemon.page import Writer
-path, ahead, rest, status, life = sys.argv[1], *map(int, [*sys.argv[2:], 1][:4])
-now, tick = time.monotonic_ns(), 10 ** 12
-Writer(path).write(tsp_clock.Page(life, 0, status, 2, 0, now - now % 1000 - 1000 * tick, 0, 0, tick, time.time_ns() // 1000 + ahead, rest, tsp_clock.NEVER, tick, 0, 0, 100, b'a'))
-END
-page() { python3 -B "$out/write" "$out/page" "$@"; }
+page() { python3 tools/tests/made_page.py "$out/page" "$3" "$1" "$2" ${4+"$4"}; }
 
 # Wants this status and this line.
 refuses() {
@@ -28,6 +19,7 @@ refuses 2 'COMMAND, or --status (tsp-run --help says more)' tools/tsp-run
 refuses 2 'COMMAND, or --status (tsp-run --help says more)' tools/tsp-run --all
 export TSP_FAKETIME="$out/none"
 refuses 125 "there is no $out/none: install libfaketime, or name it by TSP_FAKETIME" tools/tsp-run true
+TSP_FAKETIME=/dev/null refuses 125 '/dev/null is no library, so no program would be led' tools/tsp-run true
 unset TSP_FAKETIME
 tools/tsp-run --help | grep -q '^usage: tsp-run ' || fail 'there is no help'
 

@@ -82,7 +82,7 @@ class Seen:
         if lasted < LASTS - LOOKS - 5:
             raise SystemExit(f'seen: a page was read for {lasted:.0f} s only')
         self.lab.start(self.daemon)
-        if not self.wait_for(tsp_clock.WAITING, 60) or int(self.lines()[-1][2]) <= life:
+        if not self.wait_for(tsp_clock.WAITING, 60) or int(self.lines()[-1][2]) == life:
             raise SystemExit(f'seen: after another start a reader sees {self.lines()[-1]}')
         return lasted
 

@@ -492,27 +492,39 @@ def replaced():
 
 
 def learned():
-    """The daemon counts with the rate that was learned, and takes a new one when it starts again; a file without a rate is told of; `--rate learn`
-    goes on where the hosts file is read again."""
+    """The daemon counts with the rate that was learned, and takes a new one when it starts again; a file without a rate, of another counter, or that is none,
+    is told of; `--rate learn` goes on where the hosts file is read again. Of two supervisors only the first one keeps what it learns."""
     file = Supervised.path('rate')
-    for text, rate in (('', 0), ('123456 90\n123456 20\n', 123456), ('1000001 9\n', 0)):
+    no_rate = 'it has no rate from -1000000 to 1000000, and its error'
+    for text, rate, fault in (('', 0, no_rate), ('123456 90\n123456 20\ncounter raw\n', 123456, None), ('1000001 9\n', 0, no_rate),
+                              ('123456 90\n', 0, 'it was learned of another counter than the raw one')):
         with open(file, 'w', encoding='ascii') as out:
             out.write(text)
         server = Supervised('--rate', 'learn', TSP_LEARN=file)
         first = server.ready()
         wanted(variable(first, 'TSP_RATE') == str(rate), f'the file has {text!r}, and the daemon has the rate {variable(first, "TSP_RATE")}')
-        told = f'{file}: it has no rate from -1000000 to 1000000, and its error; the rate is 0'
-        wanted((told in server.read()) == (rate == 0), f'it says {server.read()}')
+        wanted((f'{file}: {fault}; the rate is 0' in server.read()) == bool(fault), f'it says {server.read()}')
+        wanted(('more than TSP_DRIFT, 100 parts in a million' in server.read()) == (rate > 100_000), f'it says {server.read()}')
         if rate:
             server.write_hosts('b 127.0.0.1:1 slave')
             os.rename(file, file + '.1')
             with open(file, 'w', encoding='ascii') as out:
-                out.write('-5000 9\n')
+                out.write('-5000 9\ncounter raw\n')
             server.process.send_signal(signal.SIGHUP)
             until(lambda: server.daemon() not in (None, first) and server.answers(), 'the daemon isn\'t started again')
             wanted(variable(server.daemon(), 'TSP_RATE') == '-5000', 'a daemon that starts again doesn\'t take what was learned')
             wanted('the daemon counts -5000 parts in 10^9 faster than the machine' in server.read(), f'it says {server.read()}')
         server.end()
+    one = Supervised('--rate', 'learn', TSP_LEARN=file)
+    one.ready()
+    pipe = Supervised.path('pipe')
+    os.mkfifo(pipe)
+    for place, fault in ((file, 'another supervisor keeps what it learns there, so what this one learns isn\'t kept'), (pipe, 'it is no file; the rate is 0')):
+        other = Supervised('--rate', 'learn', TSP_LEARN=place)
+        other.ready()
+        wanted(f'{place}: {fault}' in other.read(), f'it says {other.read()}')
+        other.end()
+    one.end()
 
 
 def variable(pid, name):
@@ -636,26 +648,26 @@ def rated():
         server.ready()
         clock = tsp_clock.Clock(server.path('clock'))
         until(lambda: clock.now().status == tsp_clock.WAITING, 'the page isn\'t written')
-        page, _ = clock.read()
-        wanted(page.rate == rate, f'the page has the rate {page.rate}')
+        daemon = clock.read()[0].daemon
+        wanted(daemon.rate == rate, f'the page has the rate {daemon.rate}')
         begun, misses = time.monotonic(), 0
         while time.monotonic() < begun + 1:
-            sent = time.monotonic_ns()
+            sent = time.clock_gettime_ns(daemon.counter)
             server.link.sendto(REQUEST, server.address)
-            reading, got = int.from_bytes(server.link.recv(512)[20:], 'big'), time.monotonic_ns()
-            misses += not within(page._replace(rate=0), sent, reading, got)
-            wanted(within(page, sent, reading, got), f'the daemon answers {reading}, and the page {[page.target_at(page.tick_at(now)) for now in (sent, got)]}')
+            reading, got = int.from_bytes(server.link.recv(512)[20:], 'big'), time.clock_gettime_ns(daemon.counter)
+            misses += not within(daemon._replace(rate=0), sent, reading, got)
+            wanted(within(daemon, sent, reading, got), f'the daemon answers {reading}, and the page {[daemon.target_at(daemon.tick_at(now)) for now in (sent, got)]}')
             time.sleep(0.005)
         wanted(bool(misses) == bool(rate), f'without the rate {rate} the page is {misses} times another one')
         server.end()
         told = re.findall(r'^[0-9]+ 0 0 ([0-9]+) post [0-9]+ - reply [0-9]+ 1 2 ([0-9]+)$', server.read(server.out), re.MULTILINE)
-        wanted(len(told) > 50 and all(page.target_at(int(tick)) == int(reading) for tick, reading in told), 'the page is another one than the trace')
+        wanted(len(told) > 50 and all(daemon.target_at(int(tick)) == int(reading) for tick, reading in told), 'the page is another one than the trace')
 
 
-def within(page, sent, reading, got):
-    """Whether a reading lies between what a page gives before and after it, as far as that is known."""
-    low, high = (page.target_at(page.tick_at(now)) for now in (sent, got))
-    return low - page.off - 1 <= reading <= high + page.off + 1
+def within(daemon, sent, reading, got):
+    """Whether a reading lies between what a page gives before and after it."""
+    low, high = (daemon.target_at(daemon.tick_at(now)) for now in (sent, got))
+    return low <= reading <= high
 
 
 def gone():

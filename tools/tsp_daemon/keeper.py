@@ -1,158 +1,155 @@
-"""Keeps the page of the network's time: by the daemon's trace, by questions to the daemon, and by questions to the master that it follows."""
-from tsp_clock import FOLLOWS, HOLDING, LEADS, NOBODY, STALE, SYNCHRONISED, WAITING
-from tsp_daemon.anchor import Anchor
-from tsp_daemon.own import OwnDaemon
+"""Keeps the supervisor's half of the page of the network's time: looks at the master that the daemon follows, as the daemon's half says."""
+import time
+
+from tsp_clock import FOLLOWS, LEADS, RAW, Daemon, Look
 from tsp_daemon.stamps import Stamps
 
-# How many questions find the anchor, within how many seconds, and after how many a pause is made.
-QUESTIONS, WITHIN, PAUSE = 200, 3, 0.002
-# Seconds between two looks, and after which a master that doesn't answer is one no more; and how often a look asks.
-APART, SILENT, TIMES = 16, 64, 4
-# A correction that wasn't seen and is no greater than this is taken for a slewed one.
-MAXADJ = 20_000_000
+# Seconds between two looks at the page, and at the master; and how often a look asks for the master's clock.
+PACE, APART, TIMES = 0.25, 16, 4
+# For so many ticks after its start a daemon corrects its clock by nothing.
+QUIET = 80_000_000
 
 
-def after_correction(page, tick, amount, is_step, shown):
-    """A page after a correction at a tick, by what the clock shows then. To a clock that leads the master's is no other one, and from any other it is as
-    much farther, the other way. (a correction that wasn't seen leaves the page's shown value another one than the clock's, but not its target)"""
-    target = shown if is_step else page.target_at(tick) + amount
-    apart = 0 if page.role == LEADS else amount
-    return page._replace(tick=tick, target=target, rest=target - shown, steps=page.steps + is_step, low=page.low - apart, high=page.high - apart)
+class Asked:
+    """A look that is going on: the daemon's half by which it is reckoned, and what the master answered."""
+
+    def __init__(self, daemon):
+        self.daemon, self.found = daemon, []
+
+    def add(self, reading, sent, got):
+        """The master's clock was read between these nanoseconds of the daemon's counter: it is ahead of the target by between two bounds."""
+        before, after = self.daemon.tick_at(sent), self.daemon.tick_at(got)
+        self.found.append((reading - self.daemon.target_at(after), reading - self.daemon.target_at(before), before))
+
+    def is_of(self, daemon):
+        """Whether the daemon's clock and its master are still those of the look."""
+        mine = self.daemon
+        return all(getattr(daemon, name) == getattr(mine, name) for name in ('life', 'moved', 'steps', 'role', 'master', 'origin', 'origin_tick', 'rate'))
+
+    def best(self):
+        """The narrowest bounds, and the tick before that question."""
+        return min(self.found, key=lambda found: found[1] - found[0])
+
+
+class Listener:
+    """Who is told of the page, and of the network."""
+
+    def page_mended(self, what):
+        """Something had become of the page's file, which is whole again."""
+
+    def page_gone(self, fault):
+        """The page's file is gone for good."""
+
+    def other_leads(self, master, other):
+        """The master that the daemon follows doesn't lead any more, and another host does: both by their names."""
 
 
 class Keeper:
-    """A page, and what is known for it. `peers` are the addresses of peers 1, 2 and so on, and `names` all names from the own on."""
+    """Whoever keeps a page. `networks` are the addresses of the peers of each network, which have the numbers 1, 2 and so on over all of them, and `names`
+    all names from the own on."""
 
-    def __init__(self, loop, writer, own, peers, names, drift):
-        self.loop, self.writer, self.peers, self.names = loop, writer, peers, names
-        self.stamps = Stamps(loop)
-        self.own = OwnDaemon(loop, self.stamps, own)
-        self.page = writer.last._replace(drift=drift)
-        self.forget()
+    def __init__(self, loop, page, networks, names, drift, listener):
+        self.loop, self.page, self.names, self.drift, self.listener = loop, page, names, drift, listener
+        self.peers = [peer for peers in networks for peer in peers]
+        # (the network of each number)
+        self.place = [None, *(place for place, peers in enumerate(networks) for _ in peers)]
+        self.counter, self.seen, self.before, self.asked, self.learned = RAW, None, None, None, 0
+        self.stamps = Stamps(loop, lambda: time.clock_gettime_ns(self.counter))
 
-    def forget(self):
-        """Nothing is known of a life yet."""
-        self.anchor, self.until, self.is_placed, self.is_corrected = None, None, False, False
-        self.role, self.master, self.looked_at, self.looks = NOBODY, None, None, []
-
-    def begin(self, rate):
-        """Another life begins, in which the daemon counts with this rate. (the page has the last one, which is over, until the clock of this one is known)"""
-        self.end()
-        self.forget()
-        self.page = self.page._replace(life=self.page.life + 1, rate=rate, steps=0, status=STALE, role=NOBODY, tick=0, target=0, rest=0, low=0, high=0, master=b'')
+    def begin(self):
+        """A daemon is about to start, and what stands on the page is of one before it."""
+        self.before, self.seen = self.page.page().daemon.life, None
+        self.poll()
 
     def end(self):
         """The daemon runs no more."""
         self.stamps.stop()
-        self.own.stop()
-        self.loop.cancel('look', 'anchor')
-        self.page = self.page._replace(status=STALE)
-        self.writer.write(self.page, True)
+        self.loop.cancel('page', 'look')
+        self.asked = self.seen = None
+        self.page.end_daemon()
 
-    def traced(self):
-        """The daemon traces from now on: the anchor is looked for, or, where it is found, whether the clock was corrected meanwhile."""
-        if self.anchor is None:
-            self.anchor, self.until = Anchor(self.page.rate), self.loop.now() + WITHIN
-            self.own.ask(self.placed)
-        elif self.is_placed:
+    def poll(self):
+        """Looks at the daemon's half: where its clock or its role is another one, the master is looked at."""
+        self.loop.after('page', PACE, self.poll)
+        daemon = self.daemon()
+        if daemon and (self.seen is None or not Asked(self.seen).is_of(daemon)):
+            self.seen = daemon
             self.look()
+        self.look_after()
 
-    def placed(self, exchange):
-        """An exchange for the anchor; the last one ends the search."""
-        if exchange:
-            self.anchor.add(exchange.sent, exchange.got, exchange.tick)
-            if not self.is_corrected:
-                self.page = self.page._replace(target=exchange.reading - exchange.tick)
-        if self.anchor.count < QUESTIONS and (self.loop.now() < self.until or not self.anchor.count):
-            self.loop.after('anchor', PAUSE, lambda: self.own.ask(self.placed))
-            return
-        place, off = self.anchor.place()
-        self.page, self.is_placed = self.page._replace(anchor=place, off=off), True
-        self.look()
+    def look_after(self):
+        """Sees to it that the page lies where its readers look for it."""
+        try:
+            found = self.page.mend()
+            if found:
+                self.listener.page_mended(found)
+        except OSError as fault:
+            self.listener.page_gone(fault)
 
-    def corrected(self, tick, amount, way, shown):
-        """The daemon's clock was corrected at a tick."""
-        self.is_corrected = True
-        self.move(after_correction(self.page, tick, amount, way == 'step', shown))
-
-    def move(self, page):
-        """The clock is another one from now on, and the master is looked at again."""
-        is_step, self.page = page.steps != self.page.steps, page
-        if self.is_placed:
-            self.write(is_step)
-            self.look()
-
-    def changed(self, state):
-        """The daemon's role on one of its ports is another one: it follows the master of the first port that has one, or leads."""
-        ports = [port for _, port in sorted(state.ports.items())]
-        follows = next((port.master for port in ports if port.role == 'follow'), None)
-        leads = any(port.role == 'master' for port in ports)
-        self.became(NOBODY if follows is None and not leads else LEADS if follows is None else FOLLOWS, follows)
-
-    def became(self, role, master):
-        """The daemon's role: it leads, it follows the master with this number, or neither."""
-        if (role, master) == (self.role, self.master):
-            return
-        self.role, self.master, self.looked_at = role, master, None
-        if self.is_placed:
-            self.look()
+    def daemon(self) -> Daemon:
+        """The daemon's half, or None where this daemon wrote none yet."""
+        found = self.page.read()
+        daemon = found[0].daemon if found else None
+        if daemon is None or daemon.life == self.before or not daemon.is_sound():
+            return None
+        self.counter = daemon.counter
+        return daemon
 
     def look(self):
-        """Asks the daemon, and then the master that it follows, whose best answer counts."""
-        self.looks = []
+        """Looks at the master. (a daemon that was never corrected has nothing to say of the network's time yet)"""
         self.loop.after('look', APART, self.look)
-        self.own.ask(self.compared)
-
-    def compared(self, exchange):
-        """The daemon answered: its clock is what the page says, or was corrected while its trace was off."""
-        if exchange is None:
+        self.stamps.stop()
+        daemon, self.asked = self.daemon(), None
+        if daemon is None:
             return
-        amount = exchange.reading - self.page.target_at(exchange.tick)
-        if amount and exchange.tick > self.page.tick:
-            self.is_corrected, is_step = True, abs(amount) > MAXADJ
-            shown = exchange.reading if is_step else self.page.shown_at(exchange.tick)
-            self.move(after_correction(self.page, exchange.tick, amount, is_step, shown))
-        elif self.role == FOLLOWS:
-            self.ask_master()
-        else:
-            self.looked()
+        if daemon.role == LEADS:
+            tick = daemon.tick_at(self.stamps.now())
+            self.write(daemon, 0, 0, tick, 0)
+        elif daemon.role == FOLLOWS and 0 < daemon.master <= len(self.peers):
+            self.asked = Asked(daemon)
+            if daemon.moved or daemon.steps or daemon.tick >= QUIET:
+                self.ask()
+            else:
+                self.answered()
 
-    def ask_master(self):
-        """Asks the master once more."""
-        master = self.master
-        self.stamps.ask(self.peers[master - 1], lambda *answer: self.answered(master, *answer))
+    def ask(self):
+        """Asks the master for its clock once more."""
+        self.stamps.ask(self.peers[self.asked.daemon.master - 1], self.answered)
 
-    def answered(self, master, _, reading=None, sent=None, got=None):
-        """The master answered, or doesn't: by how much its clock is ahead of the target lies between two bounds."""
-        if master != self.master:
-            return
+    def answered(self, reading=None, sent=None, got=None):
+        """The master answered, or doesn't. Once it did so often enough, it is asked whether it is the master still."""
         if reading is not None:
-            ticks = self.page.tick_at(sent), self.page.tick_at(got)
-            self.looks.append((reading - self.page.target_at(ticks[1]), reading - self.page.target_at(ticks[0]), ticks[0]))
-        if reading is not None and len(self.looks) < TIMES:
-            self.ask_master()
-        else:
-            self.looked()
+            self.asked.add(reading, sent, got)
+            if len(self.asked.found) < TIMES:
+                self.ask()
+                return
+        self.stamps.ask_master(self.peers[self.asked.daemon.master - 1], self.named)
 
-    def looked(self):
-        """The look is over: the page is written."""
-        if self.role == LEADS:
-            self.looked_at = self.loop.now()
-            self.page = self.page._replace(looked=self.page.tick_at(self.writer.now()), low=-self.page.off, high=self.page.off)
-        elif self.looks:
-            self.looked_at = self.loop.now()
-            low, high, tick = min(self.looks, key=lambda look: look[1] - look[0])
-            self.page = self.page._replace(looked=tick, low=low, high=high)
-        self.write(False)
-
-    def write(self, is_step):
-        """Writes the page with the status that it has now."""
-        is_seen = self.looked_at is not None and self.loop.now() - self.looked_at < SILENT
-        had = self.page.status in (SYNCHRONISED, HOLDING)
-        if self.role == LEADS or self.role == FOLLOWS and self.is_corrected and is_seen:
-            status, name = SYNCHRONISED, self.names[self.master or 0]
+    def named(self, name=None):
+        """Whom the master names. A host that started again names nobody for minutes, and one that was sent away names another one: its clock, which was read
+        before this, isn't that of the master any more, so the look doesn't count."""
+        daemon, wanted = self.daemon(), self.names[self.asked.daemon.master]
+        if not daemon or not self.asked.is_of(daemon):
+            return
+        # (a peer whose name isn't known stands by its address)
+        if name and (name == wanted or ':' in wanted):
+            if self.asked.found:
+                self.write(daemon, *self.asked.best(), daemon.master)
         else:
-            status, name = (HOLDING if had else WAITING), self.page.master.rstrip(b'\0').decode() if had else ''
-        role = self.role if status == SYNCHRONISED or self.role != LEADS else NOBODY
-        self.page = self.page._replace(status=status, role=role, master=name.encode('ascii', 'replace'))
-        self.writer.write(self.page, is_step)
+            self.seek(daemon.master)
+
+    def seek(self, master):
+        """The master that the daemon follows is silent, or says that it leads no more: the others are asked whether one of them does."""
+        for number, name in enumerate(self.names[1:], 1):
+            if number != master and self.place[number] == self.place[master]:
+                self.stamps.ask_master(self.peers[number - 1], lambda named=None, name=name: self.found(master, name, named))
+
+    def found(self, master, name, named):
+        """A host names a master: if that is itself, the daemon follows one that is gone."""
+        if named and named == name and self.seen and self.seen.role == FOLLOWS and self.seen.master == master:
+            self.listener.other_leads(self.names[master], name)
+
+    def write(self, daemon, low, high, tick, master):
+        """Writes a look."""
+        name = self.names[master].encode('ascii', 'replace')
+        self.page.write(Look(daemon.life, daemon.moved, tick, low, high, master, self.drift, 1, self.learned, name))

@@ -5,9 +5,11 @@ rounds, over the time between, is what its counter lacks, and only the errors of
 """
 from __future__ import annotations
 
+import fcntl
 import itertools
 import os
 import re
+import stat
 from collections import namedtuple
 
 from tsp_texts import tool
@@ -145,9 +147,14 @@ class Learning:
         return Estimate(self.kept.rate, max([self.kept.error, *(abs(hour.rate - self.kept.rate) + hour.error for hour in hours)]))
 
 
+def counter_name():
+    """The counter of which a rate is learned: that of the daemons of this host."""
+    return 'monotonic' if os.environ.get('TSP_COUNTER') == 'monotonic' else 'raw'
+
+
 def text_of(learning):
-    """The lines of the file: what was found, what is kept, and then the hours of the last day."""
-    return ''.join(f'{rate} {error}\n' for rate, error in [learning.found, learning.kept, *learning.hours])
+    """The lines of the file: what was found, what is kept, then the hours of the last day, and which counter has this rate."""
+    return ''.join(f'{rate} {error}\n' for rate, error in [learning.found, learning.kept, *learning.hours]) + f'counter {counter_name()}\n'
 
 
 def estimate_of(line):
@@ -158,11 +165,21 @@ def estimate_of(line):
 
 
 def read(path):
-    """What a file keeps: the estimate, and the hours of the last day. ValueError comes where it keeps none, and OSError where it can't be read."""
-    with open(path, 'rb') as file:
-        found = [estimate_of(line) for line in file.read(LONGEST_FILE).decode('ascii', 'replace').splitlines()]
+    """What a file keeps: the estimate, and the hours of the last day. ValueError comes where it keeps none of this counter, and OSError where it can't be
+    read."""
+    # (whoever opened a named pipe would wait for its writer)
+    number = os.open(path, os.O_RDONLY | os.O_NONBLOCK | os.O_CLOEXEC)
+    with open(number, 'rb') as file:
+        if not stat.S_ISREG(os.fstat(number).st_mode):
+            raise ValueError('it is no file')
+        lines = file.read(LONGEST_FILE).decode('ascii', 'replace').splitlines()
+    # (what doesn't say so was learned of the other one)
+    counter = lines.pop().partition(' ')[2] if lines[-1:] and lines[-1].startswith('counter ') else 'monotonic'
+    found = [estimate_of(line) for line in lines]
     if not found or None in found:
-        raise ValueError
+        raise ValueError('it has no rate from -1000000 to 1000000, and its error')
+    if counter != counter_name():
+        raise ValueError(f'it was learned of another counter than the {counter_name()} one')
     return (found[1:2] or found)[0], found[2:][-DAY:]
 
 
@@ -172,17 +189,33 @@ def write(path, learning):
 
 
 class Kept:
-    """A file and what is learned for it. `say` takes a line for the log."""
+    """A file and what is learned for it, of which this is the only writer. `say` takes a line for the log."""
 
     def __init__(self, path, say):
         self.path, self.say, self.is_faulty = path, say, False
-        self.learning = Learning()
+        self.learning, self.lock = Learning(), self.locked()
         try:
             self.learning = Learning(0, *read(path))
         except FileNotFoundError:
             say(f'{path}: nothing is learned of the counter\'s rate yet')
         except (OSError, ValueError) as fault:
-            say(f'{path}: {fault.strerror if isinstance(fault, OSError) else "it has no rate from -1000000 to 1000000, and its error"}; the rate is 0')
+            say(f'{path}: {fault.strerror if isinstance(fault, OSError) else fault}; the rate is 0')
+
+    def locked(self):
+        """The lock of the file; None where another supervisor has it, or there is no place for it."""
+        try:
+            number = os.open(self.path + '.lock', os.O_RDWR | os.O_CREAT | os.O_NOFOLLOW | os.O_CLOEXEC, 0o600)
+        except OSError:
+            # (that the file itself can't be written is said when it is to be)
+            return None
+        try:
+            fcntl.flock(number, fcntl.LOCK_EX | fcntl.LOCK_NB)
+        except OSError:
+            os.close(number)
+            self.say(f'{self.path}: another supervisor keeps what it learns there, so what this one learns isn\'t kept')
+            self.is_faulty, self.write = True, lambda: None
+            return None
+        return number
 
     def begin(self):
         """The daemon starts: the rate with which it is to count."""

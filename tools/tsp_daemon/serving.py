@@ -24,8 +24,7 @@ PATIENCE = 0.3
 
 
 class Serving:
-    """A start of the daemon. `listener` is told its whole lines, how many were left out of them, what they changed in its state, and at which
-    ticks it took the questions of supervisors."""
+    """A start of the daemon. `listener` is told its whole lines, how many were left out of them, and what they changed in its state."""
 
     def __init__(self, loop, words, names, listener):
         self.loop, self.listener, self.rest = loop, listener, b''
@@ -83,10 +82,10 @@ class Serving:
 
     def take(self, lines):
         """Takes whole lines: few of them change the state."""
-        count, ticks = 0, {}
-        if stamps.SIGN in lines:
-            lines, count, ticks = stamps.left_out(lines)
-        self.listener.hear(lines, count, ticks)
+        count = 0
+        if any(sign in lines for sign in stamps.SIGNS):
+            lines, count = stamps.left_out(lines)
+        self.listener.hear(lines, count)
         if any(word in lines for word in TELLING):
             for line in TOLD.findall(lines):
                 for change in self.state.take(line.decode('ascii', 'replace')):

@@ -6,6 +6,7 @@ both, and the status is then 0. A daemon that ends before it ever answered ends 
 again, but where that is no use. SIGHUP reads the hosts file again.
 """
 import os
+import random
 import signal
 import sys
 
@@ -16,7 +17,7 @@ from tsp_daemon.keeper import Keeper  # noqa: E402
 from tsp_daemon.loop import Loop  # noqa: E402
 from tsp_daemon.outlet import Outlet  # noqa: E402
 from tsp_daemon.output import Output  # noqa: E402
-from tsp_daemon.page import Writer  # noqa: E402
+from tsp_daemon.page import PageFile, Taken  # noqa: E402
 from tsp_daemon.reload import Reload  # noqa: E402
 from tsp_daemon.serving import Serving  # noqa: E402
 from tsp_daemon.systemd import Systemd  # noqa: E402
@@ -28,6 +29,10 @@ DONE, NO_WORDS, BAD_WALL, NO_NETWORK = 0, 1, 2, 5
 MOST_SAID = 65536
 # By how many parts in a million counters may be wrong, where nobody says that.
 DRIFT = 100
+# After how many seconds a page is tried again that another supervisor keeps.
+TRY_PAGE = 5
+# A daemon is started again to follow another master within so many seconds, and not again for so many.
+SPREAD, SELDOM = 10, 600
 # Seconds: between two looks at the machine, by how many the alarm for its waking is later, between two starts at least, between two tries at most,
 # after which a daemon has held, and for the last lines.
 LOOK, WAKING, APART, LONGEST_PAUSE, HELD, LAST_LINES = 1, 0.1, 1, 60, 60, 0.3
@@ -50,24 +55,62 @@ class Supervisor:
         if self.alarm.file is not None:
             self.loop.watch(self.alarm.file, self.look)
         self.has_answered, self.was_switched, self.pause, self.started, self.left_out = False, False, APART, -APART, 0
+        self.unkept, self.followed = '', -SELDOM
         self.keeper = self.kept()
         # (where the rate is to be learned)
         self.learned = learn.Kept(learn.path_of(), self.say) if os.environ.get('TSP_RATE') == learn.WORD else None
 
     def kept(self):
-        """What keeps the page of the network's time, where there is a place for it."""
+        """What keeps the page of the network's time, where there is a place for it. One that another supervisor keeps is tried again."""
         path = os.environ.get('TSP_CLOCK') or tsp_clock.PATH
+        os.environ.pop('TSP_PAGE', None)
         if not os.environ.get('TSP_CLOCK') and not os.path.isdir(os.path.dirname(path)):
             return None
         try:
-            writer = Writer(path)
+            page = PageFile(path)
         except OSError as fault:
-            self.say(f'programs can\'t read the time: {path}: {"another daemon writes it" if isinstance(fault, BlockingIOError) else fault.strerror}')
+            if self.unkept != str(fault):
+                self.unkept = str(fault)
+                self.say(f'programs can\'t read the time: {path}: {fault.strerror}')
+            if isinstance(fault, Taken):
+                self.loop.after('get-page', TRY_PAGE, self.keep)
             return None
-        peers = [hosts.pair_of(word) for word in self.words[6:] if word != '+']
-        names = self.names or [self.words[3], *self.words[6:]]
-        own = hosts.pair_of(hosts.asked_at(self.local))
-        return Keeper(self.loop, writer, own, peers, names, int(os.environ.get('TSP_DRIFT', DRIFT)))
+        networks = [[]]
+        for word in self.words[6:]:
+            if word == '+':
+                networks.append([])
+            else:
+                networks[-1].append(hosts.pair_of(word))
+        names = self.names or [word for word in self.words[3:4] + self.words[6:] if word != '+']
+        os.environ['TSP_PAGE'] = path
+        return Keeper(self.loop, page, networks, names, int(os.environ.get('TSP_DRIFT', DRIFT)), self)
+
+    def keep(self):
+        """Tries to get the page that another supervisor kept. The daemon has to start again to write it."""
+        self.keeper = self.kept()
+        if self.keeper:
+            self.begin_again('the page of the network\'s time is free now')
+
+    def page_mended(self, what):
+        """Something had become of the page's file."""
+        self.say(f'the page of the network\'s time {what}; it is whole again')
+
+    def page_gone(self, fault):
+        """The page's file is gone for good: it is made anew, which needs another start of the daemon."""
+        self.end_daemon()
+        self.keeper.page.close()
+        self.keeper = self.kept()
+        self.say(f'the page of the network\'s time is gone ({fault.strerror}); it is made anew, and the daemon is started again')
+        self.start()
+
+    def other_leads(self, master, other):
+        """The daemon follows a master that is gone, and another one leads. By the rules it would wait for its own election, and each one that is held
+        lets all others wait anew: so it is started again, and finds the other one. (not all hosts at once, and not often)"""
+        if os.environ.get('TSP_FOLLOW') == 'wait' or self.loop.now() - self.followed < SELDOM or 'follow' in self.loop.times:
+            return
+        self.followed = self.loop.now()
+        why = f'{master}, which the daemon follows, doesn\'t lead any more, and {other} does'
+        self.loop.after('follow', random.uniform(0, SPREAD), lambda: self.begin_again(why))
 
     @property
     def learning(self):
@@ -107,9 +150,9 @@ class Supervisor:
             peers = ''.join(f', {number} {name}' for number, name in enumerate(self.names) if number)
             self.say(f'in the trace peer 0 is {self.names[0]}{peers}')
         self.sleep, self.started = machine.Sleep(), self.loop.now()
-        rate = self.apply_rate()
+        self.apply_rate()
         if self.keeper:
-            self.keeper.begin(rate)
+            self.keeper.begin()
         try:
             self.serving = Serving(self.loop, self.words, self.names, self)
         except OSError as fault:
@@ -130,17 +173,17 @@ class Supervisor:
         os.environ['TSP_RATE'] = str(rate)
         if rate:
             self.say(f'the daemon counts {rate} parts in 10^9 faster than the machine')
-        return rate
+        drift = int(os.environ.get('TSP_DRIFT', DRIFT))
+        if abs(rate) > 1000 * drift:
+            self.say(f'that is more than TSP_DRIFT, {drift} parts in a million, allows a counter to be wrong: are intervals wide enough?')
 
-    def hear(self, lines, left_out, ticks):
+    def hear(self, lines, left_out):
         """Hands lines on. The questions of supervisors are left out, and only counted."""
         self.left_out += left_out
         if lines and self.is_shown:
             note = f'... {self.left_out} lines of supervisors left out\n'.encode() if self.left_out else b''
             self.lines.put(note + lines)
             self.left_out = 0
-        if ticks and self.keeper:
-            self.keeper.own.told(ticks)
 
     def changed(self, change):
         """The daemon's state changed: systemd is told of it, and the page."""
@@ -150,14 +193,6 @@ class Supervisor:
             self.systemd.tell('READY=1', f'STATUS={views.summary(self.serving.state)}')
         if change.kind == 'learned' and self.learned:
             self.learned.write()
-        if not self.keeper:
-            return
-        if change.kind == 'correction':
-            self.keeper.corrected(change.tick, *(change.values[name] for name in ('amount_us', 'way', 'shown_us')))
-        elif change.kind == 'role':
-            self.keeper.changed(self.serving.state)
-        elif change.kind == 'trace' and change.values['trace'] == 'on':
-            self.keeper.traced()
 
     def note_trace(self, is_on):
         """The daemon traces, so it answers; or somebody switched that off."""
@@ -188,7 +223,7 @@ class Supervisor:
 
     def end_daemon(self):
         """Ends the daemon, if it runs."""
-        self.loop.cancel('watch', 'start')
+        self.loop.cancel('watch', 'start', 'follow')
         if self.serving:
             self.serving.end()
         if self.keeper:

@@ -22,6 +22,13 @@ impl<F: FileExt> FileBoard<F> {
         FileBoard { file, faults: 0 }
     }
 
+    /// How many writes failed, with those that weren't tried because one had failed.
+    pub fn faults(&self) -> u64
+        ensures { result ≡ self.now.faults }
+    {
+        self.faults
+    }
+
     /// Whether all of the octets were written at this place, in one write.
     fn put(&self, at: u64, octets: &[u8]) -> bool {
         match self.file.write_at(octets, at) {

@@ -56,7 +56,7 @@ module _ (d : Daemons) (events : List Event) (step : Step) (life : Life) (o : Ou
   ]
 
 pub served_is_tried : ServedIsTried
-served_is_tried d events step life o written waits now served there told by count =
+served_is_tried d events step life o written waits page now served there told by count =
     until-end d events step life o written there told (d.words step.node).turns now.arrivals now.tried now.calls now.readings now.last now.written by.end
     (subst (λ n. ServesUntil (d.words step.node).turns n (first_session (d.words step.node) (after_bind o) life.wall life.word written)
     now.arrivals now.tried now.calls now.readings now.last now.written by.end) count by.serves)

@@ -68,9 +68,9 @@ pub record Running (o : Option Life) : Type 0 where
   pub life : Life
   pub is : o ≡ Some life
 
-pub running : (o : Option Life) → IsRunning o → Running o
-running None r = absurd r
-running (Some life) r = record { life = life; is = refl }
+pub running : (d : Daemons) (n : ℕ) (o : Option Life) → IsRunning d n o → Running o
+running d n None r = absurd r
+running d n (Some life) r = record { life = life; is = refl }
 
 -- what comes of event k: a daemon starts, one that runs takes a turn, or nothing
 pub data Outcome (d : Daemons) (k : ℕ) (w : Network) : Network → Type 0 where
@@ -136,7 +136,7 @@ module _ (d : Daemons) (header_is : IsSetUp d.header) (keeps : (n : ℕ) → Kee
   event_agrees before (Turn at node) possible later a c =
       let w : Network = network d before in
       let h : List Line = run_by d.clocks d.header before in
-      let r = running (w.lives node) c in
+      let r = running d node (w.lives node) c in
       let own = own-agrees w (last_at before) h node a r in
       let step : Step = record { at = at; node = node; cause = Turned } in
       record {
@@ -150,7 +150,7 @@ module _ (d : Daemons) (header_is : IsSetUp d.header) (keeps : (n : ℕ) → Kee
   event_agrees before (Bytes at node port from octets) possible later a c =
       let w : Network = network d before in
       let h : List Line = run_by d.clocks d.header before in
-      let r = running (w.lives node) c.0 in
+      let r = running d node (w.lives node) c.0 in
       let own = own-agrees w (last_at before) h node a r in
       let step : Step = record { at = at; node = node; cause = Handed } in
       let all = length_neighbours node nets in
@@ -173,7 +173,8 @@ module _ (d : Daemons) (header_is : IsSetUp d.header) (keeps : (n : ℕ) → Kee
     h : List Line
     h = run_by d.clocks d.header before
 
-    by_address : (s : Sent) (m : MatchedAt d s (posts h) k) → slice_get w.sent k ≡ Some s → (o : Option Address) → destination nets s.from s.tried.0 ≡ o → RunsAt w o → EventAgrees (Take at k) before
+    by_address : (s : Sent) (m : MatchedAt d s (posts h) k) → slice_get w.sent k ≡ Some s → (o : Option Address) →
+        destination nets s.from s.tried.0 ≡ o → RunsAt d w o → EventAgrees (Take at k) before
     by_address s m there None e r =
         let away : address_of nets m.post.from m.post.port m.post.to ≡ None = sym m.matches.goes ∙ e in
         let net : after_event d (length before) (Take at k) w ≡ w = ap (λ z. takes_copy d (length before) at k z w) there ∙ ap (λ z. delivers d (length before) at k s z w) e in
@@ -187,7 +188,7 @@ module _ (d : Daemons) (header_is : IsSetUp d.header) (keeps : (n : ℕ) → Kee
           ranges = tt;
         }
     by_address s m there (Some to) e r =
-        let r = running (w.lives to.node) r in
+        let r = running d to.node (w.lives to.node) r in
         let own = own-agrees w (last_at before) h to.node a r in
         let post = m.post in
         let goes : address_of nets post.from post.port post.to ≡ Some to = sym m.matches.goes ∙ e in

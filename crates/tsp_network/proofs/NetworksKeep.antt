@@ -15,8 +15,8 @@ use Rattle.tsp_run.specs.{Run.goes_to, Run.last_at, Run.posts, Run.run, declared
 use Rattle.tsp_run.proofs.{PossibleRun.possible_before, RunPremises.clocked_runs_keep_premises, RunPromises.clocked_runs_keep_promises}
 use Rattle.tsp_run.specs.{Networks.networks, Networks.network_from, Promises.Promises, declared.posted.Posted.Posted}
 use Rattle.tsp_run.{proofs.NetworkLemmas.some_same, proofs.RunLemmas.stepped_other, specs.Ranges.IsInRange}
-use Rattle.tsp_network.proofs.NetworkRuns.{Nothing, Outcome, RunAgrees, Starts, Turns, outcome, event_agrees, run_agrees, longer}
-use Rattle.tsp_network.specs.Kept.{tried_by, IsSent, NetworksKeepPromises, SchedulesAreKept, NumbersAreAddresses, AllSuit, RunsAreNetworks, Suits, TriesFirst}
+use Rattle.tsp_network.proofs.NetworkRuns.{Running, Nothing, Outcome, RunAgrees, Starts, Turns, outcome, event_agrees, run_agrees, longer}
+use Rattle.tsp_network.specs.Kept.{HasTurn, tried_by, IsSent, NetworksKeepPromises, SchedulesAreKept, NumbersAreAddresses, AllSuit, RunsAreNetworks, Suits, TriesFirst}
 use Rattle.tsp_network.specs.Networks.{Network, Sent, acted, named_acts, network, life_from, daemon_tick, next_life, node_wall, first_sent, life_until, sent_by, sent_until, unsent}
 use Rattle.tsp_network.specs.Rosters.{destination, count_below, neighbours, neighbours_on, number_for, others_in, place_in}
 use Rattle.tsp_network.specs.Lives.{AreStarted, Daemons, Life, first_acts, session_of, turn_told, turn_acts, addresses}
@@ -105,15 +105,19 @@ all-went d going [] = tt
 all-went d going (e ∷ before) = event-went (going (length before)) (all-went d going before) (outcome d (length before) (network d before) e)
 
 -- a daemon runs on each node that is up
-pub runs_up : (w : Network) (h : List Line) (n : ℕ) → w.history ≡ h → IsQuiet w → up (dids (of n h)) ≡ true → IsRunning (w.lives n)
+pub runs_up : (w : Network) (h : List Line) (n : ℕ) → w.history ≡ h → IsQuiet w → up (dids (of n h)) ≡ true → Running (w.lives n)
 runs_up w h n same q up_is = by_life (w.lives n) refl where
-  by_life : (o : Option Life) → w.lives n ≡ o → IsRunning o
+  by_life : (o : Option Life) → w.lives n ≡ o → Running (w.lives n)
   by_life None e =
       let none : of n h ≡ [] = ap (of n) (sym same) ∙ q n e in
       let off : up (dids (of n h)) ≡ false = ap (λ l. up (dids l)) none in
       let bad : ⊥ = cc in
       absurd bad
-  by_life (Some life) e = tt
+  by_life (Some life) e = record { life = life; is = e }
+
+-- and may take a turn that is left to it
+may-turn : (d : Daemons) (w : Network) (n : ℕ) → Running (w.lives n) → HasTurn d w n → IsRunning d n (w.lives n)
+may-turn d w n r has = subst (λ o. IsRunning d n o) (sym r.is) (has r.life r.is)
 
 -- what isn't impossible takes a datagram that was posted
 known-datagram : (clocks : Clocks) (header : HeaderValue) (before : List Event) (at k : ℕ) → impossible (scene_by clocks header before) (Take at k) ≡ None →
@@ -131,12 +135,16 @@ known-datagram clocks header before at k none =
 module _ (d : Daemons) (header_is : IsSetUp d.header) (keeps : (n : ℕ) → KeepsTime d.header.drift (d.clocks.tick n)) (started : AreStarted d)
     (going : (k : ℕ) → d.tries k ≡ None) where
   take-happens : (before : List Event) (at k : ℕ) → AllAgree d header_is keeps (network d before) (last_at before) (run_by d.clocks d.header before) →
-      impossible (scene_by d.clocks d.header before) (Take at k) ≡ None → RunsFor d (network d before) (slice_get (network d before).sent k)
-  take-happens before at k a can = elim (slice_get_cases (posts h) k).1 [
+      impossible (scene_by d.clocks d.header before) (Take at k) ≡ None → Suits d (length before) (network d before) (Take at k) →
+      RunsFor d (network d before) (slice_get (network d before).sent k)
+  take-happens before at k a can suits = elim (slice_get_cases (posts h) k).1 [
     | inl c ↦
         let r = send_at d a.sends k c.0 c.2 in
-        subst (λ o. RunsFor d w o) (sym r.there)
-        (went-at w.sent k r.send (all-went d going before) r.there, by_address r.send c.0 c.2 r.matches (destination nets r.send.from r.send.tried.0) refl)
+        subst (λ o. RunsFor d w o) (sym r.there) (
+          went-at w.sent k r.send (all-went d going before) r.there,
+          by_address r.send c.0 c.2 r.matches (λ to goes. suits r.send to r.there goes)
+              (destination nets r.send.from r.send.tried.0) refl,
+        )
     | inr c ↦ let few = known-datagram d.clocks d.header before at k can in let past = c.0 in let bad : ⊥ = omega (arith, few, past) in absurd bad
   ] where
     w : Network
@@ -148,14 +156,16 @@ module _ (d : Daemons) (header_is : IsSetUp d.header) (keeps : (n : ℕ) → Kee
     nets : List (List ℕ)
     nets = networks d.header
 
-    by_address : (s : Sent) (p : Posted) → slice_get (posts h) k ≡ Some p → Matches d s p → (o : Option Address) → destination nets s.from s.tried.0 ≡ o → RunsAt w o
-    by_address s p there m None e = tt
-    by_address s p there m (Some to) e =
+    by_address : (s : Sent) (p : Posted) → slice_get (posts h) k ≡ Some p → Matches d s p →
+        ((to : Address) → destination nets s.from s.tried.0 ≡ Some to → HasTurn d w to.node) → (o : Option Address) →
+        destination nets s.from s.tried.0 ≡ o → RunsAt d w o
+    by_address s p there m has None e = tt
+    by_address s p there m has (Some to) e =
         let goes : goes_to nets (slice_get (posts h) k) ≡ Some to = ap (goes_to nets) there ∙ sym m.goes ∙ e in
         let free : down (scene_by d.clocks d.header before).up (Some to.node) ≡ None =
-        ap (λ z. down (scene_by d.clocks d.header before).up (node_in z)) (sym goes) ∙
-        (can_happen (scene_by d.clocks d.header before) (Take at k) can).up in
-        runs_up w h to.node a.history (quiet d going before) (up-down (scene_by d.clocks d.header before) to.node free)
+        ap (λ z. down (scene_by d.clocks d.header before).up (node_in z)) (sym goes)
+        ∙ (can_happen (scene_by d.clocks d.header before) (Take at k) can).up in
+        may-turn d w to.node (runs_up w h to.node a.history (quiet d going before) (up-down (scene_by d.clocks d.header before) to.node free)) (has to e)
 
   happens-so : (before : List Event) (e : Event) → AllAgree d header_is keeps (network d before) (last_at before) (run_by d.clocks d.header before) →
       impossible (scene_by d.clocks d.header before) e ≡ None → IsInRange e → Suits d (length before) (network d before) e →
@@ -163,21 +173,17 @@ module _ (d : Daemons) (header_is : IsSetUp d.header) (keeps : (n : ℕ) → Kee
   happens-so before (BootAt at node word) a can range suits =
       ((can_happen (scene_by d.clocks d.header before) (BootAt at node word) can).node, range, suits.0, suits.1)
   happens-so before (Turn at node) a can range suits =
-      runs_up (network d before) (run_by d.clocks d.header before) node a.history (quiet d going before)
-      (up-down (scene_by d.clocks d.header before) node (can_happen (scene_by d.clocks d.header before) (Turn at node) can).up)
-  happens-so before (Take at k) a can range suits = take-happens before at k a can
+      may-turn d (network d before) node (runs_up (network d before) (run_by d.clocks d.header before) node a.history (quiet d going before)
+      (up-down (scene_by d.clocks d.header before) node (can_happen (scene_by d.clocks d.header before) (Turn at node) can).up)) suits
+  happens-so before (Take at k) a can range suits = take-happens before at k a can suits
   happens-so before (Bytes at node port from octets) a can range suits =
       let s = scene_by d.clocks d.header before in
       let k : CanBe s (Bytes at node port from octets) = can_happen s (Bytes at node port from octets) can in
       let all = length_neighbours node (networks d.header) in
-      let has = k.node.1 in (
-        runs_up (network d before) (run_by d.clocks d.header before) node a.history (quiet d going before) (up-down s node k.up),
-        omega
-            (arith, all, has),
-        suits.0,
-        suits.1,
-        range,
-      )
+      let has = k.node.1 in
+      let few : port.0 < length (neighbours node (networks d.header)) = omega (arith, all, has) in
+      let runs = runs_up (network d before) (run_by d.clocks d.header before) node a.history (quiet d going before) (up-down s node k.up) in
+      (may-turn d (network d before) node runs suits.2, few, suits.0, suits.1, range)
 
   -- the events of a run, as a network's
   record Comes (events : List Event) : Type 0 where
@@ -207,11 +213,18 @@ run_is_network d events started going suits p =
     let few = p.few in
     record { header_is = p.header_is; keeps = p.keeps; started = started; happen = c.happen; few = omega (arith, same, few) }
 
+-- a daemon that runs has a turn left
+has-turn : (d : Daemons) (w : Network) (n : ℕ) → IsRunning d n (w.lives n) → HasTurn d w n
+has-turn d w n r life there = subst (λ o. IsRunning d n o) there r
+
 -- what happens suits the daemons
 suits-so : (d : Daemons) (k : ℕ) (w : Network) (e : Event) → CanHappen d k w e → Suits d k w e
 suits-so d k w (BootAt at node word) c = (c.2, c.3)
-suits-so d k w (Bytes at node port from octets) c = (c.2, c.3)
-suits-so d k w _ c = tt
+suits-so d k w (Turn at node) c = has-turn d w node c
+suits-so d k w (Take at number) c = λ s a there goes. (
+    let runs : (s.went ≡ true) × RunsAt d w (destination (networks d.header) s.from s.tried.0) = subst (λ o. RunsFor d w o) there c in
+    has-turn d w a.node (subst (λ o. RunsAt d w o) goes runs.1))
+suits-so d k w (Bytes at node port from octets) c = (c.2, c.3, has-turn d w node c.0)
 
 all-suit : (d : Daemons) (events : List Event) → AllHappen d events → AllSuit d events
 all-suit d [] all = tt

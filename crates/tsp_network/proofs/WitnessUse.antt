@@ -6,8 +6,9 @@ use Rattle.tsp_rules.specs.{Values.Event, Values.Message, Values.Peer, Values.Pl
 use Rattle.tsp_base.specs.Words.{HeaderValue, IsHeader, IsNet, KeepsDrift, Came, Handed, dids, first_port, has_member, peer_of as peer, posted, stepped}
 use Rattle.tsp_promises.specs.{Once.OnceObeyed, Premises.Honest, Premises.Life, Premises.Words, Setting.Setting}
 use Rattle.tsp_run.{proofs.NetworkLemmas.some_same, proofs.RunPremises.possible_runs_keep_premises, specs.declared.posted.Posted.Posted}
-use Rattle.tsp_run.specs.{Clocked.clocks_of, Clocked.run_by, Networks.networks, Possible.Possible, Possible.Happens, Premised.Apart, Ranges.IsInRange}
+use Rattle.tsp_run.specs.{Clocked.clocks_of, Clocked.run_by, Networks.networks, Possible.Possible, Possible.Happens, Ranges.IsInRange}
 use Rattle.tsp_run.proofs.OwnClocks.{possible_own, runs_by_own_clocks}
+use Rattle.tsp_network.proofs.EventLists.{differ_apart, plain_ranges, plain_sealed, plain_suit}
 use Rattle.tsp_network.proofs.ServeUse.{alone_on_two, beside_one, beside_two, letter_name}
 use Rattle.tsp_args.specs.declared.serve.Candidacy.TheVariants.{Never, Plain}
 use Rattle.tsp_run.{proofs.PromptRun.posted-at, specs.Run.run, specs.Run.posts, specs.Setup.node_line}
@@ -16,7 +17,7 @@ use Rattle.tsp_network.proofs.UseLemmas.{history, set_post, set_time, stray_acts
 use Rattle.tsp_network.proofs.NetworksKeep.{run_is_network, SendAt, quiet, runs_up, send_at}
 use Rattle.tsp_network.proofs.NetworkAgrees.{AllAgree, OneAgrees, turn_agrees_all, Agrees}
 use Rattle.tsp_network.specs.{Networks.network, Networks.daemon_tick, Networks.Network, Networks.copy_at}
-use Rattle.tsp_network.proofs.{NetworkRuns.run_agrees, NetworkRuns.running, SetUpLemmas.comes_as, SetUpLemmas.place-of}
+use Rattle.tsp_network.proofs.{NetworkRuns.run_agrees, SetUpLemmas.comes_as, SetUpLemmas.place-of}
 use Rattle.tsp_network.specs.{Events.IsNetwork, Events.MayCome, Events.AllHappen, Lives.AreStarted, Lives.Daemons, Lives.session_of, Rosters.neighbours_on}
 use Rattle.tsp_codec.specs.{Canon.canon, Taken.taken_of}
 
@@ -65,39 +66,31 @@ in_ranges [] r = All-nil IsInRange
 in_ranges (e ∷ before) r = All-cons IsInRange e before r.0 (in_ranges before r.1)
 
 -- such a run is possible, if it posts few datagrams
-possible-so : {header : HeaderValue} {events : List Event} → IsHeader header → InRanges events → Happens header events → (n : ℕ) → length (posts (run header events)) ≡ n → n < 2 ^ 64 → Possible header events
-possible-so {header} {events} is ranges happens n same few = record { header_is = is; ranges = in_ranges events ranges; happens = happens; few = omega (arith, same, few) }
+possible-so : {header : HeaderValue} {events : List Event} → IsHeader header → All IsInRange events → Happens header events → (n : ℕ) →
+    length (posts (run header events)) ≡ n → n < 2 ^ 64 → Possible header events
+possible-so {header} {events} is ranges happens n same few = record { header_is = is; ranges = ranges; happens = happens; few = omega (arith, same, few) }
 
 used-possible : Possible two_nodes used
-used-possible = possible-so used-header (tt, (tt, (tt, (tt, (tt, (tt, (tt, (tt, (tt, (tt, (tt, (tt, (tt, (tt, (tt, (tt, (tt, (tt, (tt, (tt, (tt, (omega arith, (omega arith, tt))))))))))))))))))))))) computed.used.happens 16 computed.used.count (omega arith)
+used-possible = possible-so used-header (plain_ranges used refl) computed.used.happens 16 computed.used.count (omega arith)
+
+-- their words give them a thousand turns
+pub two-turns : (n : ℕ) → 1000 ≤ (two_daemons.words n).turns
+two-turns zero = omega arith
+two-turns (suc n) = omega arith
+
+three-turns : (n : ℕ) → 1000 ≤ (three_daemons.words n).turns
+three-turns zero = omega arith
+three-turns (suc zero) = omega arith
+three-turns (suc (suc n)) = omega arith
 
 used-is : IsNetwork two_daemons used
-used-is = run_is_network two_daemons used used-started (λ k. refl) (
-  tt,
-  (
-    tt,
-    (
-      tt,
-      (
-        tt,
-        (
-          tt,
-          (
-            tt,
-            (tt, (tt, (tt, (tt, (tt, (tt, (tt, (tt, (tt, (tt, (tt, (tt, (tt, (tt, (tt, ((begun 1 refl, refl), ((begun 0 refl, refl), tt))))))))))))))))),
-          ),
-        ),
-      ),
-    ),
-  ),
-) (possible_own two_nodes used used-possible)
+used-is = run_is_network two_daemons used used-started (λ k. refl)
+    (plain_suit two_daemons used two-turns (omega arith) refl ((begun 1 refl, refl), ((begun 0 refl, refl), tt)))
+    (possible_own two_nodes used used-possible)
 
 history-is : (network two_daemons used).history ≡ run two_nodes used
 history-is =
     (run_agrees two_daemons used-is.header_is used-is.keeps used-started used used-is.happen used-is.few).agree.history ∙ runs_by_own_clocks two_nodes used
-
-used-apart : Apart used
-used-apart = (tt, (tt, (tt, (tt, (tt, (tt, (tt, (tt, (tt, (tt, (tt, (tt, (tt, (tt, (tt, (tt, (tt, (tt, (tt, (tt, (tt, ((λ e. (let bad : ⊥ = omega (arith, e) in bad), tt), (tt, tt)))))))))))))))))))))))
 
 pub network_use : NetworkUse
 network_use =
@@ -107,10 +100,9 @@ network_use =
       is = used-is;
       master = ap (acts_by_node 0) history-is ∙ computed.used.acts_a;
       slave = ap (acts_by_node 1) history-is ∙ computed.used.acts_b;
-      honest = subst Honest same (kept.honest
-          (tt, (tt, (tt, (tt, (tt, (tt, (tt, (tt, (tt, (tt, (tt, (tt, (tt, (tt, (tt, (tt, (tt, (tt, (tt, (tt, (tt, (tt, (tt, tt))))))))))))))))))))))));
+      honest = subst Honest same (kept.honest (plain_sealed used refl));
       life = subst Life same (kept.life computed.used.prompt);
-      words = subst Words same (kept.words used-apart);
+      words = subst Words same (kept.words (differ_apart used refl));
     }
 
 led-header : IsHeader three_nodes
@@ -157,31 +149,11 @@ led-started (suc (suc zero)) low =
 led-started (suc (suc (suc n))) low = let bad : ⊥ = omega (arith, low) in absurd bad
 
 led-possible : Possible three_nodes led
-led-possible = possible-so led-header (tt, (tt, (tt, (tt, (tt, (tt, (tt, (tt, (tt, (tt, (tt, (tt, (tt, (tt, (tt, (omega arith, (omega arith, (omega arith, tt)))))))))))))))))) computed.astray.happens 15 computed.astray.count (omega arith)
+led-possible = possible-so led-header (plain_ranges led refl) computed.astray.happens 15 computed.astray.count (omega arith)
 
 led-is : IsNetwork three_daemons led
-led-is = run_is_network three_daemons led led-started (λ k. refl) (
-  tt,
-  (
-    tt,
-    (
-      tt,
-      (
-        tt,
-        (
-          tt,
-          (
-            tt,
-            (
-              tt,
-              (tt, (tt, (tt, (tt, (tt, (tt, (tt, (tt, ((omega arith, refl), ((omega arith, refl), ((omega arith, refl), tt))))))))))),
-            ),
-          ),
-        ),
-      ),
-    ),
-  ),
-)
+led-is = run_is_network three_daemons led led-started (λ k. refl)
+    (plain_suit three_daemons led three-turns (omega arith) refl ((omega arith, refl), ((omega arith, refl), ((omega arith, refl), tt))))
     (possible_own three_nodes led led-possible)
 
 abbrev now : Network
@@ -197,7 +169,7 @@ sent = send_at three_daemons agree.sends 14 set_post computed.astray.posted
 -- what c does with the copy, as a node would
 astray-is : (astray sent.send).history ≡ stepped stray_step 390001400 stray_acts history
 astray-is =
-    let r = running (now.lives 2) (runs_up now history 2 agree.history (quiet three_daemons (λ k. refl) led) computed.astray.is_up) in
+    let r = runs_up now history 2 agree.history (quiet three_daemons (λ k. refl) led) computed.astray.is_up in
     let s = sent.send in
     let a = agree in
     let nets : List (List ℕ) = networks three_nodes in
@@ -215,8 +187,7 @@ astray-is =
     after.history ∙ ap (λ l. stepped stray_step 390001400 l history) computed.astray.acts_are
 
 honest-run : Honest history
-honest-run = (possible_runs_keep_premises three_nodes led led-possible).honest
-    (tt, (tt, (tt, (tt, (tt, (tt, (tt, (tt, (tt, (tt, (tt, (tt, (tt, (tt, (tt, (tt, (tt, (tt, tt))))))))))))))))))
+honest-run = (possible_runs_keep_premises three_nodes led led-possible).honest (plain_sealed led refl)
 
 handed : {A : Type 0} → Came 14 ≡ Handed → A
 handed e = let bad : ⊥ = cc in absurd bad
@@ -278,7 +249,7 @@ by-clocks d events own other same = other (same ∙ ap (λ c. run_by c d.header 
 
 -- no octets come to it
 no-octets : (from : Place) → Happens one_node (on_second_port from) → length (posts (run one_node (on_second_port from))) ≡ 0 → Possible one_node (on_second_port from)
-no-octets from happens none = possible-so one-header ((λ i. omega arith), (omega arith, tt)) happens 0 none (omega arith)
+no-octets from happens none = possible-so one-header (in_ranges (on_second_port from) ((λ i. omega arith), (omega arith, tt))) happens 0 none (omega arith)
 
 too-early : ¬ AllHappen (one_daemon 5) start
 too-early all = let bad = all.1.2 in omega (arith, bad)
@@ -296,7 +267,8 @@ pub networks_break : NetworksBreak
 networks_break = record {
   mistimed = record {
     started = one-started 5;
-    possible = possible_own one_node start (possible-so one-header (omega arith, tt) computed.broken.starts 0 computed.broken.start_posts (omega arith));
+    possible = possible_own one_node start
+        (possible-so one-header (plain_ranges start refl) computed.broken.starts 0 computed.broken.start_posts (omega arith));
     cannot = too-early;
     differs = by-clocks (one_daemon 5) start refl computed.broken.late;
   };

@@ -1,16 +1,16 @@
 -- What is promised of every network of daemons, by which addresses its daemons know each other, and which runs of the rules are a network.
-use Rattle.std.specs.Prelude.{◌≡◌, ◌==◌, ℕ, ◌&&◌, List, ◌++◌, length, map, filter, drop, take, None, Some, slice_get, ◌≢◌, true, ◌≤◌, [], ◌∷◌}
+use Rattle.std.specs.Prelude.{◌≡◌, ◌==◌, ℕ, ◌&&◌, List, ◌++◌, length, map, filter, drop, take, None, Some, slice_get, ◌≢◌, true, ◌<◌, ◌≤◌, [], ◌∷◌}
 use Rattle.tsp_codec.specs.Canon.{canon}
-use Rattle.tsp_run.specs.{Networks.networks, Networks.network_at, Premised.KeptByText, Promises.Promises, declared.posted.Posted.Posted}
+use Rattle.tsp_run.specs.{Networks.networks, Networks.network_at, Premised.KeptByText, Promises.Promises, declared.address.Address.Address, declared.posted.Posted.Posted}
 use Rattle.tsp_run.specs.Clocked.{KeptByEvents, PossibleBy, SetByClocks, clocks_of, run_by}
 use Rattle.tsp_run.specs.{Run.posts, Run.run, Setting.SetBy}
 use Rattle.tsp_rules.specs.Guards.{is_clock_value}
 use Rattle.tsp_promises.specs.Setting.{Setting}
-use Rattle.tsp_rules.specs.{Renames.renamed_place, Values.Event, Values.Port, Values.BootAt, Values.Bytes}
+use Rattle.tsp_rules.specs.{Renames.renamed_place, Values.Event, Values.Port, Values.BootAt, Values.Bytes, Values.Take, Values.Turn}
 use Rattle.tsp_io.specs.Links.{Arrival, Tried}
 use Rattle.tsp_daemon.specs.Posts.{sends_of}
 use Rattle.tsp_network.specs.Lives.{Daemons, Life, session_of, turn_acts, turn_told, IsStarted, AreStarted}
-use Rattle.tsp_network.specs.{Events.IsNetwork, Events.MayCome, Rosters.renaming_on, Rosters.neighbours_on, Rosters.number_for}
+use Rattle.tsp_network.specs.{Events.IsNetwork, Events.MayCome, Rosters.renaming_on, Rosters.destination, Rosters.neighbours_on, Rosters.number_for}
 use Rattle.tsp_network.specs.Networks.{Network, Sent, network, daemon_tick, next_life, node_wall, turned_to}
 use Rattle.tsp_base.specs.Words.{Step, has_member}
 use Rattle.tsp_daemon.specs.Serving.{serving_binding}
@@ -25,8 +25,8 @@ pub record IsSent (d : Daemons) (s : Sent) (p : Posted) : Type 0 where
 abbrev pub tried_by : ℕ → List Sent → List Tried
 tried_by n sent = map (λ s. s.tried) (filter (λ s. s.went && (s.from == n)) sent)
 
--- a daemon that has come to this life takes its last turn at the next event, in which this is told: in its life it has tried what its session
--- had tried before, and the first m sends of that turn
+-- a daemon that has come to the one life takes its last turn at the next event, with which it comes to the other: since its start it has tried
+-- what its session had tried before, and the first m sends of that turn
 abbrev pub TriesFirst : Daemons → List Event → Step → Life → Life → ℕ → Type 0
 TriesFirst d before step life now m =
     tried_by step.node (drop life.sent_before (turned_to d (length before) step life now (network d before)).sent)
@@ -40,7 +40,8 @@ pub record NetworkKept (d : Daemons) (setting : Setting) (events : List Event) :
   pub sends : (k : ℕ) (s : Sent) (p : Posted) → slice_get (network d events).sent k ≡ Some s →
       slice_get (posts (run_by d.clocks d.header events)) k ≡ Some p → IsSent d s p
   -- what a daemon that runs has tried, as its session has it, is what the network has of it since it started
-  pub tried : (n : ℕ) (life : Life) → (network d events).lives n ≡ Some life → (session_of (d.words n) life).outside.tried ≡ tried_by n (drop life.sent_before (network d events).sent)
+  pub tried : (n : ℕ) (life : Life) → (network d events).lives n ≡ Some life →
+      (session_of (d.words n) life).outside.tried ≡ tried_by n (drop life.sent_before (network d events).sent)
   -- a daemon that ends in its next turn, after m of its sends, has tried those
   pub ended : (step : Step) (life : Life) (arrival : Arrival) (early tick m : ℕ) → (network d events).lives step.node ≡ Some life →
       d.tries (length events) ≡ Some m → TriesFirst d events step life (turn_told arrival early tick life) m
@@ -67,15 +68,23 @@ SchedulesAreKept =
 -- the number by which the daemon of node n knows node m, on a port that is on network k, is the place of m's address on that network among the
 -- addresses to which the daemon binds its link. So a link that takes an address for its place takes senders for whom they are
 abbrev pub NumbersAreAddresses : Type 0
-NumbersAreAddresses = (d : Daemons) (n : ℕ) (q : Port) (k m : ℕ) → IsStarted d n → network_at n q (networks d.header) ≡ Some k → has_member m (neighbours_on n q.0 (networks d.header)) ≡ true → m ≢ n →
+NumbersAreAddresses =
+    (d : Daemons) (n : ℕ) (q : Port) (k m : ℕ) → IsStarted d n → network_at n q (networks d.header) ≡ Some k →
+    has_member m (neighbours_on n q.0 (networks d.header)) ≡ true → m ≢ n →
     slice_get (serving_binding (d.words n)).peers (number_for n q.0 m (networks d.header)) ≡ Some (d.address k m)
 
--- daemons do what a node does at event k: if it starts, after its counter does, and with a wall clock that a daemon takes; and if octets are
--- handed to it, a daemon can take them so
+-- the daemon that runs on node n, if one does, has taken fewer turns than its words say
+abbrev pub HasTurn : Daemons → Network → ℕ → Type 0
+HasTurn d w n = (life : Life) → w.lives n ≡ Some life → length life.arrivals < (d.words n).turns
+
+-- daemons do what a node does at event k: if it starts, after its counter does, and with a wall clock that a daemon takes; and else with a turn
+-- that is left to it; and if octets are handed to it, a daemon can take them so
 abbrev pub Suits : Daemons → ℕ → Network → Event → Type 0
 Suits d k w (BootAt at node word) = (d.origin k ≤ daemon_tick d node at) × (is_clock_value (node_wall d node (next_life w node) at) ≡ true)
-Suits d k w (Bytes at node port from octets) = MayCome (networks d.header) node port from × (length octets ≤ 512)
-Suits d k w _ = Unit {0}
+Suits d k w (Turn at node) = HasTurn d w node
+Suits d k w (Take at number) =
+    (s : Sent) (a : Address) → slice_get w.sent number ≡ Some s → destination (networks d.header) s.from s.tried.0 ≡ Some a → HasTurn d w a.node
+Suits d k w (Bytes at node port from octets) = MayCome (networks d.header) node port from × (length octets ≤ 512) × HasTurn d w node
 
 -- at each of these events, the newest of which comes first
 abbrev pub AllSuit : Daemons → List Event → Type 0

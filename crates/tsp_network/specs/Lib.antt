@@ -1,3 +1,4 @@
+pub mod ClocksUse
 pub mod Events
 pub mod Kept
 pub mod Lives

@@ -5,7 +5,7 @@ use Rattle.tsp_args.specs.declared.serve.ServeWords.{ServeWords}
 use Rattle.tsp_base.specs.Words.{Step}
 use Rattle.tsp_io.specs.Links.{Arrival, Tried}
 use Rattle.tsp_rules.specs.Values.{Event}
-use Rattle.tsp_query.specs.{Ends.Outside, Outside.Observed, Outside.after_bind}
+use Rattle.tsp_query.specs.{Ends.Outside, Outside.Observed, Outside.Paged, Outside.after_bind}
 use Rattle.tsp_daemon.specs.{Serving.IsServed, Serving.first_session, Sessions.Session, Sessions.acts_in_turn, Sessions.after_turns}
 use Rattle.tsp_daemon.specs.declared.exit.DaemonExit.{DaemonExit}
 use Rattle.tsp_network.specs.{Kept.tried_by, Lives.Daemons, Lives.Life, Lives.session_of, Lives.turn_acts, Lives.turn_told}
@@ -55,7 +55,7 @@ IsTriedSo d events step o life tried =
 -- so it is with every daemon of which `serve` says how it was served, in as many turns as this life has
 abbrev pub ServedIsTried : Type 0
 ServedIsTried =
-    (d : Daemons) (events : List Event) (step : Step) (life : Life) (o : Outside) (written : List ℕ) (waits : Option (List ℕ)) (now : Observed)
-    (served : DaemonExit) → (network d events).lives step.node ≡ Some life → IsTold o life.wall life.word life →
-    (by : IsServed (d.words step.node) (after_bind o) life.wall life.word written waits now served) → by.taken ≡ length life.arrivals →
+    (d : Daemons) (events : List Event) (step : Step) (life : Life) (o : Outside) (written : List ℕ) (waits : Option (List ℕ)) (page : Paged)
+    (now : Observed) (served : DaemonExit) → (network d events).lives step.node ≡ Some life → IsTold o life.wall life.word life →
+    (by : IsServed (d.words step.node) (after_bind o) life.wall life.word written waits page now served) → by.taken ≡ length life.arrivals →
     IsTriedSo d events step o life now.tried

@@ -1,4 +1,5 @@
 //! Theorems about every network of daemons. Nothing here runs.
+ghost use Rattle.tsp_network.specs.ClocksUse.{AnyPacesKeepTime, ClocksUse, LivesCount};
 ghost use Rattle.tsp_network.specs.Kept.{NetworksKeepPromises, NumbersAreAddresses, RunsAreNetworks};
 ghost use Rattle.tsp_network.specs.Kept.{SchedulesAreKept};
 ghost use Rattle.tsp_network.specs.Told.{ServedIsTried, SessionsAreTold};
@@ -49,6 +50,26 @@ pub fn runs_are_networks()
 #[tactic(auto, using(crate::proofs::WitnessUse::network_use))]
 pub fn network_use()
     ensures { NetworkUse }
+{}
+
+/// A counter whose rate changes as often as one likes, by no more than the drift from that of true time,
+/// stays within the drift.
+pub fn any_paces_keep_time()
+    ensures { AnyPacesKeepTime }
+{}
+
+/// Two daemons whose counters change their rates by 160 parts in a million at any times are a network: one is
+/// elected, sets the other's clock and corrects it in rounds, also after that has started again with
+/// another wall clock.
+#[tactic(auto, using(crate::proofs::WanderUse::clocks_use))]
+pub fn clocks_use()
+    ensures { ClocksUse }
+{}
+
+/// That each life has a wall clock of its own is needed: with that of its first life in the other's second
+/// life too, a measurement errs by more than its err.
+pub fn lives_count()
+    ensures { LivesCount }
 {}
 
 /// A daemon that starts before its counter does, and one that is handed octets on a port where it can't

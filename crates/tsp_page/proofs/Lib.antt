@@ -3,3 +3,4 @@ pub mod OctetLemmas
 pub mod PastLemmas
 pub mod ReadBack
 pub mod Rising
+pub mod StaleLemmas

@@ -17,7 +17,8 @@ take-more [] i h = absurd (omega (arith, h))
 take-more (n ∷ ns) zero h = refl
 take-more (n ∷ ns) (suc i) h = ap (λ z. to_le_bytes w64 n ++ z) (take-more ns i (omega (arith, h)))
 
-pub octets_of_all-take-suc : (ns : List ℕ) (i : ℕ) → i < length ns → octets_of_all (take (i + 1) ns) ≡ octets_of_all (take i ns) ++ to_le_bytes w64 (get_or ns i 0)
+pub octets_of_all-take-suc : (ns : List ℕ) (i : ℕ) → i < length ns → octets_of_all (take (i + 1) ns) ≡ octets_of_all (take i ns) ++ to_le_bytes w64
+    (get_or ns i 0)
 octets_of_all-take-suc ns i h = let e : i + 1 ≡ suc i = omega arith in rw e (take-more ns i h)
 
 -- the numbers so far leave room for one more

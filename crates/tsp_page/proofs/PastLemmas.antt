@@ -2,7 +2,28 @@
 use Rattle.std.proofs.Common.{◌≡◌, ℕ, ◌-◌, ◌/◌, ℤ, pos, ◌+ℤ◌, ◌-ℤ◌, false, List, ◌∷◌, refl, sym, ◌∙◌, arith}
 use Rattle.std.proofs.lemmas.{Int.ints, Bool.false≢true}
 use Rattle.tsp_base.specs.declared.act.Act.TheVariants.{Boot, Correct}
-use Rattle.tsp_base.specs.Words.{boot_tick, boot_after, last_correct_after, moved_after, rest_after, wall, wall_after, Cause, Deed, Acts, Did, Past, plain, base, moved, target, rest, last_correct, shown, eased}
+use Rattle.tsp_base.specs.Words.{
+  boot_tick,
+  boot_after,
+  last_correct_after,
+  moved_after,
+  rest_after,
+  wall,
+  wall_after,
+  Cause,
+  Deed,
+  Acts,
+  Did,
+  Past,
+  plain,
+  base,
+  moved,
+  target,
+  rest,
+  last_correct,
+  shown,
+  eased,
+}
 use Rattle.tsp_clock.specs.{Clocks.ClockValue, Clocks.target_of, ClockStands.ClockStands}
 use Rattle.tsp_page.specs.{Formula.target_at, Formula.clock_shown_at, Pasts.TellsOf, Pasts.changes_clock}
 use Rattle.tsp_page.specs.declared.daemon_half.DaemonHalf.{DaemonHalf}
@@ -20,14 +41,16 @@ shown_told ds h x t =
 
 -- a deed that doesn't change the clock leaves each fact of it as it was
 kept : (deed : Deed) (cause : Cause) (x at boot : ℕ) (m left r w : ℤ) → changes_clock deed ≡ false
-    → (last_correct_after deed x at ≡ at) × (moved_after deed m ≡ m) × (rest_after deed left r ≡ r) × (wall_after deed cause w ≡ w) × (boot_after deed x boot ≡ boot)
+    → (last_correct_after deed x at ≡ at) × (moved_after deed m ≡ m) × (rest_after deed left r ≡ r) × (wall_after deed cause w ≡ w) × (boot_after
+    deed x boot ≡ boot)
 kept (Acts Boot) cause x at boot m left r w e = absurd (false≢true (sym e))
 kept (Acts (Correct amount stepped shown)) cause x at boot m left r w e = absurd (false≢true (sym e))
 kept _ cause x at boot m left r w e = (refl, refl, refl, refl, refl)
 
 pub told_on : (d : Did) (ds : List Did) (h : DaemonHalf) → TellsOf ds h → changes_clock d.deed ≡ false → TellsOf (d ∷ ds) h
 told_on d ds h t e =
-    let k = kept d.deed d.step.cause d.tick (last_correct ds) (boot_tick ds) (moved ds) (eased (rest ds) ((d.tick - last_correct ds) / 200)) (rest ds) (wall ds) e in record {
+    let k = kept d.deed d.step.cause d.tick (last_correct ds) (boot_tick ds) (moved ds) (eased (rest ds) ((d.tick - last_correct ds) / 200)) (rest
+    ds) (wall ds) e in record {
       tick_is = rw k.0 t.tick_is;
       target_is = rw (k.0, k.1, k.3, k.4) t.target_is;
       rest_is = rw k.2 t.rest_is;

@@ -79,7 +79,8 @@ whole-rises (pos a) (negsuc b) h = omega (arith, ints, h)
 whole-rises (negsuc a) b h = omega arith
 
 pub when-rises : (h : DaemonHalf) → IsSoundCount h → (n m : ℕ) → n ≤ m → shown_when h n ≤ℤ shown_when h m
-when-rises h sound n m le = page-rises h (whole_tick (tick_at h n)) (whole_tick (tick_at h m)) (whole-rises (tick_at h n) (tick_at h m) (tick-rises h sound n m le))
+when-rises h sound n m le = page-rises h (whole_tick (tick_at h n)) (whole_tick (tick_at h m)) (whole-rises (tick_at h n) (tick_at h m) (tick-rises h
+    sound n m le))
 
 trans : (a b c : ℤ) → a ≤ℤ b → b ≤ℤ c → a ≤ℤ c
 trans a b c h k = omega (arith, ints, h, k)
@@ -93,7 +94,8 @@ all-above h w (v ∷ vs) k m =
     trans w.half.least (shown_when w.half v.at) (shown_when (last_half v.half vs) m) least
     (trans (shown_when w.half v.at) v.half.least (shown_when (last_half v.half vs) m) next (all-above w.half v vs k.1 m))
 
-pub reads_rise : (h : DaemonHalf) (ws : List Written) → IsSoundCount h → KeepsOn h ws → (n m : ℕ) → n ≤ m → IsBefore n ws → shown_when h n ≤ℤ shown_when (last_half h ws) m
+pub reads_rise : (h : DaemonHalf) (ws : List Written) → IsSoundCount h → KeepsOn h ws → (n m : ℕ) → n ≤ m → IsBefore n ws
+    → shown_when h n ≤ℤ shown_when (last_half h ws) m
 reads_rise h [] sound k n m le before = when-rises h sound n m le
 reads_rise h (w ∷ ws) sound k n m le before =
     trans (shown_when h n) (shown_when h w.at) (shown_when (last_half w.half ws) m) (when-rises h sound n w.at before)

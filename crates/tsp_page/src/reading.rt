@@ -184,6 +184,7 @@ pub fn read(daemon: &DaemonHalf, look: &LookHalf, now: u64) -> Reading
         → result ≡ reading_of daemon.now look.now (tick_at daemon.now now) }
     ensures unsound { result.status ≢ Stale
         → IsSoundDaemon daemon.now × IsSoundLook look.now × (now < 2 ^ 62) }
+    ensures stale { result.status ≡ Stale → result ≡ without_interval Stale (pos 0) }
 {
     if now < 1 << 62 && daemon.is_sound() && look.is_sound() {
         reading_at(daemon, look, daemon.tick_at(now))

@@ -12,13 +12,15 @@ pub returns-clause-value : goal.returns-clause-value
 returns-clause-value c =
     let time = to_z-of_z w64 c.args.elapsed c.ranges.elapsed in
     let w : c.div_euclid.result ≡ int_div_euclid c.args.elapsed (pos 1000000000) = c.div_euclid.ensures ∙ ap (λ z. int_div_euclid z (pos 1000000000)) time in
-    let p : c.rem_euclid.result ≡ int_rem_euclid c.args.elapsed (pos 1000000000) = c.rem_euclid.ensures.value ∙ ap (λ z. int_rem_euclid z (pos 1000000000)) time in
+    let p : c.rem_euclid.result ≡ int_rem_euclid c.args.elapsed (pos 1000000000) = c.rem_euclid.ensures.value ∙ ap (λ z. int_rem_euclid z (pos
+    1000000000)) time in
     let parts = gained-parts c.args.rate c.args.elapsed c.div_euclid.result c.rem_euclid.result w p in
     let whole = passed-product c.times-whole.result c.div_euclid.result c.args.rate (search rules) c.ranges.rate c.times-whole.ensures.value in
     let part = passed-product c.times-part.result c.rem_euclid.result c.args.rate (search rules) c.ranges.rate c.times-part.ensures.value in
     let quotient : c.div_euclid-2.result ≡ int_div_euclid (c.rem_euclid.result *ℤ c.args.rate) (pos 1000000000) =
     c.div_euclid-2.ensures ∙ ap (λ z. int_div_euclid z (pos 1000000000)) (to_z-of_z w64 c.times-part.result (search rules) ∙ part) in
-    let sum : to_z w64 (of_z w64 (to_z w64 (of_z w64 c.times-whole.result) +ℤ to_z w64 (of_z w64 c.div_euclid-2.result))) ≡ c.times-whole.result +ℤ c.div_euclid-2.result = search rules in
+    let sum : to_z w64 (of_z w64 (to_z w64 (of_z w64 c.times-whole.result) +ℤ to_z w64 (of_z w64 c.div_euclid-2.result))) ≡ c.times-whole.result +ℤ
+    c.div_euclid-2.result = search rules in
     sum ∙ (ap (λ z. z +ℤ c.div_euclid-2.result) whole ∙ (ap (λ z. (c.div_euclid.result *ℤ c.args.rate) +ℤ z) quotient ∙ sym parts))
 
 pub returns-clause-small : goal.returns-clause-small

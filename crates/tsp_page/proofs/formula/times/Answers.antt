@@ -7,7 +7,8 @@ pub returns-clause-value : goal.returns-clause-value
 returns-clause-value c =
     let a = to_z-of_z w64 c.args.count c.ranges.count in
     let b = to_z-of_z w64 c.args.rate c.ranges.rate in
-    let f : FitsSigned w64 (c.args.count *ℤ c.args.rate) = fits_signed_mul w64 c.args.count c.args.rate 1000000000 1000000 c.requires.count c.requires.rate (omega arith) in
+    let f : FitsSigned w64 (c.args.count *ℤ c.args.rate) = fits_signed_mul w64 c.args.count c.args.rate 1000000000 1000000 c.requires.count
+    c.requires.rate (omega arith) in
     rw (a, b) (to_z-of_z w64 (c.args.count *ℤ c.args.rate) f)
 
 pub returns-clause-small : goal.returns-clause-small

@@ -4,7 +4,8 @@ use Rattle.tsp_page.proofs.OctetLemmas.{octets_of_all-take-suc, length-octets-al
 use Rattle.tsp_page.proofs.numbers.octets_of_all.Goals as goal
 
 pub append-requires : goal.append-requires
-append-requires g c = let room = length-octets-so-far c.args.numbers.now c.loop-number.number-index (search rules) in rw (c.loop-number.invariant) (omega (arith, room, c.requires))
+append-requires g c = let room = length-octets-so-far c.args.numbers.now c.loop-number.number-index (search rules) in rw (c.loop-number.invariant)
+    (omega (arith, room, c.requires))
 
 pub loop-number-preserved : goal.loop-number-preserved
 loop-number-preserved g c = rw (octets_of_all-take-suc c.args.numbers.now c.loop-number.number-index (search rules), c.append.ensures, c.loop-number.invariant)

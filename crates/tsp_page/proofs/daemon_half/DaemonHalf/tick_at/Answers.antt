@@ -10,7 +10,9 @@ returns-clause-value c =
     let time = to_z-of_z w64 c.elapsed-elapsed.result (search rules) ∙ c.elapsed-elapsed.ensures.value in
     let gain : c.gained.result ≡ gained h.rate (elapsed h c.args.now) =
     c.gained.ensures.value ∙ (ap (λ z. gained z (to_z w64 (of_z w64 c.elapsed-elapsed.result))) rate ∙ ap (λ z. gained h.rate z) time) in
-    let sum : to_z w64 (of_z w64 (to_z w64 (of_z w64 (to_z w64 h.origin_tick +ℤ to_z w64 (of_z w64 c.elapsed-elapsed.result))) +ℤ to_z w64 (of_z w64 c.gained.result)))
+    let sum : to_z w64 (of_z w64 (to_z w64 (of_z w64 (to_z w64 h.origin_tick +ℤ to_z w64 (of_z w64 c.elapsed-elapsed.result))) +ℤ to_z w64 (of_z w64
+    c.gained.result)))
     ≡ (pos h.origin_tick +ℤ c.elapsed-elapsed.result) +ℤ c.gained.result =
     omega (arith, ints, c.requires.sound.count.origin_tick, c.elapsed-elapsed.ensures.small, c.gained.ensures.small) in
-    sum ∙ (ap (λ z. (pos h.origin_tick +ℤ z) +ℤ c.gained.result) c.elapsed-elapsed.ensures.value ∙ ap (λ z. (pos h.origin_tick +ℤ elapsed h c.args.now) +ℤ z) gain)
+    sum ∙ (ap (λ z. (pos h.origin_tick +ℤ z) +ℤ c.gained.result) c.elapsed-elapsed.ensures.value ∙ ap (λ z. (pos h.origin_tick +ℤ elapsed h
+    c.args.now) +ℤ z) gain)
