@@ -205,7 +205,7 @@ module _ (late : ℕ) (slack : late ≤ SLACK) (m : Manner) (d : Did) (before : 
   arms : (a : Alarm) (at : ℕ) → (Heard before ⊎ Unheard (Acts (Arm a at)) d before) → After (Acts (Arm a at))
   arms Quiet at c = phased (role before) _ false false false false false (elim c [
     | inl heard ↦ inl (both-now heard)
-    | inr boot ↦ inl (let a = inv.boot_le in let b = inv.word_le in let e = news-le in omega (arith, boot, a, b, e))
+    | inr by ↦ inl (let boot = by.0 in let a = inv.boot_le in let b = inv.word_le in let e = news-le in omega (arith, boot, a, b, e))
   ])
   arms Search at c = phased (role before) _ false false false false false (elim c [
     | inl heard ↦ inl (both-now heard)

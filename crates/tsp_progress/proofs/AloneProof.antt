@@ -10,7 +10,8 @@ use Rattle.tsp_base.specs.Words.{Acts, Begins, Deadlines, none_armed, Deed, Did,
 use Rattle.tsp_base.specs.Words.{held_after, is_past, plain, role, taken, taken_after, tick_of, word}
 use Rattle.tsp_progress.specs.AlarmsFit.{AlarmFits, AlarmsFit, ArmFits, LateFits, Manner, RingFits, stands_by, stands_now}
 use Rattle.tsp_progress.specs.AloneStands.{is_news, news, patience}
-use Rattle.tsp_progress.specs.CausesFit.{CausesFit, Heard, Unheard, backs_by, backs_itself_now, elects_by, loosens_by, newest_is, searches_by, seeks_by}
+use Rattle.tsp_progress.specs.CausesFit.{starts_by, CausesFit, Heard, Unheard, backs_by, backs_itself_now, elects_by, loosens_by, newest_is, searches_by}
+use Rattle.tsp_progress.specs.CausesFit.{seeks_by}
 use Rattle.tsp_progress.specs.CausesFit.{stirred, stirs_in}
 use Rattle.tsp_progress.specs.{Stands.AfterElect, Stands.StandsOn, Wakes.Wakes, Watched.Watched}
 use Rattle.tsp_progress.proofs.InTimeProof.{none_some, value_of}
@@ -303,7 +304,7 @@ module _ (late : ℕ) (slack : late ≤ SLACK) (m : Manner) (may : m.may ≡ tru
 
   -- arming
 
-  quiets : (at : ℕ) → at ≡ d.tick + QUIET → (Heard before ⊎ ((held before).boot ≡ d.tick)) → After (Acts (Arm Quiet at))
+  quiets : (at : ℕ) → at ≡ d.tick + QUIET → (Heard before ⊎ (((held before).boot ≡ d.tick) × (newest_is starts_by before ≡ true))) → After (Acts (Arm Quiet at))
   quiets at f cause = let base = plain-act (armed before) as-it-was (held before) refl refl in record {
     news_le = base.news_le;
     heard = base.heard;
@@ -311,7 +312,7 @@ module _ (late : ℕ) (slack : late ≤ SLACK) (m : Manner) (may : m.may ≡ tru
     quit_le = base.quit_le;
     quiet = λ to e. let same : at ≡ to = value_of e in elim cause [
       | inl heard ↦ let r = heard-now heard in omega (arith, f, same, r)
-      | inr boot ↦ let le = inv.boot_le in omega (arith, f, same, boot, le)
+      | inr by ↦ let boot = by.0 in let le = inv.boot_le in omega (arith, f, same, boot, le)
     ];
     window = base.window;
     search = base.search;

@@ -7,7 +7,7 @@ use Rattle.tsp_base.proofs.{LeadsLemmas.Leads_puts, LeadsLemmas.Leads_then}
 use Rattle.tsp_rules.specs.GateRows.{NodeGiven, all_ports, answers_all, boots_all, boots_on, ports_from}
 use Rattle.tsp_rules.specs.NodeRows.{NodePast, for_ports, in_node_step, on, reading_all}
 use Rattle.tsp_promises.proofs.GateSteps.{All_after, LeadsAll}
-use Rattle.tsp_progress.specs.{AlarmsFit.Manner, CausesFit.CausesFit, CausesFit.Heard, CausesFit.stirs}
+use Rattle.tsp_progress.specs.{AlarmsFit.Manner, CausesFit.CausesFit, CausesFit.Heard, CausesFit.newest_is, CausesFit.starts_by, CausesFit.stirs}
 use Rattle.tsp_progress.proofs.CauseLeads.{free_puts, gives_up_cause, loops_cause, reposts_cause, rings_cause, sends_cause, takes_cause, took_leads}
 use Rattle.tsp_progress.proofs.NodeKeeps.{Each, Family, Keeps, answers_keep, list_each, node_manner, on_each}
 
@@ -49,10 +49,11 @@ booting-family = record { boots = λ m step x seen w. ((inr tt, w.0), (refl, ref
 starts-cause : Leads (λ x past. CausesFit past.seen × (((held past.seen).boot ≡ x) × (role past.seen ≡ Starting)))
     (puts (Become Starting) followed_by arms Quiet QUIET) (λ x past. CausesFit past.seen × (((held past.seen).boot ≡ x) × (role past.seen ≡ Starting)))
 unfolding arms
-starts-cause = Leads_then {Q = λ x past. CausesFit past.seen × (((held past.seen).boot ≡ x) × (role past.seen ≡ Starting))} (puts (Become Starting))
-    (arms Quiet QUIET)
-    (Leads_puts (Become Starting) (λ x past h. ((inr h.1.1, h.0), (h.1.0, refl))))
-    (record { run = λ x past h. ((inr h.1.0, h.0), h.1) })
+starts-cause = Leads_then {Q = λ x past. CausesFit past.seen × (((held past.seen).boot ≡ x) ×
+    ((role past.seen ≡ Starting) × (newest_is starts_by past.seen ≡ true)))}
+    (puts (Become Starting)) (arms Quiet QUIET)
+    (Leads_puts (Become Starting) (λ x past h. ((inr h.1.1, h.0), (h.1.0, (refl, refl)))))
+    (record { run = λ x past h. ((inr (h.1.0, h.1.1.1), h.0), (h.1.0, h.1.1.0)) })
 
 boots-on-cause : (q : Port) → LeadsAll (Each booting) (boots_on q) (Each booting)
 unfolding boots_on

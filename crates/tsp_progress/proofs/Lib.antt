@@ -2,7 +2,9 @@ pub mod AloneLeadsProof
 pub mod AloneProof
 pub mod CauseLeads
 pub mod CauseNodes
+pub mod FreshProof
 pub mod InTimeProof
+pub mod LoneProof
 pub mod NeverLateProof
 pub mod NodeKeeps
 pub mod NodeWakes

@@ -7,6 +7,7 @@ use Rattle.tsp_promises.proofs.OwnFitsProof.{own_fits}
 use Rattle.tsp_run.proofs.RunFits.{clocked_runs_fit, possible-runs-fit}
 use Rattle.tsp_progress.specs.{AlarmsFit.Manner, Progress.ClockedRunsProgress, Progress.Progress, Progress.ProgressTo, Progress.RunsProgress}
 use Rattle.tsp_progress.specs.{Stands.StandsOn, Wakes.AllWake, Wakes.Woken, Watched.Attended, Watched.Told}
+use Rattle.tsp_progress.proofs.FreshProof.{fresh_leads, leads_first}
 use Rattle.tsp_progress.proofs.RoundsProof.{round_begins, rounds_recur}
 use Rattle.tsp_progress.proofs.{AloneLeadsProof.alone_leads, AloneLeadsProof.leads_soon, AloneProof.Paced, AloneProof.idle_waits, InTimeProof.attended_in_time}
 use Rattle.tsp_progress.proofs.{InTimeProof.told_in_time, NeverLateProof.never_late, PaceProof.alone_stands, PaceProof.paced, RunWakes.clocked_runs_wake}
@@ -23,6 +24,7 @@ progress m setting late world f w all a slack = record {
   stands = stands m setting world f all;
   alone_stands = alone_stands m setting late world f w a slack;
   alone_leads = alone_leads m setting late world f w a slack;
+  fresh_leads = fresh_leads m setting late world f w a slack;
 }
 
 pub progress_to : (m : ℕ → Manner) (setting : Setting) (late t n : ℕ) (world : List Line) → Fits setting world → AllWake m world → Attended late world →
@@ -34,6 +36,8 @@ progress_to m setting late t n world f all a slack told = record {
   alone_stands = λ may q idle. idle_waits late slack (m n) may (view q (of n world)) (setting.tick n t) (all n q) (stands-at q) (pace q) (told q) idle;
   alone_leads = λ may strict q start idle s other. leads_soon late slack (m n) may strict (view q (of n world)) (setting.tick n t) (all n q) (stands-at q)
       (pace q) (told q) start idle s other;
+  fresh_leads = λ may strict q start idle s other free.
+      leads_first late slack (m n) may strict (view q (of n world)) (setting.tick n t) (all n q) (stands-at q) (pace q) (told q) start idle s other free;
 } where
   stands-at : (q : Port) → StandsOn (m n) (view q (of n world))
   stands-at q = stands_on (m n) (view q (of n world)) (all n q).acts (rising setting q (of n world) (own_fits setting n world f))

@@ -202,7 +202,7 @@ module _ (late : ℕ) (slack : late ≤ SLACK) (m : Manner) where
     by_deed Begins is fits n inv = recurs-still m (Here d) before p.0.order (ap (λ deed. (armed_after deed (armed before)).round) is)
         (ap (λ deed. stood_after deed (Here d ∷ before) (stood before)) is)
         (ap (λ deed. started_after deed (Here d ∷ before) (started before)) is) (ap (λ deed. last_arm_after Round deed (Here d ∷
-            before) (last_arm Round before)) is) (subst (NextTo m before) is n) inv
+        before) (last_arm Round before)) is) (subst (NextTo m before) is n) inv
   recurs (Elsewhere d ∷ before) f p = recurs-still m (Elsewhere d) before p.0.order refl refl refl refl (free_to m before Begins f.0) (recurs before f.1 p.1)
 
   pub round_begins : (seen : List Seen) (x : ℕ) → Wakes m seen → Paced late seen → Watched late x seen → RoundBegins late x seen

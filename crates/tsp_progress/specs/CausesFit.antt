@@ -6,6 +6,11 @@ use Rattle.tsp_base.specs.Words.{Deed, Acts, Did, Seen, Here, Elsewhere, Receive
 pub use Rattle.tsp_progress.specs.AlarmsFit.{newest_is}
 use Rattle.tsp_progress.specs.AlarmsFit.{stands_now}
 
+-- the deed after which Quiet is armed
+abbrev pub starts_by : Deed → Bool
+starts_by (Acts (Become Starting)) = true
+starts_by _ = false
+
 -- deeds after which Elect is armed
 abbrev pub seeks_by : Deed → Bool
 seeks_by (Acts (Ring Search)) = true
@@ -78,7 +83,7 @@ Heard seen = stirred (taken seen) ≡ true
 -- to Loose, Window when the port stands; the port becomes Loose, a candidate or master after an alarm, and Starting while it is; and it
 -- neither follows nor notes a QUIT
 abbrev pub Unheard : Deed → Did → List Seen → Type 0
-Unheard (Acts (Arm Quiet at)) here before = (held before).boot ≡ here.tick
+Unheard (Acts (Arm Quiet at)) here before = ((held before).boot ≡ here.tick) × (newest_is starts_by before ≡ true)
 Unheard (Acts (Arm Search at)) here before = newest_is searches_by before ≡ true
 Unheard (Acts (Arm Elect at)) here before = newest_is seeks_by before ≡ true
 Unheard (Acts (Arm Window at)) here before = backs_itself_now before ≡ true

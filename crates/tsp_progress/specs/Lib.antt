@@ -2,7 +2,9 @@ pub mod AlarmsFit
 pub mod AloneLeads
 pub mod AloneStands
 pub mod CausesFit
+pub mod FreshLeads
 pub mod InTime
+pub mod LoneLeads
 pub mod Needed
 pub mod NeverLate
 pub mod Progress

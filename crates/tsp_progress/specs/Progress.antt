@@ -2,7 +2,7 @@
 use Rattle.std.specs.Prelude.{◌≡◌, ◌≤◌, ℕ, ◌+◌, false, true, List, ◌∷◌}
 use Rattle.tsp_rules.specs.Values.{Event, Port, SLACK, WINDOW}
 use Rattle.tsp_rules.specs.{CommonRows.is_idle, Guards.is_master}
-use Rattle.tsp_base.specs.Words.{Did, HeaderValue, Here, Line, Seen, of, role, stood, view}
+use Rattle.tsp_base.specs.Words.{Did, HeaderValue, Here, Line, Seen, held, of, role, stood, view}
 use Rattle.tsp_promises.specs.Setting.{Setting}
 use Rattle.tsp_run.specs.Clocked.{Clocks, PossibleBy, SetByClocks, run_by}
 use Rattle.tsp_run.specs.{Possible.Possible, Run.run, Setting.SetBy}
@@ -10,6 +10,7 @@ use Rattle.tsp_progress.specs.{AlarmsFit.Manner, AloneLeads.AloneLeads, AloneLea
 use Rattle.tsp_progress.specs.{InTime.AllInTime, InTime.EndsInTime, NeverLate.NeverLate, RunsWake.manner_of, SendsEnd.SendsEnd, SendsEnd.SendsEnded}
 use Rattle.tsp_progress.specs.{Stands.Stands}
 use Rattle.tsp_progress.specs.RoundsRecur.{RoundsRecur, RoundsRecurred}
+use Rattle.tsp_progress.specs.FreshLeads.{FreshLeads, first_lead, untouched}
 use Rattle.tsp_progress.specs.Watched.{Attended, Told}
 
 -- what happens in time in a history in which each node is looked at at most `late` ticks after something is due
@@ -27,6 +28,8 @@ pub record Progress (m : ℕ → Manner) (late : ℕ) (world : List Line) : Type
   -- if it hears nothing, it stands soon, and leads soon
   pub alone_stands : AloneStands m late world
   pub alone_leads : AloneLeads m late world
+  -- if it heard nothing since its boot, it leads sooner
+  pub fresh_leads : FreshLeads m late world
 
 -- what is so of node n after the whole history, which is told up to the true time t
 pub record ProgressTo (m : ℕ → Manner) (late : ℕ) (setting : Setting) (t n : ℕ) (world : List Line) : Type 0 where
@@ -39,6 +42,9 @@ pub record ProgressTo (m : ℕ → Manner) (late : ℕ) (setting : Setting) (t n
   pub alone_leads : (m n).may ≡ true → (m n).strict ≡ false → (q : Port) → (start : Did) (idle : List Seen) → stood (view q (of n world)) ≡ Here start ∷ idle →
       is_master (role (view q (of n world))) ≡ false →
       setting.tick n t ≤ last_word (view q (of n world)) + (patience late + WINDOW + late)
+  pub fresh_leads : (m n).may ≡ true → (m n).strict ≡ false → (q : Port) → (start : Did) (idle : List Seen) → stood (view q (of n world)) ≡ Here start ∷ idle →
+      is_master (role (view q (of n world))) ≡ false → untouched (view q (of n world)) ≡ true →
+      setting.tick n t ≤ (held (view q (of n world))).boot + first_lead late
 
 -- the run of each possible schedule that is looked at within SLACK makes progress, up to each time up to which it is told
 abbrev pub RunsProgress : Type 0

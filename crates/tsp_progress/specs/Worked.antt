@@ -3,9 +3,10 @@ use Rattle.std.specs.Prelude.{◌≡◌, ℕ, pos, true, false, List, [], ◌∷
 use Rattle.tsp_rules.specs.Values.{Act, Boot, Post, Become, Arm, Ring, Back, Close, Correct, Gave, Quiet, Elect, Search, Window, Round, Probe, CloseAlarm}
 use Rattle.tsp_rules.specs.Values.{Message, Event, BootAt, Turn, Election, MasterReq, MasterUp, Peer, Starting, Loose, Candidate, Master, SLACK}
 use Rattle.tsp_base.specs.Words.{HeaderValue, bare, peer_of as peer}
-use Rattle.tsp_run.specs.{Refusals.Valid, Run.run, Run.told, declared.line.Line.Line}
+use Rattle.tsp_run.specs.{Refusals.Valid, Run.gained, Run.run, Run.told, declared.line.Line.Line}
 use Rattle.tsp_promises.specs.Setting.{Setting}
 use Rattle.tsp_run.specs.Setting.{SetBy}
+use Rattle.tsp_progress.specs.FreshLeads.{first_lead}
 use Rattle.tsp_progress.specs.InTime.{CandidatureEnds, RoundCloses, RoundRecurs, SearchEnds, StartEnds}
 use Rattle.tsp_progress.specs.{NeverLate.NeverLate, SendsEnd.SendsEnd, Watched.Attended, Watched.AtBegins, Watched.Told}
 
@@ -93,6 +94,20 @@ pub record PromptUse : Type 0 where
   pub told_is : told one_may until_closes ≡ told_until_closes
   -- the run is told until the close
   pub told_to : (setting : Setting) → SetBy one_may setting → Told 0 setting 638000000 0 (run one_may until_closes)
+
+-- the slowest way to lead: a boots with the word of the longest delay, and each look comes SLACK late
+abbrev pub slowest : List Event
+slowest =
+    Turn 693999999 0 ∷ Turn 691999999 0 ∷ Turn 690999999 0 ∷ Turn 689999999 0 ∷ Turn 687999999 0 ∷ Turn 87000000 0 ∷ Turn 81000000 0 ∷
+    BootAt 0 0 299999999 ∷ []
+
+-- the bound is first reached with such looks: a leads one tick before it, 694 s after its boot
+pub record SlowUse : Type 0 where
+  pub valid : Valid one_may slowest
+  pub attended : Attended SLACK (run one_may slowest)
+  pub bound : first_lead SLACK ≡ 694000000
+  pub last_is : gained one_may slowest ≡ a_line 8 693999999 (Ring Window) ∷ a_line 8 693999999 (Become Master) ∷ a_line 8 693999999 (Arm Round 933999999) ∷
+      a_posts 8 693999999 4 tells_b ∷ []
 
 -- a's Window is looked at one tick more than SLACK late
 abbrev pub late_window : List Event

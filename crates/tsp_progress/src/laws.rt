@@ -1,5 +1,5 @@
 //! Theorems about every history that fits. Nothing here runs.
-ghost use Rattle.std.specs.Prelude.{ℕ, List};
+ghost use Rattle.std.specs.Prelude.{ℕ, List, ◌≡◌, true, false};
 ghost use Rattle.tsp_base.specs.History.{Line};
 ghost use Rattle.tsp_promises.specs.Fits.{Fits};
 ghost use Rattle.tsp_promises.specs.Setting.{Setting};
@@ -56,8 +56,8 @@ pub fn ends_in_time()
 ghost use Rattle.std.specs.Prelude.{◌≤◌};
 ghost use Rattle.tsp_rules.specs.Values.{SLACK};
 ghost use Rattle.tsp_progress.specs.NeverLate.{NeverLate};
-/// Where each node is looked at at most `SLACK` ticks, 1 s, after its alarms are due, none is handled
-/// late.
+/// Where each node is looked at at most `SLACK` ticks, 1 s, after its alarms are due, none is
+/// handled late.
 pub fn never_late()
     ensures { (m : ℕ → Manner) (setting : Setting) (late : ℕ) (world : List Line)
         → Fits setting world → AllWake m world → Attended late world → late ≤ SLACK
@@ -66,18 +66,23 @@ pub fn never_late()
 
 ghost use Rattle.tsp_progress.specs.RoundsRecur.{RoundsRecur};
 /// A master that is looked at within `SLACK` won, or began a round, at most `ROUND`, 240 s, and
-/// `late` ago; at a gateway it may wait instead for another port's round, since at most `WAIT`, 20 s,
-/// and `late`.
+/// `late` ago; at a gateway it may wait instead for another port's round, since at most `WAIT`, 20
+/// s, and `late`.
 pub fn rounds_recur()
     ensures { (m : ℕ → Manner) (setting : Setting) (late : ℕ) (world : List Line)
         → Fits setting world → Woken m world → Attended late world → late ≤ SLACK
         → RoundsRecur late world }
 {}
 
-ghost use Rattle.tsp_progress.specs.Worked.{LateUse, PromptUse};
+ghost use Rattle.tsp_progress.specs.Worked.{LateUse, PromptUse, SlowUse};
 /// A small run that is looked at in time, and what happens in it, and when.
 pub fn prompt_use()
     ensures { PromptUse }
+{}
+
+/// The slowest run to a first lead: the bound of `fresh_leads` can't be lower by two ticks.
+pub fn slow_use()
+    ensures { SlowUse }
 {}
 
 /// Small runs that are looked at one tick too late, and what isn't so of them.
@@ -94,9 +99,9 @@ pub fn stands()
 {}
 
 ghost use Rattle.tsp_progress.specs.AloneStands.{AloneStands};
-/// A port of a node that may be master, if it is looked at within `SLACK`, is Loose or follows for at
-/// most 1,210 s and four times `late` after its node booted, it took a datagram or it stood for
-/// election: then it stands.
+/// A port of a node that may be master, if it is looked at within `SLACK`, is Loose or follows for
+/// at most 1,210 s and four times `late` after its node booted, it took a message of a kind that
+/// stirs, or it stood for election: then it stands.
 pub fn alone_stands()
     ensures { (m : ℕ → Manner) (setting : Setting) (late : ℕ) (world : List Line)
         → Fits setting world → Woken m world → Attended late world → late ≤ SLACK
@@ -104,13 +109,30 @@ pub fn alone_stands()
 {}
 
 ghost use Rattle.tsp_progress.specs.AloneLeads.{AloneLeads};
-/// Where elections aren't strict, it is master at most `WINDOW`, 5 s, and `late` after that time,
-/// unless it takes a datagram. So a node alone leads within 1,215 s of its boot, and five times
-/// `late`.
+/// Where elections aren't strict, it is master at most 1,215 s and five times `late` after its boot
+/// or the last message of a kind that stirs.
 pub fn alone_leads()
     ensures { (m : ℕ → Manner) (setting : Setting) (late : ℕ) (world : List Line)
         → Fits setting world → Woken m world → Attended late world → late ≤ SLACK
         → AloneLeads m late world }
+{}
+
+ghost use Rattle.tsp_progress.specs.FreshLeads.{FreshLeads};
+/// If it has taken no such message since its boot, it is master at most 690 s, 11 and a half
+/// minutes, and four times `late` after the boot.
+pub fn fresh_leads()
+    ensures { (m : ℕ → Manner) (setting : Setting) (late : ℕ) (world : List Line)
+        → Fits setting world → Woken m world → Attended late world → late ≤ SLACK
+        → FreshLeads m late world }
+{}
+
+ghost use Rattle.tsp_progress.specs.LoneLeads.{Lone, LoneLeads};
+/// So a node that may be master, to which nobody posts a message of a kind that stirs and no octets
+/// come from outside, is master at most 690 s and four times `late` after each of its boots.
+pub fn lone_leads()
+    ensures { (m : ℕ → Manner) (setting : Setting) (late c : ℕ) (world : List Line)
+        → Fits setting world → Woken m world → Attended late world → late ≤ SLACK
+        → (m c).may ≡ true → (m c).strict ≡ false → Lone c world → LoneLeads c late world }
 {}
 
 ghost use Rattle.tsp_progress.specs.Progress.{ClockedRunsProgress, RunsProgress};
