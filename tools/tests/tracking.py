@@ -95,7 +95,8 @@ def exact(made):
     status = 'synchronised' if daemon.role == LEADS or is_followed and is_young else 'holding' if look.had else 'waiting'
     is_own = daemon.role == LEADS and look.had and look.master == 0
     return {'status': status, 'master': 'alpha' if is_followed or is_own else None, 'steps': daemon.steps,
-            'role': {NOBODY: 'nobody', FOLLOWS: 'follows', LEADS: 'leads'}[daemon.role], 'moved_us': daemon.moved, 'rate_ppb': daemon.rate, 'learned_ppb': look.learned if look.had else None, 'drift_ppm': look.drift if look.had else None,
+            'role': {NOBODY: 'nobody', FOLLOWS: 'follows', LEADS: 'leads'}[daemon.role], 'moved_us': daemon.moved,
+            'rate_ppb': daemon.rate, 'learned_ppb': look.learned if look.had else None, 'drift_ppm': look.drift if look.had else None,
             'life': f'{daemon.life:016x}', 'counter': 'raw' if daemon.counter == RAW else 'monotonic'}
 
 
