@@ -88,10 +88,10 @@ dpkg-deb --extract "$package" "$out/root"
 (cd "$out/root" && dpkg-deb --control "$package" "$out/control" && md5sum --quiet -c "$out/control/md5sums") || fail 'a checksum of the package is wrong'
 
 # It is of one version: that of each program that it has, of the manual pages, and of what Debian reads.
-for tool in "$out"/root/usr/bin/tsp* "$out/root/usr/sbin/tsp-launch"; do
+for tool in "$out/root/usr/bin"/tsp* "$out/root/usr/sbin/tsp-launch"; do
     [ "$("$tool" --version </dev/null)" = "${tool##*/} $version" ] || fail "the packed ${tool##*/} says '$("$tool" --version </dev/null)', and the package is of $version"
 done
-for page in "$out"/root/usr/share/man/man*/*.gz; do
+for page in "$out/root/usr/share/man"/man*/*.gz; do
     gzip -dc "$page" | head -n 1 | grep -qF "\"tsp $version\"" || fail "$page isn't of $version"
 done
 gzip -dc "$out/root/usr/share/doc/tsp/changelog.gz" | head -n 1 | grep -qF "tsp ($version) " || fail "Debian's list of changes doesn't begin with $version"
@@ -192,7 +192,7 @@ cmp -s "$out/root/usr/share/bash-completion/completions/tsp" completions/tsp.bas
 for file in completions/*.fish; do
     cmp -s "$out/root/usr/share/fish/vendor_completions.d/${file##*/}" "$file" || fail "other completions are packed than ${file##*/}"
 done
-for name in "$out"/root/usr/bin/tsp* tsp-launch; do
+for name in "$out/root/usr/bin"/tsp* tsp-launch; do
     [ -e "$out/root/usr/share/bash-completion/completions/${name##*/}" ] && [ -e "completions/${name##*/}.fish" ] || fail "the words of ${name##*/} are not completed"
 done
 for page in man/*.[1-8]; do
