@@ -4,9 +4,10 @@ function __tsp_column --description 'A column of the list of hosts: 2 has names,
     PATH="$PATH:/usr/sbin" tsp-launch --list 2>/dev/null | cut -d ' ' -f $argv[1]
 end
 
-complete -c tsp-witness -l check -d 'replays the schedule and audits it with the claims'
+complete -c tsp-witness -l check -d 'judges'
+complete -c tsp-witness -l audit -d 'judges, and has the history audited too, for a second opinion'
 complete -c tsp-witness -s f -l file -r -F -d 'the hosts file'
-complete -c tsp-witness -s d -l drift -x -d 'how far the hosts'\'' clocks may drift apart'
+complete -c tsp-witness -s d -l drift -x -d 'how far a host'\''s counter may drift from true time'
 complete -c tsp-witness -s a -l altered -d 'a datagram that differs from what was posted, or that nobody posted, ..'
 complete -c tsp-witness -l schedule -r -F -d 'writes the schedule to this file'
 complete -c tsp-witness -l claims -r -F -d 'writes the claims to this file'

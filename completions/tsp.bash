@@ -128,10 +128,10 @@ _tsp_watch() {
 _tsp_now() {
     case $(_tsp_before "$3"):$2 in
     --program:* | -p:*) mapfile -t COMPREPLY < <(compgen -c -- "$2") ;;
-    --file:* | -f:*) mapfile -t COMPREPLY < <(compgen -f -- "$2") ;;
+    --file:* | -f:* | --output:* | -o:*) mapfile -t COMPREPLY < <(compgen -f -- "$2") ;;
     --tries:* | -t:* | --timeout:* | --wait:[0-9]*) ;;
     --set:*) mapfile -t COMPREPLY < <(compgen -W 'now' -- "$2") ;;
-    *:-*) mapfile -t COMPREPLY < <(compgen -W '--utc --offset --interval --wait --after --file --timeout --tries --program --version --help' -- "$2") ;;
+    *:-*) mapfile -t COMPREPLY < <(compgen -W '--utc --offset --interval --wait --after --tracking --json --prometheus --output --file --timeout --tries --program --version --help' -- "$2") ;;
     *) mapfile -t COMPREPLY < <(compgen -W "$(_tsp_hosts 2)" -- "$2") ;;
     esac
 }

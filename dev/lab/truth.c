@@ -6,7 +6,7 @@
  *
  * Each sample is judged a while after it was read, when all is known of the corrections before it. It writes a line for each host: its name, how many
  * readings it gave with an interval, how many of these had the master's clock outside, how many were between a correction of the master and the
- * next look at it and aren't judged, how long that took at most, how often a shown value fell, and the widths of the interval at the
+ * next look at it (of a host that leads: until it has written that) and aren't judged, how long that took at most, how often a shown value fell, and the widths of the interval at the
  * median and at 99 in 100; all times are microseconds.
  */
 #define _POSIX_C_SOURCE 200809L
@@ -18,6 +18,7 @@
 #define KEPT 64
 #define TRIES 100
 #define DELAY INT64_C(400000000)
+#define WRITTEN INT64_C(1000000000) /* the nanoseconds in which a daemon surely has written a correction, also on a busy machine */
 #define PACE INT64_C(30000)
 #define ROOM (1 << 19)
 #define WIDEST 2000000
@@ -46,6 +47,7 @@ typedef struct {
 
 typedef struct {
     int64_t at, earliest, latest, looked;
+    int64_t changed; /* the tick of the correction before it that the page has */
     int who, master;
 } sample;
 
@@ -108,8 +110,8 @@ static void note(host *h, const tsp_daemon *d)
     h->count++;
 }
 
-/* A host's target at a moment, and when that was corrected last; 0 where it isn't known. */
-static int truth(const host *h, int64_t at, int64_t *target, int64_t *corrected)
+/* A host's target at a moment, when that was corrected last, and at which tick; 0 where it isn't known. */
+static int truth(const host *h, int64_t at, int64_t *target, int64_t *corrected, int64_t *changed)
 {
     int64_t tick = ticks_of(h, tsp_floor(own_time(h, at), THOUSAND) - h->first);
     int number;
@@ -119,6 +121,7 @@ static int truth(const host *h, int64_t at, int64_t *target, int64_t *corrected)
             return 0;
         if (s->tick <= tick) {
             *target = s->target + tick - s->tick;
+            *changed = s->tick;
             *corrected = machine_time(h, (passed_at(h, s->tick) + h->first) * THOUSAND);
             return 1;
         }
@@ -126,15 +129,21 @@ static int truth(const host *h, int64_t at, int64_t *target, int64_t *corrected)
     return 0;
 }
 
+/* Whether a host that leads hasn't written its last correction yet, which it does some microseconds after the tick from which that counts. */
+static int is_unwritten(const sample *s, int64_t corrected, int64_t changed)
+{
+    return s->who == s->master && s->changed != changed && s->at - corrected < WRITTEN;
+}
+
 /* Compares a sample with the master's clock. */
 static void judge(const sample *s)
 {
     host *h = &hosts[s->who];
-    int64_t target, corrected, width = s->latest - s->earliest;
-    if (s->master < 0 || !truth(&hosts[s->master], s->at, &target, &corrected))
+    int64_t target, corrected, changed, width = s->latest - s->earliest;
+    if (s->master < 0 || !truth(&hosts[s->master], s->at, &target, &corrected, &changed))
         return;
     /* (both are known to the microsecond) */
-    if (corrected + 2 * THOUSAND >= machine_time(h, s->looked)) {
+    if (is_unwritten(s, corrected, changed) || (s->who != s->master && corrected + 2 * THOUSAND >= machine_time(h, s->looked))) {
         h->between++;
         if (h->begun == 0)
             h->begun = s->at;
@@ -195,7 +204,7 @@ static int look(int who, sample *s)
     h->life = time.life;
     h->steps = time.steps;
     h->shown = time.shown;
-    *s = (sample){at, time.earliest, time.latest, own_time(h, at) - time.age * THOUSAND, who, master_of(who, &time, name)};
+    *s = (sample){at, time.earliest, time.latest, own_time(h, at) - time.age * THOUSAND, (int64_t)page.daemon.tick, who, master_of(who, &time, name)};
     return time.status == TSP_SYNCHRONISED;
 }
 

@@ -97,7 +97,7 @@ done
 gzip -dc "$out/root/usr/share/doc/tsp/changelog.gz" | head -n 1 | grep -qF "tsp ($version) " || fail "Debian's list of changes doesn't begin with $version"
 
 # It has what its pages name, and tells of itself and not of a clone.
-for document in ACCURACY CHANGELOG FORMATS JUDGE NETWORK OPERATOR PROMISES PROOFS PROTOCOL README RELIABILITY; do
+for document in ACCURACY CHANGELOG FORMATS JUDGE NETWORK OPERATOR PROGRESS PROMISES PROOFS PROTOCOL README RELIABILITY; do
     [ -s "$out/root/usr/share/doc/tsp/$document.md" ] || fail "$document.md isn't packed"
 done
 cmp -s "$out/root/usr/share/doc/tsp/README.md" debian/README.md || fail 'another README is packed'
@@ -146,7 +146,17 @@ cd "$OLDPWD"
 
 # The daemon: what the unit starts is there and gives words, its variables are a file that upgrades leave, and nothing starts by itself.
 unit=$out/root/usr/lib/systemd/system/tsp.service
-cmp -s "$unit" daemon/tsp.service || fail 'another unit is packed'
+for packed in tsp.service tsp-metrics.service tsp-metrics.timer; do
+    cmp -s "${unit%/*}/$packed" "daemon/$packed" || fail "another $packed is packed"
+done
+sed -n 's|^ExecStart=.*\(/usr/bin/[^ ]*\) .*|\1|p' daemon/tsp-metrics.service >"$out/starts"
+[ "$(paste -sd ' ' "$out/starts")" = '/usr/bin/tsp-now /usr/bin/tsp-status' ] || fail "the metrics' unit starts $(cat "$out/starts")"
+while IFS= read -r start; do
+    [ -x "$out/root$start" ] || fail "the metrics' unit starts $start, which isn't there"
+done <"$out/starts"
+for example in tsp-alerts.yml tsp-dashboard.json; do
+    cmp -s "$examples/$example" "daemon/$example" || fail "$example isn't packed"
+done
 launch=$(sed -n 's/^ExecStart=\([^ ]*\).*/\1/p' "$unit")
 [ -x "$out/root$launch" ] || fail "the unit starts $launch, which isn't there"
 "$out/root$launch" -n -f "$examples/hosts" -s beta >"$out/words" || fail 'the packed tsp-launch gives no words'
@@ -201,7 +211,8 @@ for page in man/*.[1-8]; do
 done
 
 # Installed in a root of its own and purged, it leaves nothing but folders that are the system's.
-install -d "$out/system/var/lib/dpkg/info" "$out/system/var/lib/dpkg/updates" "$out/system/var/lib/dpkg/triggers" "$out/system/etc/systemd/system/multi-user.target.wants"
+install -d "$out/system/var/lib/dpkg/info" "$out/system/var/lib/dpkg/updates" "$out/system/var/lib/dpkg/triggers" "$out/system/etc/systemd/system/multi-user.target.wants" \
+    "$out/system/etc/systemd/system/timers.target.wants" "$out/system/var/lib/prometheus/node-exporter"
 : >"$out/system/var/lib/dpkg/status"
 in_system() {
     dpkg --root="$out/system" --force-script-chrootless --force-depends --force-not-root --log=/dev/null "$@" >"$out/told" 2>&1
@@ -214,6 +225,8 @@ if in_system --install "$package"; then
     [ -z "$(find "$out/system/etc/systemd" -name 'tsp*')" ] || fail 'the daemon is enabled by itself'
     echo 'a 192.0.2.1 master' >"$out/system/etc/tsp/hosts"
     ln -s /usr/lib/systemd/system/tsp.service "$out/system/etc/systemd/system/multi-user.target.wants"
+    ln -s /usr/lib/systemd/system/tsp-metrics.timer "$out/system/etc/systemd/system/timers.target.wants"
+    for file in tsp-clock.prom tsp.prom; do : >"$out/system/var/lib/prometheus/node-exporter/$file"; done
     for folder in tsp_texts tsp_daemon tsp_witness; do
         for module in "$out/system/usr/share/tsp/$folder"/*.py; do
             name=$(basename "$module" .py)
@@ -229,8 +242,8 @@ if in_system --install "$package"; then
     ln -s private/tsp "$out/system/var/lib/tsp"
     in_system --purge tsp || fail "$(tail -n 1 "$out/told")"
     left >"$out/rest"
-    grep -v -x -e "$out/system" -e "$out/system/etc\(/systemd.*\)*" -e "$out/system/var\(/lib\(/private\|/systemd\)*\)*" "$out/rest" >"$out/beyond" || :
-    [ ! -s "$out/beyond" ] && ! grep -q 'wants/tsp.service' "$out/rest" || fail "a purge leaves $(cat "$out/beyond")"
+    grep -v -x -e "$out/system" -e "$out/system/etc\(/systemd.*\)*" -e "$out/system/var\(/lib\(/private\|/systemd\|/prometheus\(/node-exporter\)*\)*\)*" "$out/rest" >"$out/beyond" || :
+    [ ! -s "$out/beyond" ] && ! grep -q 'wants/tsp' "$out/rest" || fail "a purge leaves $(cat "$out/beyond")"
     [ -s "$out/system/etc/systemd/system/tsp.service.d/mine.conf" ] || fail "a purge takes along the administrator's own changes of the unit"
 else
     skip "this dpkg installs into no other root: $(tail -n 1 "$out/told")" 'what a purge leaves'

@@ -191,6 +191,34 @@ ends 1 --wait --timeout 0.2
 page 0
 ends 1
 [ "$told" = "tsp-now: the daemon of this host doesn't run, by $out/page" ] || fail "a page that nobody writes gives '$said$told'"
+for form in --tracking '--tracking --json'; do
+    # shellcheck disable=SC2086  # words
+    ends 1 $form
+    [ "$told" = "tsp-now: the daemon of this host doesn't run, by $out/page" ] && [ -z "$said" ] || fail "a page that nobody writes gives '$said$told'"
+done
+ends 0 --prometheus
+stale=$said
+[ "$(echo "$stale" | grep -v '^#')" = "$(printf 'tsp_clock_status{status="%s"} %s\n' stale 1 waiting 0 synchronised 0 holding 0)" ] || fail "the metrics of a page that nobody writes are '$stale'"
+rm "$out/page"
+ends 1 --tracking
+[ "$told" = "tsp-now: there is no page of the network's time at $out/page" ] && [ -z "$said" ] || fail "without a page it tells '$said$told'"
+ends 0 --prometheus
+[ "$said" = "$stale" ] || fail "the metrics without a page are '$said'"
+
+# What the page says of this host, beside what is reckoned of the page's numbers; into a file too, by a rename.
+python3 -B tools/tests/tracking.py "$out/page" 12 || fail 'a page is told in another way than it says'
+page -2000:5000
+echo old >"$out/tracked"
+ln "$out/tracked" "$out/before"
+for form in --tracking '--tracking --json' --prometheus; do
+    # shellcheck disable=SC2086  # words
+    ends 0 $form -o "$out/tracked"
+    [ -z "$said" ] && [ "$(cat "$out/before")" = old ] && grep -q 'synchronised' "$out/tracked" || fail "$form: the file has '$(cat "$out/tracked")'"
+done
+[ "$(find "$out" -name '.tracked*' | wc -l)" -eq 0 ] || fail 'something is left beside the file'
+ends 4 --tracking --output "$out/none/tracked"
+grep -o 'tsp_clock_[a-z_]*' man/tsp-now.1 | sort -u >"$out/told"
+sed -n 's/^# TYPE \([a-z_]*\) .*/\1/p' "$out/tracked" | sort -u | diff "$out/told" - >"$out/differ" || fail "the page has other metrics: $(cat "$out/differ")"
 rm "$out/page"
 ends 1 --after
 [ "$told" = "tsp-now: there is no page of the network's time at $out/page" ] || fail "without a page it tells '$told'"
@@ -212,7 +240,7 @@ ends 78 --program "$out/none" --file "$out/none" alpha
 TSP_SELF='delta'
 ends 78
 [ "$told" = "tsp-now: $out/hosts: no line for this host, delta" ] || fail "of a host that isn't there it tells '$told'"
-for words in '--set x alpha' '--set 2026-02-30T00:00:00Z' '--set 2026-11-28T09:41:02' '--set @9999999999' '--set' 'a b' '+%s +%T' '--offset +%s' '--all' '--set @5 --offset' '--wait 1 alpha' '--after alpha' '--wait -1' '--interval +%s' 127.0.0.1:0 300.1.1.1 1.2.3 ::1 '[::1]:525' 01.2.3.4 224.0.0.1 1.2.3.4:70000 alpha:525; do
+for words in '--set x alpha' '--set 2026-02-30T00:00:00Z' '--set 2026-11-28T09:41:02' '--set @9999999999' '--set' 'a b' '+%s +%T' '--offset +%s' '--all' '--set @5 --offset' '--wait 1 alpha' '--after alpha' '--wait -1' '--interval +%s' '--tracking alpha' '--prometheus alpha' '--tracking +%s' --json '--offset --json' '--output x' '--prometheus --json' '--tracking --prometheus' '--tracking --wait' 127.0.0.1:0 300.1.1.1 1.2.3 ::1 '[::1]:525' 01.2.3.4 224.0.0.1 1.2.3.4:70000 alpha:525; do
     # shellcheck disable=SC2086  # words
     ends 2 $words
     [ "$(wc -l <"$out/told")" -eq 1 ] && [ -z "$said" ] && [ ! -s "$CALLS" ] || fail "'$words': it says '$said$told'"

@@ -2,8 +2,8 @@
 # tsp-witness puts traces of daemons together, which are then alike and hold, and finds what was changed in them, or is missing. These traces
 # are of daemons on networks of dev/network, but for `hand` and `repeated`, which were worked out by hand.
 . "$(dirname "$0")/common.sh"
-./tsp show </dev/null || fail "the program isn't there"
-export TSP_PROGRAM=crates/tsp_cli/out/tsp_cli
+serving_program
+export TSP_PROGRAM=$program
 given=tools/tests/witness
 
 # Witnesses the traces of a folder by a hosts file; a daemon's name stands before the dash, and the starts are in the order of their numbers.
@@ -47,7 +47,7 @@ change() {
     ! cmp -s "$given/$1/$2.trace" "$out/changed/$2.trace" || fail "$3 changes nothing in $2"
 }
 
-for worked in witness_times distances_worked witness_long; do
+for worked in witness_times distances_worked witness_long witness_wander; do
     PYTHONPATH=tools:dev python3 -B "tools/tests/$worked.py" "$TSP_PROGRAM" 2>"$out/told" || fail "$(cat "$out/told")"
 done
 
@@ -110,24 +110,28 @@ tools/tsp-witness --check --file "$out/hosts" "a=$out/launched/a" "b=$out/launch
 [ "$(cat "$out/said")" = "$(cat "$out/launched/a" "$out/launched/b" | grep -c '^[0-9]') acts alike, holds" ] && [ "$status" -eq 0 ] || fail "daemons of the launcher: $(cat "$out/said" "$out/besides")"
 grep -q ' reply ' "$out/launched/a" || fail 'the trace has no clock'
 
-# Clocks that drift fit no times without rates, and do with them.
-wants 3 '' drifting "$given/drifting" --drift 0
-tells 'the clocks fit no times within a drift of 0'
-wants 0 "$(written "$given/drifting") acts alike, holds" drifting "$given/drifting" --drift 200
+# Clocks that drift fit no times where they may not, and do else; a schedule has their rates. What contradicts each other is named.
+wants 1 "$(written "$given/drifting") acts alike, but no counters within a drift of 0 fit what was taken when" drifting "$given/drifting" --drift 0
+tells 'these contradict each other by ' ' parts in a million apart, and may be 0' '  b in turn ' ' takes "' ' posts'
 wants 0 "$(written "$given/drifting") acts alike, holds" drifting "$given/drifting"
 witness drifting "$given/drifting" --drift 200 --schedule "$out/schedule"
 rate=$(sed -n 's/^node b \(-[0-9]*\) .*/\1/p' "$out/schedule")
 [ "$rate" -le -95 ] && [ "$rate" -ge -105 ] || fail "a clock that is slow by a ten-thousandth has the rate $rate"
+status=0
+witness drifting "$given/drifting" --drift 0 --schedule "$out/schedule" 2>"$out/besides" || status=$?
+[ "$status" -eq 3 ] || fail "a schedule of clocks that fit none gives the status $status"
+grep -q 'no constant rates within a drift of 0 fit' "$out/besides" || fail "of clocks that fit no schedule it says '$(cat "$out/besides")'"
 
-# A host whose wall clock was set between two starts: what came before is judged, and it is said what isn't.
-# (its second start takes the MASTERUP that the other one posts when its window is over, so it was before that)
-before=$(sed '/ ring window$/,$d' "$given/stepped/a-1.trace" | cat - "$given/stepped/b-2.trace" | wc -l)
-wants 1 "$before acts alike, holds" stepped "$given/stepped"
+# A host whose wall clock was set between two starts, and one whose counter had a rate and that was started again: all is judged. A schedule
+# ends before that start, and an audit with it.
+wants 0 "$(written "$given/stepped") acts alike, holds" stepped "$given/stepped"
+wants 0 "$(written "$given/rated") acts alike, holds" rated "$given/rated" --drift 1000
+wants 1 "$(written "$given/stepped") acts alike, holds; the audit holds" stepped "$given/stepped" --audit
 tells 'b (start 2): its wall clock had been stepped by 500'
-
-# A host whose counter had a rate, and that was started again: likewise, and that is said.
-wants 1 '191 acts alike, holds' rated "$given/rated" --drift 1000
+wants 1 "$(written "$given/rated") acts alike, holds; the audit holds" rated "$given/rated" --drift 1000 --audit
 tells 'c (start 2): its counter was 1000000 parts in 10^9 faster than its wall clock'
+wants 1 "$(written "$given/rated") acts alike, but no counters within a drift of 100 fit what was taken when" rated "$given/rated"
+tells 'with any other counter of c all fits: its counter is beyond the drift'
 
 # A daemon changed an octet of a datagram on its way out: it is named, with what it posted. By what came all is as it should be.
 wants 1 "$(written "$given/spoiled") acts alike, holds" spoiled "$given/spoiled"
@@ -167,6 +171,22 @@ wants 0 "$(written "$out/changed") acts alike, holds" hand "$out/changed"
 sed -i '/ settime /d' "$out/changed/a-1.trace"
 wants 0 "$(written "$out/changed") acts alike, holds" hand "$out/changed"
 
+# A network with more hosts than a replay has room for: times are judged, and it is said whose acts aren't. A host's replay has its own networks' alone.
+{
+    cat "$given/hand.hosts"
+    i=3
+    while [ "$i" -le 100 ]; do echo "h$i 192.0.2.$i slave"; i=$((i + 1)); done
+} >"$out/hosts"
+change hand b-2 '/in the trace peer/d'
+set -- "a=$given/hand/a-1.trace" "b=$out/changed/b-2.trace"
+status=0
+tools/tsp-witness --check --file "$out/hosts" "$@" >"$out/said" 2>"$out/besides" || status=$?
+many='which has more than 63 peers'
+[ "$status" -eq 1 ] && [ "$(cat "$out/said")" = "0 acts alike, holds so far; not compared: a, $many; b, $many" ] || fail "100 hosts: $(cat "$out/said" "$out/besides")"
+sed 's/^h3 /+\nh3 /' "$out/hosts" >"$out/hosts2"
+tools/tsp-witness --check --file "$out/hosts2" "$@" >"$out/said" 2>"$out/besides" || fail "100 hosts in two networks: $(cat "$out/said" "$out/besides")"
+[ "$(cat "$out/said")" = "$(written "$given/hand") acts alike, holds" ] || fail "100 hosts in two networks: $(cat "$out/said" "$out/besides")"
+
 # A host without a trace, and a trace that begins late.
 rm -rf "$out/changed"
 cp -r "$given/three" "$out/changed"
@@ -204,8 +224,12 @@ bounded() {
     timeout 30 $limited tools/tsp-witness --check --file "$given/hand.hosts" "$@" >"$out/said" 2>"$out/besides" || status=$?
     [ "$status" -eq "$wanted" ] && [ "$(wc -l <"$out/besides")" -le 10 ] && ! grep -q Traceback "$out/besides" || fail "$*: status $status, $(head -c 2000 "$out/besides")"
 }
-limited=''
-! has prlimit || limited='prlimit --as=400000000'
+# (a program that checks its own memory needs more)
+limit_memory() {
+    limited=''
+    ! has prlimit || ! prlimit "--as=$1" "$program" show </dev/null 2>"$out/told" || limited="prlimit --as=$1"
+}
+limit_memory 400000000
 hand=$given/hand
 great=99999999999999999999999999
 for line in "5 0 0 $great trace on" "$great 0 0 5 trace on" "5 0 0 5 took - ack $great x" "5 0 0 5 correct $great slew -$great" "5 0 0 5 post 5 1 ack $great a"; do
@@ -221,6 +245,10 @@ for line in '900 0 0 18446744073709551615 trace on' '9999999 0 0 999999999 took 
     case $status in 1 | 3) ;; *) fail "'$line' ends with status $status: $(cat "$out/besides")" ;; esac
     [ "$(wc -l <"$out/besides")" -le 10 ] && ! grep -q Traceback "$out/besides" || fail "'$line': $(cat "$out/besides")"
 done
+# (as journalctl -r writes them)
+awk 'BEGIN { for (i = 104000; i > 0; i--) print i " 0 0 " i * 1000 " trace on" }' >"$out/hostile"
+bounded 3 "a=$out/hostile" "b=$hand/b-2.trace"
+tells 'there are more than 1000 starts, or the lines stand in the order of `journalctl -r`'
 { cat "$hand/a-1.trace"; printf '5 0 0 5 took - ack 5 '; head -c 3000 /dev/zero | tr '\0' x; echo; } >"$out/hostile"
 bounded 0 "a=$out/hostile" "b=$hand/b-2.trace"
 { printf 'tsp-launch: in the trace peer 0 is a'; awk 'BEGIN { for (i = 1; i < 4000000; i++) printf ", 1 bbbbbb" }'; echo; cat "$hand/a-1.trace"; } >"$out/hostile"
@@ -235,8 +263,7 @@ bounded 3 "a=$out/hostile" "b=$hand/b-2.trace"
 bounded 1 "a=$out/hostile" "b=$hand/b-2.trace"
 [ "$(wc -l <"$out/besides")" -eq 10 ] && grep -q '^tsp-witness: and 19[0-9]* more$' "$out/besides" || fail "of two million bad lines it says '$(tail -n 1 "$out/besides")'"
 { cat "$hand/a-1.trace"; awk 'BEGIN { for (i = 0; i < 1100000; i++) print "900 0 0 999999999 trace on" }'; } >"$out/hostile"
-limited=''
-! has prlimit || limited='prlimit --as=1500000000'
+limit_memory 1500000000
 bounded 3 "a=$out/hostile" "b=$hand/b-2.trace"
 tells 'there are more than 1000000 acts'
 rm "$out/hostile"

@@ -31,11 +31,21 @@ def page():
         return None
 
 
+def no_page():
+    """The fault that there is no page."""
+    raise Fault(f'there is no page of the network\'s time at {path()}', usage.NOT_WELL)
+
+
+def no_daemon(clock):
+    """The fault that nobody writes the page."""
+    raise Fault(f'the daemon of this host doesn\'t run, by {clock.path}', usage.NOT_WELL)
+
+
 def by_page(clock):
     """What the page tells."""
     now = clock.now()
     if now.status == tsp_clock.STALE:
-        raise Fault(f'the daemon of this host doesn\'t run, by {clock.path}', usage.NOT_WELL)
+        no_daemon(clock)
     return Told(now.shown, now.earliest, now.latest)
 
 

@@ -75,7 +75,7 @@ def say(text):
 def one_line(text):
     """A text in which nothing but letters, signs and spaces is written as it is; of a very long one the beginning."""
     text = text if len(text) <= MOST_SAID else text[:MOST_SAID] + ' ..'
-    return ''.join(sign if sign.isprintable() else ascii(sign)[1:-1] for sign in text)
+    return text if text.isprintable() else ''.join(sign if sign.isprintable() else ascii(sign)[1:-1] for sign in text)
 
 
 def open_closed():

@@ -4,14 +4,14 @@ import math
 from tsp_texts.grammar import LONGEST, place_of_peer
 from tsp_witness import Unusable, lines
 
-ELECT_MIN, ELECT_SPREAD = 300_000_000, 300_000_000
+QUIET, ELECT_MIN, ELECT_SPREAD = 80_000_000, 300_000_000, 300_000_000
 TICKETS = 32768
 # Messages whose number is the ticket, or 32,768 more and the count of such sends so far.
 NUMBERED = ('slaveup', 'election', 'conflict', 'quit', 'setdatereq')
 
 
-# What a journal has before a line, so many octets without a line of a trace, acts of one host, and notes of it, at most.
-BEFORE, MOST_OTHER, MOST_ACTS, MOST_NOTES = 256, 16 * 2**20, 1_000_000, 100
+# What a journal has before a line, so many octets without a line of a trace, acts and starts of one host, and notes of it, at most.
+BEFORE, MOST_OTHER, MOST_ACTS, MOST_STARTS, MOST_NOTES = 256, 16 * 2**20, 1_000_000, 1000, 100
 
 
 class Lines:
@@ -38,7 +38,7 @@ class Lines:
 
 class Entry:
     """An act of a daemon in its journal: its port and words, and whether the daemon wrote it, or it follows from the rules. `number` is that
-    of its datagram in the schedule, where it is a post; `unseen` is how many posts before it the supervisor left out."""
+    of its datagram in the schedule, where it is a post; `unseen` is how many lines the supervisor left out, as it says before this one."""
     __slots__ = ('port', 'words', 'written', 'number', 'unseen')
 
     def __init__(self, port, words, written=True, unseen=0):
@@ -91,17 +91,20 @@ class Life:
 
     def count_posts(self):
         """Finds when the trace began, how many datagrams were posted before that, and where numbers are missing."""
-        wanted, self.first_tick = None, self.turns[0].tick
+        wanted, unseen, self.first_tick = None, 0, self.turns[0].tick
         for turn in self.turns:
             for act in turn.acts:
-                if wanted is not None:
-                    wanted += act.unseen
+                # (the supervisor leaves out the question and its answer, and says so before the lines that it heard with them; these may be cut
+                # between the two)
+                unseen += act.unseen
                 if act.words[0] == 'post':
                     number = int(act.words[1])
                     if wanted is None:
                         self.first_post = number
-                    elif number != wanted:
+                    elif not 0 <= number - wanted <= (unseen + 1) // 2:
                         self.gaps.append((turn, wanted, number))
+                    else:
+                        unseen -= 2 * (number - wanted)
                     wanted = number + 1
 
 
@@ -148,8 +151,7 @@ class Journal:
             self.act(found.number, found.tick, Entry(found.port, found.text.split(' '), unseen=self.unseen), place)
             self.unseen = 0
         elif lines.LEFT_OUT.search(line):
-            # (of each question there is the line that it was taken, and that of its answer)
-            self.unseen += int(lines.LEFT_OUT.search(line)[1]) // 2
+            self.unseen += int(lines.LEFT_OUT.search(line)[1])
         elif lines.ALMOST.search(line):
             self.note(f'{place}: this line is cut or changed, and is passed over')
         elif lines.started(line):
@@ -170,6 +172,8 @@ class Journal:
         """An act of the last turn, of a new one, or of a new life."""
         last = None if self.begins else self.lives[-1].turns[-1]
         if last is None or number < last.number or tick < last.tick:
+            if len(self.lives) == MOST_STARTS:
+                raise Unusable(f'{place}: there are more than {MOST_STARTS} starts, or the lines stand in the order of `journalctl -r`')
             self.lives.append(Life(self.node, len(self.lives), self.rate))
             self.begins, last = False, None
         if last is None or number != last.number:

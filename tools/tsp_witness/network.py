@@ -8,6 +8,8 @@ from tsp_witness import Unusable
 NAME = re.compile('[A-Za-z0-9._-]{1,255}')
 # As many as tsp-launch takes.
 MOST_OCTETS = 2 * 2**20
+# As many peers as a daemon has.
+MOST_PEERS = 999
 # The role of a host in the hosts file, and its flag in a schedule.
 FLAGS = {'master': 'm', 'slave': 's', 'strict': 'm'}
 
@@ -15,6 +17,18 @@ FLAGS = {'master': 'm', 'slave': 's', 'strict': 'm'}
 class Peer(namedtuple('Peer', 'node port')):
     """Whom a daemon knows by a number: a node, on one of the daemon's ports."""
     __slots__ = ()
+
+
+class ByNode(dict):
+    """What is found of a node where it is first asked for."""
+
+    def __init__(self, find):
+        super().__init__()
+        self.find = find
+
+    def __missing__(self, node):
+        self[node] = self.find(node)
+        return self[node]
 
 
 class Network:
@@ -25,9 +39,12 @@ class Network:
         self.strict = 'strict' in roles.values()
         self.number = {name: node for node, name in enumerate(names)}
         self.nets = [[self.number[name] for name in net] for net in nets]
-        self.ports = [[place for place, net in enumerate(self.nets) if node in net] for node in range(len(names))]
-        self.peers = [self.peers_of(node) for node in range(len(names))]
-        self.known_as = [{(peer.node, peer.port): number for number, peer in peers.items()} for peers in self.peers]
+        self.ports = [[] for _ in names]
+        for place, net in enumerate(self.nets):
+            for node in net:
+                self.ports[node].append(place)
+        self.peers = ByNode(self.peers_of)
+        self.known_as = ByNode(lambda node: {(peer.node, peer.port): number for number, peer in self.peers[node].items()})
 
     def ports_of(self, node):
         """The networks of a node's ports, by their numbers."""
@@ -98,8 +115,8 @@ def in_order(nets, path):
 
 def checked(network, path):
     """A network that a schedule can tell of."""
-    if len(network.names) > schedule.MOST_NODES:
-        raise Unusable(f'{path}: {len(network.names)} hosts, and a schedule has at most {schedule.MOST_NODES}')
+    if any(len(net) > MOST_PEERS + 1 for net in network.nets):
+        raise Unusable(f'{path}: more than {MOST_PEERS + 1} hosts in a network, and a daemon has at most {MOST_PEERS} peers')
     if network.strict and 'master' in network.roles.values():
         raise Unusable(f'{path}: master and strict in one file: a schedule\'s elections are all strict, or none is')
     for node, name in enumerate(network.names):

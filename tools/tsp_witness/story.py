@@ -1,19 +1,16 @@
 """What a network lived through: its daemons' turns in an order and at times, as a schedule and the claims that belong to it."""
-import collections
 import heapq
 import itertools
 import struct
 from collections import namedtuple
 
 from tsp_texts import grammar, schedule
-from tsp_witness import Unusable
+from tsp_witness import Unusable, faults, rules
 from tsp_witness.clocks import Clocks, Placing
 from tsp_witness.datagram import octets_of
-from tsp_witness.journal import Entry, Turn
 from tsp_witness.matching import Matching
 
 MILLION = 1_000_000
-QUIET = 80_000_000
 # So many datagrams may be what they are by chance.
 MOST_DOUBTED, MOST_TRIED = 3, 12
 
@@ -32,20 +29,22 @@ class Story:
 
     def __init__(self, network, journals, most=0, placing=Placing):
         self.network, self.journals, self.most = network, journals, most
-        self.notes, self.altered, self.doubted = [], [], []
+        self.doubted = []
+        if len(network.names) > schedule.MOST_NODES:
+            raise Unusable(f'there are {len(network.names)} hosts, and a schedule has at most {schedule.MOST_NODES}')
         self.placing = placing(self.clocks(), len(network.names))
-        self.note_faults()
+        self.notes = faults.notes_of(network, journals, self.matching)
+        self.altered = [faults.altered_text(network, journals, self.matching, turn) for turn in self.matching.strange if self.matching.sender(turn)[0] in journals]
         self.events, self.claims, self.posted = [], [], 0
         self.write()
 
     def name(self, life):
         """How a life is named to a reader."""
-        name = self.network.names[life.node]
-        return name if len(self.journals[life.node].lives) == 1 else f'{name} (start {life.number + 1})'
+        return faults.name_of(self.network, self.journals, life)
 
     def turn_name(self, turn):
         """How a turn is named to a reader."""
-        return f'{self.name(turn.life)} in turn {turn.number}' if turn.number else f'{self.name(turn.life)} at its start'
+        return faults.turn_name(self.network, self.journals, turn)
 
     def leave_out_silent(self):
         """A life that tells nothing of its clock and exchanged nothing with others has no place in time."""
@@ -98,7 +97,7 @@ class Story:
     def unfit_text(self, clocks):
         """Which datagram would go back in time the most, and that there is at least one the other way."""
         turn = self.worst(clocks)
-        return f'the clocks fit no times within a drift of {self.most}: "{" ".join(turn.took().words[2:])}" would reach {self.turn_name(turn)}, ' \
+        return f'no constant rates within a drift of {self.most} fit: "{" ".join(turn.took().words[2:])}" would reach {self.turn_name(turn)}, ' \
             f'{clocks.at(turn.post.turn) - clocks.at(turn):.0f} us before it left {self.turn_name(turn.post.turn)}, or another one likewise'
 
     def ends_at_step(self):
@@ -122,45 +121,10 @@ class Story:
         self.journals[stepped.node].notes.append(f'{name}: {why}: the {lines} lines from there on aren\'t witnessed')
         return True
 
-    def note_faults(self):
-        """Says what isn't as it should be in the traces."""
-        for journal in self.journals.values():
-            self.notes += journal.notes
-            for life in journal.lives:
-                self.note_missing(life)
-        absent = collections.Counter()
-        for turn in self.matching.strange:
-            sender, _ = self.matching.sender(turn)
-            if sender in self.journals:
-                self.altered.append(self.altered_text(turn, sender))
-            else:
-                absent[turn.life.node, sender] += 1
-        self.notes += [f'{self.network.names[node]} took {count} datagrams of {self.network.names[sender]}, which has no trace here'
-                       for (node, sender), count in absent.items()]
-
-    def altered_text(self, turn, sender):
-        """What a daemon took of a peer that never posted it."""
-        what = f'{self.name(turn.life)} took "{" ".join(turn.took().words[2:])}" of {self.network.names[sender]} in turn {turn.number}'
-        if turn in self.doubted:
-            return f'{what}, which by its trace posted that to it at another time alone'
-        nearest = self.matching.nearest(turn)
-        return f'{what}, which by its trace never posted that to it' + (f'; it posted "{nearest}"' if nearest else '')
-
-    def note_missing(self, life):
-        """Says which lines of a life aren't there."""
-        if life.first_tick >= QUIET:
-            self.notes.append(f'{self.name(life)}: the trace begins {life.first_tick // MILLION} s after the start, when the quiet time was over')
-        for turn, wanted, number in life.gaps:
-            self.notes.append(f'{self.name(life)}: lines are lost before turn {turn.number}, which posts datagram {number}: {wanted} would be next')
-
     def chain(self, journal):
         """A host's turns, with a boot before those of each life."""
         for life in journal.lives:
-            boot = Turn(life, 0, 0)
-            for port in range(len(self.network.ports_of(life.node))):
-                boot.acts += [Entry(port, ['boot'], False)] if port == 0 else []
-                boot.acts += [Entry(port, ['become', 'starting'], False), Entry(port, ['arm', 'quiet', str(QUIET)], False)]
-            yield boot
+            yield rules.boot(self.network, life)
             yield from life.turns
 
     def ordered(self):

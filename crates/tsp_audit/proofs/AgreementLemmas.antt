@@ -2,7 +2,7 @@
 use Rattle.std.proofs.Common.{sym, ap, subst, subst₂, ◌∙◌, arith, inl, inr, get_or, ◌≡◌, ◌<◌, ◌≤ℤ◌, ◌+◌, ◌-◌, ◌*◌, ℕ, ℤ, pos, ◌+ℤ◌, ◌-ℤ◌, nat_abs, Option, None, Some, List, [], ◌∷◌, length, refl}
 use Rattle.std.proofs.lemmas.{Int.ints, List.get_or_default}
 use Rattle.tsp_promises.specs.Agreed.{FromRound, ClocksAgree, MasterAgrees, PeersAgree, RightAfter, Unchanged, UnchangedBut}
-use Rattle.tsp_base.specs.Words.{HeaderValue, Acts, Begins, Deed, Line, dids, from_act, from_act_at, of, all_corrects, lives, moved, Within, tick_at, width}
+use Rattle.tsp_base.specs.Words.{HeaderValue, Acts, Begins, Deed, Line, dids, from_act, from_act_at, of, all_corrects, lives, moved, Within, width}
 use Rattle.tsp_promises.{proofs.EverywhereLemmas.Everywhere-at, specs.ClockAt.clock_at, specs.Fits.node_of, specs.Setting.Setting}
 use Rattle.tsp_base.proofs.PlaceLemmas.{Within-all, Within-comparable, Within-length, Within-tail, Within-through}
 use Rattle.tsp_audit.specs.Agreeing.{AgreementIs, AfterAs, AfterIs, AllAgree, BossAgrees, IsAtPlace, LiveAs, LiveIs, MasterNearWithSpare, NodeIs, Numbered, PairAgrees, PairNear, FromRoundStands, err_less, shown_by}
@@ -66,7 +66,8 @@ found n h (Some k) a m close cpast c past r older e from_round node u =
 clock-kept : (header : HeaderValue) (setting : Setting) (n : ℕ) (h : List Line) (s : NodeState) (t : ℕ) → HasClocks header setting → NodeIs n h s → shown_by header n s.moved t ≡ clock_at setting n h t
 clock-kept header setting n h s t has is =
     let own : shown_by header n s.moved t ≡ shown_by header n (moved (dids (of n h))) t = ap (λ (z : ℤ). shown_by header n z t) is.moved_is in
-    own ∙ subst₂ (λ (w r : ℤ). shown_by header n (moved (dids (of n h))) t ≡ (w +ℤ moved (dids (of n h))) +ℤ pos (tick_at r t)) (sym (has.wall_is n)) (sym (has.rate_is n)) refl
+    own ∙ subst₂ (λ (w : ℤ) (x : ℕ). shown_by header n (moved (dids (of n h))) t ≡ (w +ℤ moved (dids (of n h))) +ℤ pos x)
+    (sym (has.wall_is n (lives (dids (of n h))))) (sym (has.tick_is n t)) refl
 
 -- the state that is read where none stands
 abbrev pub no_state : NodeState

@@ -18,7 +18,8 @@ ticks-later : (header : HeaderValue) (setting : Setting) (n t at : ℕ) → HasC
     Ticks (tick_at (node_line header n).rate t) (tick_at (node_line header n).rate at) (at - t) (width header.drift (at - t))
 ticks-later header setting n t at has le =
     let over = ticks_over setting n t at le in
-    subst₂ (λ (r : ℤ) (d : ℕ). Ticks (tick_at r t) (tick_at r at) (at - t) (width d (at - t))) (has.rate_is n) has.drift_is (record { most = over.0; least = over.1 })
+    subst₂ (λ (x y : ℕ). Ticks x y (at - t) (width header.drift (at - t))) (has.tick_is n t) (has.tick_is n at)
+    (subst (λ (d : ℕ). Ticks (setting.tick n t) (setting.tick n at) (at - t) (width d (at - t))) has.drift_is (record { most = over.0; least = over.1 }))
 
 -- the width of two whiles together is that of each but for 2
 width-whole : (d x y : ℕ) → width d x + width d y ≤ width d (x + y) + 2

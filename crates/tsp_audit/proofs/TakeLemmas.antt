@@ -2,7 +2,7 @@
 use Rattle.std.proofs.Common.{sym, ap, subst, subst₂, ◌∙◌, arith, get_or, take, ◌≡◌, ◌<◌, ◌≤◌, ◌+◌, ℕ, ℤ, pos, ◌+ℤ◌, Bool, true, false, MatchBool, MatchOption, Option, None, List, [], ◌∷◌, length, refl, is_some, Some}
 use Rattle.std.proofs.lemmas.List.{get_or_default}
 use Rattle.tsp_rules.specs.Values.{Post, Correct, Datagram, Message, PeerId, Place, Peer, Follow}
-use Rattle.tsp_base.specs.Words.{Acts, Came, Here, Line, Seen, dids, of, view, MessageValue, HeaderValue, moved, role, tick_at, Within, begun_to, is_correction, is_numbered, heard, peer_of, posted, time_in}
+use Rattle.tsp_base.specs.Words.{Acts, Came, Here, Line, Seen, dids, of, view, MessageValue, HeaderValue, lives, moved, role, Within, begun_to, is_correction, is_numbered, heard, peer_of, posted, time_in}
 use Rattle.tsp_promises.specs.{Once.Brings, Once.Obeys, Once.ObeysAt, Once.SpacedAt, ClockAt.clock_at, CorrectFits.amount_of, Fits.node_of, Setting.Setting}
 use Rattle.tsp_promises.proofs.{OwnFitsProof.view-line, SendPlaces.post_unique, SendPlaces.posted-mono, SendPlaces.posted-post, SendPlaces.same-number}
 use Rattle.tsp_history.proofs.HistoryLemmas.{history-more}
@@ -149,7 +149,8 @@ obeys-not setting ns l amount master i noted b is bad o =
 
 -- the clock by a header is that by its setting
 pub clock-set : (header : HeaderValue) (setting : Setting) (n : ℕ) (h : List Line) (at : ℕ) → HasClocks header setting → clock_in header n h at ≡ clock_at setting n h at
-clock-set header setting n h at has = subst₂ (λ (w r : ℤ). clock_in header n h at ≡ (w +ℤ moved (dids (of n h))) +ℤ pos (tick_at r at)) (sym (has.wall_is n)) (sym (has.rate_is n)) refl
+clock-set header setting n h at has =
+    subst₂ (λ (w : ℤ) (x : ℕ). clock_in header n h at ≡ (w +ℤ moved (dids (of n h))) +ℤ pos x) (sym (has.wall_is n (lives (dids (of n h))))) (sym (has.tick_is n at)) refl
 
 pub obeys-decides : (header : HeaderValue) (setting : Setting) (ns : List HistoryLine) (l : Line) (amount : ℤ) (master : PeerId) (i : ℕ) (noted : HistoryLine) (b : Bool) (t : ℤ) → HasClocks header setting → BringsAt ns l i → get_or ns i noted ≡ noted → noted.node ≡ master.0 →
     t ≡ clock_in header (node_of l) (history_of ns) l.did.step.at → MatchBool b (PostsMove (deed_of noted.act) amount t) (PostsMove (deed_of noted.act) amount t → ⊥) →

@@ -4,10 +4,10 @@ use Rattle.tsp_promises.specs.{Everywhere.Everywhere, Setting.Setting}
 use Rattle.tsp_base.specs.Words.{HeaderValue, Line, dids, of, moved, tick_at}
 use Rattle.tsp_run.specs.Setup.{node_line}
 
--- a setting has the header's drift, rates and walls
+-- a setting has the header's drift, rates and walls, and a node's wall is the same in all its lives
 pub record HasClocks (header : HeaderValue) (setting : Setting) : Type 0 where
-  pub rate_is : (n : ℕ) → setting.rate n ≡ (node_line header n).rate
-  pub wall_is : (n : ℕ) → setting.wall n ≡ (node_line header n).wall
+  pub tick_is : (n t : ℕ) → setting.tick n t ≡ tick_at (node_line header n).rate t
+  pub wall_is : (n life : ℕ) → setting.wall n life ≡ (node_line header n).wall
   pub drift_is : setting.drift ≡ header.drift
 
 -- the clock of node n at a true time, when the history is h

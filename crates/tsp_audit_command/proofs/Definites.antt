@@ -124,7 +124,7 @@ claimed-header (line ∷ before) c (Claimed d, r, g) =
 
 -- a header gives a setting its clocks
 clocks-of : (header : HeaderValue) → IsHeader header → (setting : Setting) × HasClocks header setting
-clocks-of header is = let set = each-is-set header is in (set.0, record { rate_is = set.1.rate_is; wall_is = set.1.wall_is; drift_is = set.1.drift_is })
+clocks-of header is = let set = each-is-set header is in (set.0, record { tick_is = set.1.tick_is; wall_is = set.1.wall_is; drift_is = set.1.drift_is })
 
 -- one part is the least that fails
 one-part : (premises : Premises) (setting : Setting) (h : List Line) (n m : ℕ) → FailsNow premises setting h n → FailsNow premises setting h m → n ≡ m

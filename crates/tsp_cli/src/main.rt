@@ -26,7 +26,8 @@
 //!
 //! # What is neither proved nor tested
 //!
-//! - `main`, the words that the system hands it, and which standard streams are open.
+//! - `main`, the words and the environment that the system hands it, the file that TSP_PAGE names, and which
+//!   standard streams are open.
 #![tactic(auto)]
 
 mod help;
@@ -38,17 +39,22 @@ mod streams;
 mod tests;
 
 use log::{Log, warn};
-use rates::rate_of;
+use rates::{counter_of, rate_of};
 use run::{run, say};
 use status::Status;
 use std::alloc::AllocError;
+use std::env::VarError;
+use std::fs::{File, OpenOptions};
 use std::io::ErrorKind;
 use std::process::ExitCode;
 use std::rt::Env;
 use std::{env, io};
 use streams::is_closed;
 use tsp_io::clock::MachineTicker;
+use tsp_io::counter::Counter;
+use tsp_io::file_board::FileBoard;
 use tsp_io::machine::{Reading, Writing};
+use tsp_io::paged::Paged;
 use tsp_io::rate::Rate;
 use tsp_io::udp::UdpLink;
 use tsp_io::unslewed::Unslewed;
@@ -79,22 +85,103 @@ fn closed_stream(rt: HostRuntime) -> Option<(&'static str, Status)> {
     None
 }
 
-/// The rate of the counter of the command that the words ask for: a daemon's is that of TSP_RATE,
-/// any other's the machine's own. None if TSP_RATE is no rate; fails only if out of memory.
-fn rate_for(rt: HostRuntime, words: &[String]) -> Result<Option<Rate>, AllocError> {
-    match words {
-        [first, ..] if first.as_str() == "serve" => rate_of(&rt),
-        _ => Ok(Some(Rate::own())),
+/// By which of the machine's counters a command counts its ticks, at which rate, and on which board.
+struct Clocks {
+    counter: Counter,
+    rate: Rate,
+    board: Option<FileBoard<File>>,
+}
+
+/// Why the environment says nothing usable of them.
+#[derive(Clone, Copy)]
+enum Unusable {
+    /// TSP_RATE is no rate.
+    Rate,
+    /// TSP_COUNTER is no counter.
+    Counter,
+    /// Out of memory.
+    Memory,
+}
+
+/// What an environment's variable names; else why it isn't usable.
+fn named<A: Drop>(read: Result<Option<A>, AllocError>, none: Unusable) -> Result<A, Unusable> {
+    match read {
+        Ok(Some(named)) => Ok(named),
+        Ok(None) => Err(none),
+        Err(_) => Err(Unusable::Memory),
     }
 }
 
-/// Does what the words ask for, with the machine's own streams, network and clocks; the counter has
-/// this rate.
-fn answer_at(rt: HostRuntime, words: &[String], rate: Rate) -> Status {
+/// The file at this path as a board; None, and a line in the log, if it can't be opened.
+fn board_at(rt: HostRuntime, path: &str) -> Option<FileBoard<File>> {
+    let mut options = OpenOptions::new();
+    options.read(true).write(true);
+    match options.open(&rt, path) {
+        Ok(file) => Some(FileBoard::new(file)),
+        Err(_) => {
+            warn!(rt; "the file that TSP_PAGE names can't be opened, so no page is written");
+            None
+        }
+    }
+}
+
+/// The board that the environment names in TSP_PAGE, which must be there; None if it names none. Fails
+/// only if out of memory.
+fn board_of(rt: HostRuntime) -> Result<Option<FileBoard<File>>, AllocError> {
+    match env::var(&rt, "TSP_PAGE") {
+        Ok(path) => Ok(board_at(rt, path.as_str())),
+        Err(VarError::OutOfMemory) => Err(AllocError),
+        Err(_) => Ok(None),
+    }
+}
+
+/// The clocks of the command that the words ask for: a daemon's are what TSP_COUNTER, TSP_RATE and
+/// TSP_PAGE say, any other's count by the raw counter at its own rate, and have no board.
+fn clocks_for(rt: HostRuntime, words: &[String]) -> Result<Clocks, Unusable> {
+    if !is_serve(words) {
+        return Ok(Clocks {
+            counter: Counter::Raw,
+            rate: Rate::own(),
+            board: None,
+        });
+    }
+    let rate = named(rate_of(&rt), Unusable::Rate)?;
+    let counter = named(counter_of(&rt), Unusable::Counter)?;
+    match board_of(rt) {
+        Ok(board) => Ok(Clocks {
+            counter,
+            rate,
+            board,
+        }),
+        Err(_) => Err(Unusable::Memory),
+    }
+}
+
+/// Whether the words ask for a daemon.
+fn is_serve(words: &[String]) -> bool {
+    match words {
+        [first, ..] => first.as_str() == "serve",
+        [] => false,
+    }
+}
+
+/// Does what the words ask for, with the machine's own streams and network, and these clocks.
+fn answer_by(rt: HostRuntime, words: &[String], clocks: Clocks) -> Status {
+    let Clocks {
+        counter: wanted,
+        rate,
+        board,
+    } = clocks;
+    let unslewed = Unslewed::new(rt, wanted);
+    let counter = unslewed.counter();
+    if is_serve(words) {
+        warn_of_counter(&rt, wanted, counter);
+    }
     let mut source = Reading::new(rt.reader());
     let mut sink = Writing::new(io::writer(&rt));
     let mut link = UdpLink::new(rt, rt.alloc());
-    let mut ticker = MachineTicker::new(Unslewed::new(rt), rate);
+    let ticker = MachineTicker::new(unslewed, rate).counted_by(counter);
+    let mut ticker = Paged::new(ticker, board);
     let status = run(
         rt.alloc(),
         words,
@@ -104,19 +191,35 @@ fn answer_at(rt: HostRuntime, words: &[String], rate: Rate) -> Status {
         &mut ticker,
     );
     warn_of_discarded(&rt, link.discarded());
+    warn_of_unwritten(&rt, ticker.board());
     status
 }
 
 /// Does what the words ask for, where all standard streams are open.
 fn answer(rt: HostRuntime, words: &[String]) -> Status {
-    match rate_for(rt, words) {
-        Ok(Some(rate)) => answer_at(rt, words, rate),
-        Ok(None) => say(
-            &mut Writing::new(io::writer(&rt)),
-            b"bad rate\n",
-            Status::Usage,
-        ),
-        Err(_) => Status::OutOfMemory,
+    let text: &[u8] = match clocks_for(rt, words) {
+        Ok(clocks) => return answer_by(rt, words, clocks),
+        Err(Unusable::Rate) => b"bad rate\n",
+        Err(Unusable::Counter) => b"bad counter\n",
+        Err(Unusable::Memory) => return Status::OutOfMemory,
+    };
+    say(&mut Writing::new(io::writer(&rt)), text, Status::Usage)
+}
+
+/// Logs that the machine hasn't the counter that was wanted, if it hasn't.
+fn warn_of_counter(rt: &impl Log, wanted: Counter, counter: Counter) {
+    if counter != wanted {
+        warn!(rt; "there is no CLOCK_MONOTONIC_RAW, so ticks are counted by CLOCK_MONOTONIC");
+    }
+}
+
+/// Logs how many writes of the page failed, if any did.
+fn warn_of_unwritten(rt: &impl Log, board: Option<&FileBoard<File>>) {
+    if let Some(board) = board {
+        let count = board.faults();
+        if count != 0 {
+            warn!(rt; "the page could not be written: {count} writes failed");
+        }
     }
 }
 

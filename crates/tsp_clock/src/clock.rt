@@ -87,6 +87,22 @@ impl Clock {
         self.ticket
     }
 
+    /// The tick of the last correction, or of the boot where there was none.
+    pub fn corrected(&self) -> u64
+        ensures value { result ≡ self.now.at }
+        ensures tick { IsTick self.now.at }
+    {
+        self.at
+    }
+
+    /// How many microseconds were still to be slewed right after the last correction, or the boot.
+    pub fn left(&self) -> i64
+        ensures value { result ≡ self.now.rest }
+        ensures small { nat_abs result ≤ 2 ^ 61 + 2 ^ 52 }
+    {
+        self.rest
+    }
+
     /// The target at a tick, in microseconds. The tick must not be before the last correction.
     pub fn target(&self, tick: u64) -> i64
         requires tick { IsTick tick }

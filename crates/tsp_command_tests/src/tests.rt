@@ -4,6 +4,7 @@ mod failing_replays;
 mod handlers;
 mod icmp;
 mod order;
+mod pages;
 mod queries;
 mod questions;
 mod records;

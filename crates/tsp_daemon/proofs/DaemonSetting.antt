@@ -1,5 +1,6 @@
 -- Every daemon has a setting.
-use Rattle.std.proofs.Common.{ap, arith, eq-eqb, ◌≡◌, ℕ, zero, suc, ◌+◌, ◌<◌, ◌==◌, ℤ, pos, ◌-ℤ◌, true, List, [], ◌∷◌, length, map, Option, None, Some, slice_get, slice_index_or, refl}
+use Rattle.std.proofs.Common.{ap, arith, eq-eqb, ◌≡◌, ℕ, zero, suc, ◌+◌, ◌<◌, ◌==◌, ℤ, pos, ◌-ℤ◌, true, List, [], ◌∷◌, length, map, Option, None, Some}
+use Rattle.std.proofs.Common.{slice_get, slice_index_or, refl}
 use Rattle.std.{proofs.lemmas.Int.ints, specs.List.range_with_len}
 use Rattle.tsp_args.specs.declared.serve.ServeWords.{ServeWords}
 use Rattle.tsp_base.specs.Words.{is_among}
@@ -44,7 +45,8 @@ own : (s : ServeWords) (n : ℕ) (q : Port) → is_among (numbered_peer n) (memb
 own s zero q = own-peers 0 s.ports q.0
 own s (suc n) q = among-self (suc n) []
 
-port-peers : (done : ℕ) (ports : List (List Addr)) (k : ℕ) → k < length ports → peers_in (slice_get (setups_from done ports) k) ≡ (slice_index_or (setups_from done ports) k no_port).peers
+port-peers : (done : ℕ) (ports : List (List Addr)) (k : ℕ) → k < length ports → peers_in (slice_get (setups_from done ports) k) ≡
+    (slice_index_or (setups_from done ports) k no_port).peers
 port-peers done [] k lt = absurd (omega (arith, lt))
 port-peers done (peers ∷ ports) zero lt = refl
 port-peers done (peers ∷ ports) (suc k) lt = port-peers (done + length peers) ports k (omega (arith, lt))
@@ -55,7 +57,7 @@ daemon-setting s tick wall = (
   record {
     drift = 0;
     tick = λ n t. t;
-    wall = λ n. wall -ℤ pos tick;
+    wall = λ n life. wall -ℤ pos tick;
     name = λ n. s.name;
     strict = is_strict s.candidacy;
     net = net_of;
@@ -65,5 +67,12 @@ daemon-setting s tick wall = (
     apart = apart;
     own = own s;
   },
-  record { drift_is = refl; tick_is = λ t. refl; wall_is = omega (arith, ints); name_is = refl; strict_is = refl; members_are = λ q lt. port-peers 0 s.ports q.0 lt },
+  record {
+    drift_is = refl;
+    tick_is = λ t. refl;
+    wall_is = omega (arith, ints);
+    name_is = refl;
+    strict_is = refl;
+    members_are = λ q lt. port-peers 0 s.ports q.0 lt;
+  },
 )

@@ -1,6 +1,7 @@
 mod DaemonSetting
 pub mod LineLemmas
 pub mod NodeLemmas
+pub mod PageLemmas
 pub mod SendLemmas
 pub mod ServeLemmas
 mod SessionFits

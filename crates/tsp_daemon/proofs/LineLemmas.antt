@@ -1,5 +1,6 @@
 -- Lines that are written one after the other, and how far their writing came.
-use Rattle.std.proofs.Common.{ap, sym, ◌∙◌, append_assoc, arith, get_or, length-append, length-drop, take-append-drop, ◌≡◌, ℕ, ◌+◌, ◌<◌, List, ◌++◌, length, take, drop, Option}
+use Rattle.std.proofs.Common.{ap, sym, ◌∙◌, append_assoc, arith, get_or, length-append, length-drop, take-append-drop, ◌≡◌, ℕ, ◌+◌, ◌<◌, List, ◌++◌, length}
+use Rattle.std.proofs.Common.{take, drop, Option}
 use Rattle.std.proofs.lemmas.List.{drop_more}
 use Rattle.tsp_rules.specs.Values.{Placed}
 use Rattle.tsp_io.specs.Streams.{Grows}
@@ -11,7 +12,8 @@ use Rattle.tsp_daemon.specs.{Ends.CutsShort, Ends.TellsUntil, Posts.send_of, Pos
 pub lines_here : (turn tick number : ℕ) (acts : List Placed) (i : ℕ) (item : Placed) → i < length acts → get_or acts i item ≡ item →
     act_lines turn tick number (drop i acts) ≡ line_of turn tick number item ++ act_lines turn tick (number + length (send_of item.act)) (drop (i + 1) acts)
 lines_here turn tick number acts i item l e =
-    ap (λ ps. act_lines turn tick number ps) (drop_more acts i item l) ∙ ap (λ (p : Placed). line_of turn tick number p ++ act_lines turn tick (number + length (send_of p.act)) (drop (i + 1) acts)) e
+    ap (λ ps. act_lines turn tick number ps) (drop_more acts i item l) ∙ ap (λ (p : Placed). line_of turn tick number p ++
+    act_lines turn tick (number + length (send_of p.act)) (drop (i + 1) acts)) e
 
 -- some text, and a line that was cut off
 cuts_on : (all done line rest : List ℕ) (a b c : Option (List ℕ)) → Grows a b done → all ≡ done ++ (line ++ rest) → CutsShort line b c → CutsShort all a c
@@ -24,7 +26,8 @@ cuts_on all done line rest a b c g e t = (
 )
 
 -- some text, and a line of which only a part was written
-pub tells_until : (end : ServeEnd) (all done line rest : List ℕ) (a b c : Option (List ℕ)) → Grows a b done → all ≡ done ++ (line ++ rest) → TellsUntil line b c end → TellsUntil all a c end
+pub tells_until : (end : ServeEnd) (all done line rest : List ℕ) (a b c : Option (List ℕ)) → Grows a b done → all ≡ done ++ (line ++ rest) →
+    TellsUntil line b c end → TellsUntil all a c end
 tells_until WriteFault all done line rest a b c g e t = cuts_on all done line rest a b c g e t
 tells_until OutOfMemory all done line rest a b c g e t = cuts_on all done line rest a b c g e t
 tells_until _ all done line rest a b c g e t = absurd t

@@ -1,5 +1,6 @@
 -- The daemon's node can boot, and then stands for its first past.
-use Rattle.std.proofs.Common.{ap, sym, ◌∙◌, arith, refl, subst, length-append, append_assoc, ◌≡◌, ℕ, zero, suc, ◌+◌, ◌*◌, ◌^◌, ◌<◌, ◌≤◌, List, [], ◌∷◌, ◌++◌, length, map, drop, slice_get, slice_index, Some}
+use Rattle.std.proofs.Common.{ap, sym, ◌∙◌, arith, refl, subst, length-append, append_assoc, ◌≡◌, ℕ, zero, suc, ◌+◌, ◌*◌, ◌^◌, ◌<◌, ◌≤◌, List, [], ◌∷◌, ◌++◌}
+use Rattle.std.proofs.Common.{length, map, drop, slice_get, slice_index, Some}
 use Rattle.std.proofs.lemmas.List.{drop_more, get_or-map, length-map, FromFn.length-map-range_with_len, FromFn.get_or-map-range_with_len}
 use Rattle.std.{proofs.lemmas.Option.get_or_from_slice_get, proofs.lemmas.Option.slice_get_within, specs.List.range_with_len}
 use Rattle.tsp_node.specs.Configs.{IsPortSetup}
@@ -21,18 +22,20 @@ number_at done count k h =
     ∙ ap (λ (p : PeerId). p.0) (get_or-map-range_with_len (λ i. numbered_peer i) (done + 1) count k (done + 1 + k) (numbered_peer 0) h refl)
 
 -- each peer's number is below the next one's
-ascends : (done count k : ℕ) → k + 1 < length (map (λ (p : PeerId). p.0) (port_peers done count)) → slice_index (map (λ (p : PeerId). p.0) (port_peers done count)) k < slice_index (map (λ (p : PeerId). p.0) (port_peers done count)) (k + 1)
-ascends done count k h = by_place k (let len = length-peers done count in let long = length-map (port_peers done count) (λ (p : PeerId). p.0) in omega (arith, h, len, long)) where
-  numbers : List ℕ
-  numbers = map (λ (p : PeerId). p.0) (port_peers done count)
+ascends : (done count k : ℕ) → k + 1 < length (map (λ (p : PeerId). p.0) (port_peers done count)) →
+    slice_index (map (λ (p : PeerId). p.0) (port_peers done count)) k < slice_index (map (λ (p : PeerId). p.0) (port_peers done count)) (k + 1)
+ascends done count k h = by_place k (let len = length-peers done count in let long = length-map (port_peers done count) (λ (p : PeerId). p.0) in
+    omega (arith, h, len, long)) where
+      numbers : List ℕ
+      numbers = map (λ (p : PeerId). p.0) (port_peers done count)
 
-  by_place : (k : ℕ) → k < count → slice_index numbers k < slice_index numbers (k + 1)
-  by_place zero less = let next = number_at done count 0 less in omega (arith, next)
-  by_place (suc k) less =
-      let here = number_at done count k (omega (arith, less)) in
-      let next = number_at done count (suc k) less in
-      let one : suc k + 1 ≡ suc (suc k) = omega arith in
-      subst (λ n. slice_index numbers (suc k) < slice_index numbers n) (sym one) (omega (arith, here, next))
+      by_place : (k : ℕ) → k < count → slice_index numbers k < slice_index numbers (k + 1)
+      by_place zero less = let next = number_at done count 0 less in omega (arith, next)
+      by_place (suc k) less =
+          let here = number_at done count k (omega (arith, less)) in
+          let next = number_at done count (suc k) less in
+          let one : suc k + 1 ≡ suc (suc k) = omega arith in
+          subst (λ n. slice_index numbers (suc k) < slice_index numbers n) (sym one) (omega (arith, here, next))
 
 -- a node can have a port behind so many peers
 IsPortSetup-numbered_setup : (done count : ℕ) → count ≤ 999 → IsPortSetup (numbered_setup done count)
@@ -56,7 +59,8 @@ length-setups_from done [] = refl
 length-setups_from done (peers ∷ ports) = ap (λ n. suc n) (length-setups_from (done + length peers) ports)
 
 -- the room of its steps
-room-setups : (done : ℕ) (ports : List (List Addr)) → room_of_ports (peers_of_ports (setups_from done ports)) ≡ 24 * length (all_peers ports) + 280 * length ports
+room-setups : (done : ℕ) (ports : List (List Addr)) → room_of_ports (peers_of_ports (setups_from done ports)) ≡
+    24 * length (all_peers ports) + 280 * length ports
 room-setups done [] = refl
 room-setups done (peers ∷ ports) =
     let both = length-append peers (all_peers ports) in
@@ -64,12 +68,14 @@ room-setups done (peers ∷ ports) =
     let rest = room-setups (done + length peers) ports in
     omega (arith, both, len, rest)
 
-pub room_is : (s : ServeWords) (ports : List (List PeerId)) → ports ≡ peers_of_ports (daemon_config s).ports → length (all_peers s.ports) ≤ 999 → length s.ports ≤ 4 → room_of_ports ports ≤ 24 * 1003 + 4 * 256
+pub room_is : (s : ServeWords) (ports : List (List PeerId)) → ports ≡ peers_of_ports (daemon_config s).ports → length (all_peers s.ports) ≤ 999 →
+    length s.ports ≤ 4 → room_of_ports ports ≤ 24 * 1003 + 4 * 256
 room_is s ports is few four = let room = room-setups 0 s.ports in let same = ap room_of_ports is in omega (arith, room, same, few, four)
 
 -- the ports from a place on are the one there and those behind it
 ports-here : (ports : List (List Addr)) (i : ℕ) (peers : List Addr) → slice_get ports i ≡ Some peers → drop i ports ≡ peers ∷ drop (i + 1) ports
-ports-here ports i peers e = drop_more ports i peers (slice_get_within ports i peers e) ∙ ap (λ (ps : List Addr). ps ∷ drop (i + 1) ports) (get_or_from_slice_get ports i peers peers e)
+ports-here ports i peers e = drop_more ports i peers (slice_get_within ports i peers e) ∙
+    ap (λ (ps : List Addr). ps ∷ drop (i + 1) ports) (get_or_from_slice_get ports i peers peers e)
 
 -- one port more is set up
 pub setups_more : (before : List PortSetup) (done : ℕ) (ports : List (List Addr)) (i : ℕ) (peers : List Addr) → slice_get ports i ≡ Some peers →
@@ -79,7 +85,8 @@ setups_more before done ports i peers e =
     ∙ ap (λ (ps : List (List Addr)). before ++ setups_from done ps) (sym (ports-here ports i peers e))
 
 -- and its peers are among the few
-pub peers_more : (done : ℕ) (ports : List (List Addr)) (i : ℕ) (peers : List Addr) → slice_get ports i ≡ Some peers → done + length (all_peers (drop i ports)) ≤ 999 → done + length peers + length (all_peers (drop (i + 1) ports)) ≤ 999
+pub peers_more : (done : ℕ) (ports : List (List Addr)) (i : ℕ) (peers : List Addr) → slice_get ports i ≡ Some peers →
+    done + length (all_peers (drop i ports)) ≤ 999 → done + length peers + length (all_peers (drop (i + 1) ports)) ≤ 999
 peers_more done ports i peers e few =
     let here = ap (λ (ps : List (List Addr)). length (all_peers ps)) (ports-here ports i peers e) in
     let both = length-append peers (all_peers (drop (i + 1) ports)) in

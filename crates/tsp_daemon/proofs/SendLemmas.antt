@@ -11,5 +11,6 @@ TriesAll-trans None b c xs ys p q = q ∙ ap (option_map (λ ts. ts ++ ys)) p
 TriesAll-trans (Some ts) b c xs ys p q = q ∙ ap (option_map (λ zs. zs ++ ys)) p ∙ ap (λ (zs : List Tried). Some zs) (append_assoc ts xs ys)
 
 -- the sends of acts from a place on are those of the act there, and those of the acts behind it
-pub sends_here : (acts : List Placed) (i : ℕ) (item : Placed) → i < length acts → get_or acts i item ≡ item → sends_of (drop i acts) ≡ send_of item.act ++ sends_of (drop (i + 1) acts)
+pub sends_here : (acts : List Placed) (i : ℕ) (item : Placed) → i < length acts → get_or acts i item ≡ item → sends_of (drop i acts) ≡ send_of item.act ++
+    sends_of (drop (i + 1) acts)
 sends_here acts i item l e = ap (λ ps. sends_of ps) (drop_more acts i item l) ∙ ap (λ (p : Placed). send_of p.act ++ sends_of (drop (i + 1) acts)) e

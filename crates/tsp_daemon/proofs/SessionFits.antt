@@ -1,9 +1,10 @@
 -- The history of a daemon's node fits, whoever sends to it: its boot and each turn add a step that does.
-use Rattle.std.proofs.Common.{sym, ap, ◌∙◌, subst, arith, inr, ◌≡◌, ℕ, zero, suc, ◌+◌, ◌*◌, ◌<◌, ◌≤◌, ◌==◌, if◌then◌else◌, ℤ, pos, negsuc, nat_abs, Bool, true, false, List, [], ◌∷◌, length, None, Some, slice_index_or, refl}
+use Rattle.std.proofs.Common.{sym, ap, ◌∙◌, subst, arith, inr, ◌≡◌, ℕ, zero, suc, ◌+◌, ◌*◌, ◌<◌, ◌≤◌, ◌==◌, if◌then◌else◌, ℤ, Bool, true, false, List, [], ◌∷◌}
+use Rattle.std.proofs.Common.{length, None, Some, slice_index_or, refl}
 use Rattle.std.proofs.lemmas.Bool.{ne_eqb}
 use Rattle.tsp_args.specs.{Serves.IsServe, declared.serve.ServeWords.ServeWords}
 use Rattle.tsp_rules.specs.Values.{Placed, PeerId, Place, Peer, Stranger, Port}
-use Rattle.tsp_base.specs.Words.{Acts, Begins, Booted, Cause, Line, Step, Turned, dids, of, view, first_port, joined, line_of, time_of, up, posted, tick_at}
+use Rattle.tsp_base.specs.Words.{Acts, Begins, Booted, Cause, Line, Step, Turned, dids, of, view, first_port, joined, line_of, time_of, up, posted}
 use Rattle.tsp_base.proofs.PlaceLemmas.{Within-all}
 use Rattle.tsp_gateway.specs.{GateConfigs.peers_of_ports, PortOf.has_other_peer, PortOf.port_of_from, Rooms.room_of_ports}
 use Rattle.tsp_io.specs.{Links.Arrival, declared.addr.Addr.Addr}
@@ -11,14 +12,14 @@ use Rattle.tsp_promises.specs.{Dated.SetsAt, Fits.Fits, Fits.Finished, PortFits.
 use Rattle.tsp_promises.specs.Setting.{Setting, setup_of}
 use Rattle.tsp_promises.proofs.{ChainProof.looped_in, EverywhereLemmas.Everywhere-from, GateSteps.AllPorts, GateLeads.GivenOn}
 use Rattle.tsp_promises.proofs.{GateLeads.answers_all_lead, Known.Ended, Known.Fresh, NodeLeads.begins_all, NodeLeads.boots_all_lead}
-use Rattle.tsp_promises.proofs.{OwnFitsProof.fits_at, SafeProof.safe, OnceObeyedProof.sets_at}
+use Rattle.tsp_promises.proofs.{LookedProof.looked, OwnFitsProof.fits_at, SafeProof.safe, OnceObeyedProof.sets_at}
 use Rattle.tsp_promises.proofs.RunLeads.{ended_later, ends_of, nothing-done, nothing-ends}
 use Rattle.tsp_query.specs.{Arrivals.next_arrival, Ends.Outside}
 use Rattle.tsp_rules.specs.GateRows.{NodeGiven, NodeTurn, GotOn, answers_all, boots_all}
 use Rattle.tsp_rules.specs.NodeRows.{NodePast, NodeRow, PortSetup, in_node_step, no_port, on, on_port, port_setup, spread}
 use Rattle.tsp_run.{proofs.BootLemmas.boots-up, proofs.RunFits.joined-time, proofs.RunLemmas.up_joined, specs.Networks.room}
 use Rattle.tsp_run.proofs.AnswersFit.{StepOk, boot_ok, got_ok, turn_ok}
-use Rattle.tsp_run.proofs.FitsLines.{ActsOn, AllAlive, AreOn, acts_fit, all_end, mark_line, posted_more}
+use Rattle.tsp_run.proofs.FitsLines.{ActsOn, AllAlive, AreOn, acts_fit, all_end, did_in, mark_line, posted_more}
 use Rattle.tsp_daemon.specs.Sessions.{after_turns, turn_begun, turn_cause, given_in, given_of, port_from, read_once, Rises, turn_tick}
 use Rattle.tsp_daemon.specs.{Nodes.daemon_config, Nodes.first_past, Nodes.is_strict, Nodes.setups_from, Kept.HistoryKept, Kept.SetByWords}
 use Rattle.tsp_daemon.{proofs.NodeLemmas.length-setups_from, proofs.NodeLemmas.room_is, specs.Serving.first_session}
@@ -56,11 +57,6 @@ joined-posts step x (p ∷ rest) h =
     let one = posted_more (Acts p.act) (posted (dids h)) in
     omega (arith, more, one)
 
--- a clock without drift ticks as true time does
-flat : (r : ℤ) (x : ℕ) → nat_abs r ≤ 0 → x ≡ tick_at r x
-flat (pos r) x small = let none : r ≡ 0 = omega (arith, small) in rw none (omega arith)
-flat (negsuc r) x small = absurd (omega (arith, small))
-
 -- each port has the daemon's number
 own-setups : (done : ℕ) (ports : List (List Addr)) (k : ℕ) → (slice_index_or (setups_from done ports) k no_port).own.0 ≡ 0
 own-setups done [] k = refl
@@ -75,7 +71,8 @@ room-of (s ∷ rest) = ap (λ n. 24 * length s.peers + 256 + n) (room-of rest)
 port-below : (k : ℕ) (p : PeerId) (ports : List PortSetup) → 0 < k + length ports → (port_of_from k p ports).0 < k + length ports
 port-below k p [] some = some
 port-below k p (s ∷ rest) some = by_case (has_other_peer p s) (port-below (k + 1) p rest (omega arith)) where
-  by_case : (b : Bool) → (port_of_from (k + 1) p rest).0 < k + 1 + length rest → (if b then record { 0 = k } else port_of_from (k + 1) p rest).0 < k + length (s ∷ rest)
+  by_case : (b : Bool) → (port_of_from (k + 1) p rest).0 < k + 1 + length rest → (if b then record { 0 = k } else port_of_from (k + 1) p rest).0 < k + length
+      (s ∷ rest)
   by_case true later = omega arith
   by_case false later = omega (arith, later)
 
@@ -104,7 +101,8 @@ module _ {s : ServeWords} {setting : Setting} {tick : ℕ} {wall : ℤ} (is : Is
   tick-is x = sym (set.tick_is x)
 
   -- what a port is set up with is what the words say
-  set-up : (past : NodePast) (q : Port) → past.name ≡ s.name → past.strict ≡ is_strict s.candidacy → past.ports ≡ setups_from 0 s.ports → q.0 < length past.ports → setup_in (on_port q past) ≡ setup_of setting 0 q
+  set-up : (past : NodePast) (q : Port) → past.name ≡ s.name → past.strict ≡ is_strict s.candidacy → past.ports ≡ setups_from 0 s.ports →
+      q.0 < length past.ports → setup_in (on_port q past) ≡ setup_of setting 0 q
   set-up past q name strict ports has =
       let count : length past.ports ≡ length s.ports = ap (λ ps. length ps) ports ∙ length-setups_from 0 s.ports in
       let members : (port_setup q past).peers ≡ setting.members (setting.net 0 q) =
@@ -133,8 +131,10 @@ module _ {s : ServeWords} {setting : Setting} {tick : ℕ} {wall : ℤ} (is : Is
 
   -- one step more, by a row that keeps what is known of each port
   one-step : (n t x : ℕ) (past : NodePast) (cause : Cause) (row : NodeRow) → Ran s setting n t past → t ≤ x → n ≤ 1000000001 →
-      (AllPorts (λ r. Fresh) x (in_node_step (step_of cause x) x past) → AllPorts (λ r. Ended) x (spread x (in_node_step (step_of cause x) x past) (row x (in_node_step (step_of cause x) x past)))) →
-      StepOk (length past.ports) (room past.ports) setting (step_of cause x) x past.lines (up (dids past.lines)) (row x (in_node_step (step_of cause x) x past)) →
+      (AllPorts (λ r. Fresh) x (in_node_step (step_of cause x) x past) → AllPorts (λ r. Ended) x (spread x (in_node_step (step_of cause x) x past)
+      (row x (in_node_step (step_of cause x) x past)))) →
+      StepOk (length past.ports) (room past.ports) setting (step_of cause x) x past.lines (did_in (step_of cause x) x Begins ∷
+      dids past.lines) (row x (in_node_step (step_of cause x) x past)) →
       Ran s setting (n + 1) x (spread x (in_node_step (step_of cause x) x past) (row x (in_node_step (step_of cause x) x past)))
   one-step n t x past cause row r later turns leads ok =
       let step : Step = step_of cause x in
@@ -146,21 +146,27 @@ module _ {s : ServeWords} {setting : Setting} {tick : ℕ} {wall : ℤ} (is : Is
       let own_h : of 0 h ≡ h = of-own h r.own in
       let rested : AllPorts (λ r. Ended) x past = λ q has. ended_later t x (on_port q past) later (r.rests q has) in
       let after : AllPorts (λ r. Ended) x (spread x mid acts) =
-      leads (begins_all step x x past (omega arith) (λ q has. ap (λ (ps : List PortSetup). (slice_index_or ps q.0 no_port).own.0) r.ports ∙ own-setups 0 s.ports q.0) rested) in
+      leads (begins_all step x x past (omega arith) (λ q has. ap (λ (ps : List PortSetup). (slice_index_or ps q.0 no_port).own.0) r.ports ∙
+      own-setups 0 s.ports q.0) rested) in
       let few = r.posts in
       let most = ok.few in
       let room_few = room-small past r.ports in
       let before = r.time in
-      let line = mark_line ports setting step x h (tick-is x) (subst (λ ls. AreOn ports ls) (sym own_h) r.on) (omega (arith, before, later)) (omega (arith, few, turns)) (λ q has. subst (λ ls. StepEnds (setup_of setting 0 q) (view q ls)) (sym own_h) (subst (λ k. StepEnds k (view q h)) (set-up past q r.name r.strict r.ports has) (ends_of (rested q has)))) in
+      let line = mark_line ports setting step x h (tick-is x) (subst (λ ls. AreOn ports ls) (sym own_h) r.on) (omega (arith, before, later)) (omega (
+        arith,
+        few,
+        turns,
+      )) (λ q has. subst (λ ls. StepEnds (setup_of setting 0 q) (view q ls)) (sym own_h)
+      (subst (λ k. StepEnds k (view q h)) (set-up past q r.name r.strict r.ports has) (ends_of (rested q has)))) in
       let all_own : AreOwn (joined step x acts (mark ∷ h)) = joined-own step x acts (mark ∷ h) refl (refl, r.own) in
-      let up_is : up (dids (of 0 (mark ∷ h))) ≡ up (dids h) = ap (λ ls. up (dids ls)) (of-own (mark ∷ h) (refl, r.own)) in
+      let own_is : dids (of 0 (mark ∷ h)) ≡ mark.did ∷ dids h = ap dids (of-own (mark ∷ h) (refl, r.own)) in
       let more = joined-posts step x acts (mark ∷ h) in
       record {
         name = r.name;
         strict = r.strict;
         ports = r.ports;
         fits = acts_fit ports setting step x h acts first_port Begins h (tick-is x) ok.on (inr (Within-all h)) (omega (arith, few, turns, most, room_few, more))
-            (subst (λ b. AllAlive setting step x b acts) (sym up_is) ok.alive) ok.taken
+            (subst (λ ds. AllAlive setting step x ds acts) (sym own_is) ok.alive) ok.taken
             (λ q has. subst (λ ls. PortFits (setup_of setting 0 q) (view q ls)) (sym (of-own (joined step x acts (mark ∷ h)) all_own))
             (subst (λ k. PortFits k (view q (joined step x acts (mark ∷ h)))) (set-up past q r.name r.strict r.ports has) (after q has).0.fits))
             (line, r.fits);
@@ -195,29 +201,31 @@ module _ {s : ServeWords} {setting : Setting} {tick : ℕ} {wall : ℤ} (is : Is
         posts = omega arith;
       } in (
         one-step 0 0 tick base (Booted word wall) boots_all none (omega arith) (omega arith) (λ fresh. boots_all_lead.run tick mid fresh)
-            (boot_ok setting (step_of (Booted word wall) tick) tick [] false mid word (four base refl) (ap (λ w. Booted word w) (sym set.wall_is))),
+            (boot_ok setting (step_of (Booted word wall) tick) tick [] (did_in (step_of (Booted word wall) tick) tick Begins ∷
+            []) mid word (four base refl) (ap (λ w. Booted word w) (sym set.wall_is))),
         boots-up tick mid,
       )
 
-  up-after : (x : ℕ) (cause : Cause) (past : NodePast) (acts : List Placed) → up (dids past.lines) ≡ true → up (dids (spread x (in_node_step (step_of cause x) x past) acts).lines) ≡ true
+  up-after : (x : ℕ) (cause : Cause) (past : NodePast) (acts : List Placed) → up (dids past.lines) ≡ true →
+      up (dids (spread x (in_node_step (step_of cause x) x past) acts).lines) ≡ true
   up-after x cause past acts is_up = up_joined (step_of cause x) x acts (line_of (step_of cause x) x first_port Begins ∷ past.lines) is_up
 
   -- a turn
   one-turn : (n t x : ℕ) (past : NodePast) (g : NodeGiven) → Ran s setting n t past × (up (dids past.lines) ≡ true) → t ≤ x → n ≤ 1000000001 → GivenOn g past →
-      Ran s setting (n + 1) x (spread x (turn_begun g x past) (answers_all g x (turn_begun g x past))) × (up (dids (spread x (turn_begun g x past) (answers_all g x (turn_begun g x past))).lines) ≡ true)
+      Ran s setting (n + 1) x (spread x (turn_begun g x past) (answers_all g x (turn_begun g x past))) ×
+      (up (dids (spread x (turn_begun g x past) (answers_all g x (turn_begun g x past))).lines) ≡ true)
   one-turn n t x past NodeTurn r later turns given =
       let mid : NodePast = turn_begun NodeTurn x past in
-      let ok = turn_ok setting (step_of Turned x) x past.lines mid (four past r.0.ports) in (
-        one-step n t x past Turned (answers_all NodeTurn) r.0 later turns (λ fresh. (answers_all_lead NodeTurn).run x mid (tt, fresh))
-            (subst (λ b. StepOk (length past.ports) (room past.ports) setting (step_of Turned x) x past.lines b (answers_all NodeTurn x mid)) (sym r.1) ok),
+      let ok = turn_ok setting (step_of Turned x) x past.lines (did_in (step_of Turned x) x Begins ∷ dids past.lines) mid (four past r.0.ports) r.1 in (
+        one-step n t x past Turned (answers_all NodeTurn) r.0 later turns (λ fresh. (answers_all_lead NodeTurn).run x mid (tt, fresh)) ok,
         up-after x Turned past (answers_all NodeTurn x mid) r.1,
       )
   one-turn n t x past (GotOn q from taken) r later turns given =
       let g : NodeGiven = GotOn q from taken in
       let mid : NodePast = turn_begun g x past in
-      let ok = got_ok setting (step_of (turn_cause g) x) x past.lines mid q from taken (four past r.0.ports) given tt in (
-        one-step n t x past (turn_cause g) (answers_all g) r.0 later turns (λ fresh. (answers_all_lead g).run x mid (given, fresh))
-            (subst (λ b. StepOk (length past.ports) (room past.ports) setting (step_of (turn_cause g) x) x past.lines b (answers_all g x mid)) (sym r.1) ok),
+      let ok = got_ok setting (step_of (turn_cause g) x) x past.lines (did_in (step_of (turn_cause g) x) x Begins ∷ dids past.lines) mid q from taken
+      (four past r.0.ports) given r.1 tt in (
+        one-step n t x past (turn_cause g) (answers_all g) r.0 later turns (λ fresh. (answers_all_lead g).run x mid (given, fresh)) ok,
         up-after x (turn_cause g) past (answers_all g x mid) r.1,
       )
 
@@ -226,27 +234,32 @@ given-on past None some = tt
 given-on past (Some (from, octets)) some = given-below past.ports from some
 
 -- all turns of a daemon
-turns-ran : (s : ServeWords) (o : Outside) (wall : ℤ) (word : ℕ) (written : List ℕ) (setting : Setting) → IsServe s → SetByWords s (read_once o).last wall setting → (i : ℕ) → i ≤ s.turns → Rises i (first_session s o wall word written) →
+turns-ran : (s : ServeWords) (o : Outside) (wall : ℤ) (word : ℕ) (written : List ℕ) (setting : Setting) → IsServe s →
+    SetByWords s (read_once o).last wall setting → (i : ℕ) → i ≤ s.turns → Rises i (first_session s o wall word written) →
     let now = after_turns i (first_session s o wall word written) in Ran s setting (i + 1) now.outside.last now.past × (up (dids now.past.lines) ≡ true)
 turns-ran s o wall word written setting is set zero few rises = boots is set word
 turns-ran s o wall word written setting is set (suc i) few rises =
     let now = after_turns i (first_session s o wall word written) in
     let r = turns-ran s o wall word written setting is set i (omega (arith, few)) rises.0 in
     let most = is.few in
-    let one = one-turn is set (i + 1) now.outside.last (turn_tick now) now.past (given_in now) r rises.1 (omega (arith, few, most)) (given-on now.past (next_arrival now.outside.arrivals) (some_port is set now.past r.0.ports)) in
+    let one = one-turn is set (i + 1) now.outside.last (turn_tick now) now.past (given_in now) r rises.1 (omega (arith, few, most))
+    (given-on now.past (next_arrival now.outside.arrivals) (some_port is set now.past r.0.ports)) in
     let same : i + 1 + 1 ≡ suc i + 1 = omega arith in
     (subst (λ n. Ran s setting n (turn_tick now) (after_turns (suc i) (first_session s o wall word written)).past) same one.0, one.1)
 
-finished : (s : ServeWords) (setting : Setting) (tick : ℕ) (wall : ℤ) (n t : ℕ) (past : NodePast) → IsServe s → SetByWords s tick wall setting → Ran s setting n t past → Finished setting past.lines
+finished : (s : ServeWords) (setting : Setting) (tick : ℕ) (wall : ℤ) (n t : ℕ) (past : NodePast) → IsServe s → SetByWords s tick wall setting →
+    Ran s setting n t past → Finished setting past.lines
 finished s setting tick wall n t past is set r zero q =
     let own = of-own past.lines r.own in
     all_end (setup_of setting 0 q) (length past.ports) q (of 0 past.lines) (subst (λ ls. AreOn (length past.ports) ls) (sym own) r.on)
-    (λ has. subst (λ ls. StepEnds (setup_of setting 0 q) (view q ls)) (sym own) (subst (λ k. StepEnds k (view q past.lines)) (set-up is set past q r.name r.strict r.ports has) (ends_of (r.rests q has))))
+    (λ has. subst (λ ls. StepEnds (setup_of setting 0 q) (view q ls)) (sym own) (subst (λ k. StepEnds k (view q past.lines))
+    (set-up is set past q r.name r.strict r.ports has) (ends_of (r.rests q has))))
 finished s setting tick wall n t past is set r (suc m) q =
     subst (λ ls. StepEnds (setup_of setting (suc m) q) (view q ls)) (sym (of-other m past.lines r.own)) (nothing-ends (setup_of setting (suc m) q))
 
 -- so it keeps what is promised
-pub session_kept : (s : ServeWords) (o : Outside) (wall : ℤ) (word : ℕ) (written : List ℕ) → IsServe s → (setting : Setting) → SetByWords s (read_once o).last wall setting → (i : ℕ) → i ≤ s.turns → Rises i (first_session s o wall word written) →
+pub session_kept : (s : ServeWords) (o : Outside) (wall : ℤ) (word : ℕ) (written : List ℕ) → IsServe s → (setting : Setting) →
+    SetByWords s (read_once o).last wall setting → (i : ℕ) → i ≤ s.turns → Rises i (first_session s o wall word written) →
     HistoryKept setting (after_turns i (first_session s o wall word written)).past.lines
 session_kept s o wall word written is setting set i few rises =
     let now = after_turns i (first_session s o wall word written) in
@@ -260,4 +273,5 @@ session_kept s o wall word written is setting set i few rises =
       safe = safe setting lines fits ends;
       dates = Everywhere-from (SetsAt setting) lines (λ l older w. sets_at setting l older (fits_at setting (l ∷ older) lines fits w));
       hops = (looped_in setting lines fits).hops;
+      looked = looked setting lines fits;
     }

@@ -67,13 +67,18 @@ module _ (strange : Bool) where
   unfolding on
   known-on q row k = record { run = λ x past. known-placed q (row x (on_port q past)) (k x (on_port q past)) }
 
-  known-stirring : (q : Port) (ports : List Port) (row : Row) → ((x : ℕ) (past : Past) → All (IsKnown strange) (row x past)) → Known strange (stirring q ports row)
+  known-stirring : (q : Port) (ports : List Port) (row : Row) → ((x : ℕ) (past : Past) → All (IsKnown strange) (row x past)) →
+      Known strange (stirring q ports row)
   unfolding stirring
   known-stirring q ports row k = record {
     run = λ x past.
         let acts = on q row x past in
         let after = for_ports abandons_on ports x (spread x past acts) in
-        let more = elim (corrects (row x (on_port q past))) as (λ b. AreKnown strange (if b then after else [])) [ true ↦ (known-ports abandons_on known-abandons ports).run x (spread x past acts) | false ↦ known-none ] in
+        let more = elim (corrects (row x (on_port q past))) as (λ b. AreKnown strange (if b then after else [])) [
+          | true ↦
+              (known-ports abandons_on known-abandons ports).run x (spread x past acts)
+          | false ↦ known-none
+        ] in
         known-append acts _ ((known-on q row k).run x past) more;
   }
 
@@ -81,7 +86,13 @@ module _ (strange : Bool) where
   calm-known k c row p x past = known_calm strange true (row x past) (p.calm x past)
 
   known-where : (test : NodePast → Bool) (row : NodeRow) → Known strange row → Known strange (λ x past. if test past then row x past else [])
-  known-where test row k = record { run = λ x past. elim (test past) as (λ b. AreKnown strange (if b then row x past else [])) [ true ↦ k.run x past | false ↦ known-none ] }
+  known-where test row k = record {
+    run = λ x past. elim (test past) as (λ b. AreKnown strange (if b then row x past else [])) [
+      | true ↦ k.run x past
+      | false ↦
+          known-none
+    ];
+  }
 
   -- a row over ports posts to known ones, since the rows of its ports do
   known-built : {has : Port → Type 0} {k c : ℕ} {row : NodeRow} → ((q : Port) → has q) → BuiltAll (answers_owed strange) has k c row → Known strange row
@@ -90,8 +101,14 @@ module _ (strange : Bool) where
   known-built all (ThenAll d e) = known-then _ _ (known-built all d) (known-built all e)
   known-built all (ReadingAll known fact holds d) = record { run = λ x past. (known-built all (d (fact x past) (holds x past))).run x past }
   known-built all (WhereAll {row = row} test d) = known-where test row (known-built all d)
-  known-built all (ForPorts {ports = ports} {row = row} l d) = record { run = λ x past. (known-ports row (λ q. known-built all (d q (all q))) (ports past)).run x past }
-  known-built all (StirringAll {ports = ports} {row = row} q is l d) = record { run = λ x past. (known-stirring q (ports past) row (calm-known _ _ row (calm_moving d))).run x past }
+  known-built all (ForPorts {ports = ports} {row = row} l d) = record {
+    run = λ x past. (known-ports row (λ q. known-built all (d q (all q))) (ports past)).run
+        x past;
+  }
+  known-built all (StirringAll {ports = ports} {row = row} q is l d) = record {
+    run = λ x past.
+        (known-stirring q (ports past) row (calm-known _ _ row (calm_moving d))).run x past;
+  }
   known-built all (MoreAll d le) = known-built all d
 
   known-step : (step : LoopStep) → OwesStep (answers_owed strange) step
@@ -104,18 +121,24 @@ module _ (strange : Bool) where
 
   known-loop : (q : Port) (from : Place) (m : MessageValue) → Known strange (takes_loop q from m)
   unfolding takes_loop
-  known-loop q from m = known-then (on q (puts (Took from (Good (Message m))))) _ (known-on q _ (known-took from (Good (Message m)))) (known-built {has = AnyPort} (λ r. tt) (built_heeds q from m tt (λ own ports. known-step (judge own ports q m))))
+  known-loop q from m = known-then (on q (puts (Took from (Good (Message m))))) _ (known-on q _ (known-took from (Good (Message m))))
+      (known-built {has = AnyPort} (λ r. tt) (built_heeds q from m tt (λ own ports. known-step (judge own ports q m))))
 
 -- what is taken
 known-takes : (steer charge : Bool) (from : Place) (t : Taken) (x : ℕ) (past : Past) → All (IsKnown (is_stranger from)) (takes steer charge from t x past)
 unfolding takes
 known-takes steer charge from t x past = by_first ((taking from t 2 5 (handles steer charge from t) (calm_handles steer charge from t)).run x past) where
-  by_first : TakesFirst true from t (2 * length past.peers + 5) (takes steer charge from t x past) → All (IsKnown (is_stranger from)) (takes steer charge from t x past)
-  by_first f = subst (λ acts. All (IsKnown (is_stranger from)) acts) (sym f.is) (All-cons (IsKnown (is_stranger from)) (Took from t) f.after tt (known_calm (is_stranger from) true f.after f.calm))
+  by_first : TakesFirst true from t (2 * length past.peers + 5) (takes steer charge from t x past) →
+      All (IsKnown (is_stranger from)) (takes steer charge from t x past)
+  by_first f = subst (λ acts. All (IsKnown (is_stranger from)) acts) (sym f.is) (All-cons (IsKnown (is_stranger from)) (Took from t) f.after tt
+      (known_calm (is_stranger from) true f.after f.calm))
 
 known-message : (q : Port) (from : Place) (m : MessageValue) → Known (is_stranger from) (takes_message q from m)
 unfolding takes_message
-known-message q from m = record { run = λ x past. (known-stirring (is_stranger from) q (stirred_ports q m.kind past) (takes (steers q x past) (in_charge q x past) from (Good (Message m))) (known-takes _ _ from (Good (Message m)))).run x past }
+known-message q from m = record {
+  run = λ x past. (known-stirring (is_stranger from) q (stirred_ports q m.kind past)
+      (takes (steers q x past) (in_charge q x past) from (Good (Message m))) (known-takes _ _ from (Good (Message m)))).run x past;
+}
 
 known-kind : (q : Port) (from : Place) (m : MessageValue) (k : Kind) → Known (is_stranger from) (takes_kind q from m k)
 unfolding takes_kind
@@ -136,4 +159,5 @@ known-input (GotOn q from t) = known-taken q from t
 -- a step answers a stranger, or posts to none
 pub known_steps : (g : NodeGiven) (x : ℕ) (past : NodePast) → AreKnown (is_strange_on g) (answers_all g x past)
 unfolding answers_all
-known_steps g = (known-then (is_strange_on g) (reading_all all_ports (for_ports turns_on)) (input_all g) (known-built (is_strange_on g) {has = AnyPort} (λ q. tt) (built_all_turns (λ q is. tt))) (known-input g)).run
+known_steps g = (known-then (is_strange_on g) (reading_all all_ports (for_ports turns_on)) (input_all g)
+    (known-built (is_strange_on g) {has = AnyPort} (λ q. tt) (built_all_turns (λ q is. tt))) (known-input g)).run

@@ -23,6 +23,10 @@ le_self n = omega arith
 pub le_is : (n now : ℕ) → now ≡ n → n ≤ now
 le_is n now is = omega (arith, is)
 
+-- a number that isn't above one isn't above the same one
+pub le_same : (n before now : ℕ) → n ≤ before → now ≡ before → n ≤ now
+le_same n before now le is = omega (arith, le, is)
+
 -- the last reading doesn't fall where the counter is read
 pub last_on : (last tick now : ℕ) → last ≤ tick → now ≡ tick → last ≤ now
 last_on last tick now low is = omega (arith, low, is)

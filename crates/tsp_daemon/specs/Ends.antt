@@ -3,12 +3,12 @@ use Rattle.std.specs.Prelude.{◌≡◌, ◌⊎◌, ℕ, ◌+◌, ◌<◌, ◌�
 use Rattle.std.specs.Option.{option_map}
 use Rattle.tsp_codec.specs.Taken.{taken_of}
 use Rattle.tsp_gateway.specs.{GatewayStands.GatewayStands, declared.gateway.Gateway.Gateway}
-use Rattle.tsp_io.specs.{Links.Arrival, Links.Tried, Streams.Grows, declared.link.Link.Ghosts as LinkOf, declared.link.Recv.Recv}
+use Rattle.tsp_io.specs.{Boards.Mark, Links.Arrival, Links.Tried, Streams.Grows, declared.link.Link.Ghosts as LinkOf, declared.link.Recv.Recv}
 use Rattle.tsp_io.specs.declared.link.Recv.TheVariants.{Datagram}
-use Rattle.tsp_query.specs.Ends.{Outside, KnowsExactly}
+use Rattle.tsp_query.specs.{Ends.Outside, Ends.KnowsExactly, Outside.Paged}
 use Rattle.tsp_rules.specs.{GateRows.NodeGiven, GateRows.NodeTurn, GateRows.GotOn, NodeRows.NodePast, NodeRows.PortSetup}
 use Rattle.tsp_daemon.specs.declared.end.ServeEnd.TheVariants.{Done, LinkFault, WriteFault, OutOfMemory}
-use Rattle.tsp_daemon.specs.{Posts.sends_of, Waits.NotesWaits, declared.counters.Counters.Counters, declared.end.ServeEnd.ServeEnd}
+use Rattle.tsp_daemon.specs.{Pages.MarksIfTold, Posts.sends_of, Waits.NotesWaits, declared.counters.Counters.Counters, declared.end.ServeEnd.ServeEnd}
 use Rattle.tsp_daemon.specs.Sessions.{Session, port_from, acts_in_turn, shown_by_turn, turned, after_turns, unheard, waited, Rises}
 
 -- what a node with these ports is given by the answer of a receive
@@ -52,7 +52,8 @@ TellsUntil text written now OutOfMemory = CutsShort text written now
 
 -- how far it came if sends, and after them the writing of a text, end so
 abbrev pub FinishesUntil : List Tried → List ℕ → Option (List Tried) → Option (List Tried) → Option (List ℕ) → Option (List ℕ) → ServeEnd → Type 0
-FinishesUntil sends text tried more written now OutOfMemory = (TriesSome sends tried more × (now ≡ written)) ⊎ (TriesAll sends tried more × CutsShort text written now)
+FinishesUntil sends text tried more written now OutOfMemory = (TriesSome sends tried more × (now ≡ written)) ⊎
+    (TriesAll sends tried more × CutsShort text written now)
 FinishesUntil sends text tried more written now end = TriesAll sends tried more × TellsUntil text written now end
 
 -- the node stands for some past: it is in the state that this past gives
@@ -61,7 +62,8 @@ pub record Lives (node : Gateway) : Type 0 where
   pub stands : GatewayStands past node
 
 -- the node, its counts, and what the link, the ticker and the sink hold are those of this session
-pub record IsAt (s : Session) (node : Gateway) (counters : Counters) (arrivals : Option (List Arrival)) (tried : Option (List Tried)) (calls : Option ℕ) (readings : Option (List ℕ)) (last : ℕ) (written : Option (List ℕ)) : Type 0 where
+pub record IsAt (s : Session) (node : Gateway) (counters : Counters) (arrivals : Option (List Arrival)) (tried : Option (List Tried)) (calls : Option ℕ)
+    (readings : Option (List ℕ)) (last : ℕ) (written : Option (List ℕ)) : Type 0 where
   pub stands : GatewayStands s.past node
   pub turns_is : counters.turns ≡ s.turns
   pub posts_is : counters.posts ≡ s.posts
@@ -76,11 +78,14 @@ tried_some part s = record (waited s.outside) { tried = s.outside.tried ++ part 
 -- places: before the turn did anything; at a send, after those before it were tried; or within a line
 abbrev pub EndsTurn : Session → Option (List Arrival) → Option (List Tried) → Option ℕ → Option (List ℕ) → ℕ → Option (List ℕ) → ServeEnd → Type 0
 EndsTurn s arrivals tried calls readings last written Done = ⊥
-EndsTurn s arrivals tried calls readings last written LinkFault = KnowsExactly (unheard s.outside) arrivals tried calls readings last × (written ≡ Some s.written)
-EndsTurn s arrivals tried calls readings last written WriteFault = KnowsExactly (turned s).outside arrivals tried calls readings last × CutsShort (shown_by_turn s) (Some s.written) written
+EndsTurn s arrivals tried calls readings last written LinkFault = KnowsExactly (unheard s.outside) arrivals tried calls readings last ×
+    (written ≡ Some s.written)
+EndsTurn s arrivals tried calls readings last written WriteFault = KnowsExactly (turned s).outside arrivals tried calls readings last ×
+    CutsShort (shown_by_turn s) (Some s.written) written
 EndsTurn s arrivals tried calls readings last written OutOfMemory =
     (KnowsExactly s.outside arrivals tried calls readings last × (written ≡ Some s.written))
-    ⊎ ((part : List Tried) × (rest : List Tried) × (0 < length rest) × (sends_of (acts_in_turn s) ≡ part ++ rest) × KnowsExactly (tried_some part s) arrivals tried calls readings last × (written ≡ Some s.written))
+    ⊎ ((part : List Tried) × (rest : List Tried) × (0 < length rest) × (sends_of (acts_in_turn s) ≡ part ++ rest) ×
+    KnowsExactly (tried_some part s) arrivals tried calls readings last × (written ≡ Some s.written))
     ⊎ (KnowsExactly (turned s).outside arrivals tried calls readings last × CutsShort (shown_by_turn s) (Some s.written) written)
 
 -- how many receives a session makes that ends so after i turns: one for each turn, and one for the turn that ended it,
@@ -92,11 +97,14 @@ IsReceived i received end = received ≡ i + 1
 
 -- a session of so many turns ends so after i of them: all were taken, or the next one ended it
 abbrev pub ServesUntil : ℕ → ℕ → Session → Option (List Arrival) → Option (List Tried) → Option ℕ → Option (List ℕ) → ℕ → Option (List ℕ) → ServeEnd → Type 0
-ServesUntil turns i s arrivals tried calls readings last written Done = (i ≡ turns) × KnowsExactly (after_turns i s).outside arrivals tried calls readings last × (written ≡ Some (after_turns i s).written)
+ServesUntil turns i s arrivals tried calls readings last written Done = (i ≡ turns) ×
+    KnowsExactly (after_turns i s).outside arrivals tried calls readings last × (written ≡ Some (after_turns i s).written)
 ServesUntil turns i s arrivals tried calls readings last written end = (i < turns) × EndsTurn (after_turns i s) arrivals tried calls readings last written end
 
--- after how many turns a session of so many ends, and how; the ticks of its steps never fell; and how many receives it
--- made, each of which waited as long as its turn says
-abbrev pub Serves : ℕ → Session → Option (List Arrival) → Option (List Tried) → Option ℕ → Option (List ℕ) → ℕ → Option (List ℕ) → Option (List ℕ) → Option (List ℕ) → ServeEnd → Type 0
-Serves turns s arrivals tried calls readings last written waits waits_now end =
-    (i : ℕ) × (received : ℕ) × ServesUntil turns i s arrivals tried calls readings last written end × Rises i s × IsReceived i received end × NotesWaits s received waits waits_now
+-- after how many turns a session of so many ends, and how; the ticks of its steps never fell; how many receives it made, each of which waited
+-- as long as its turn says; and what it wrote on its page
+abbrev pub Serves : ℕ → Session → Option (List Arrival) → Option (List Tried) → Option ℕ → Option (List ℕ) → ℕ → Option (List ℕ) → Option (List ℕ) →
+    Option (List ℕ) → Paged → Option (List Mark) → ServeEnd → Type 0
+Serves turns s arrivals tried calls readings last written waits waits_now paged marks end =
+    (i : ℕ) × (received : ℕ) × ServesUntil turns i s arrivals tried calls readings last written end × Rises i s × IsReceived i received end ×
+    NotesWaits s received waits waits_now × MarksIfTold paged s i calls marks end

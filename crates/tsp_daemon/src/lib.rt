@@ -5,7 +5,8 @@
 //! binds the link, reads the clocks, boots the node, and hands it to [`serve::serve`], which takes
 //! turns. A *turn* waits for a datagram, for 1 ms to 1 s at most, lets the node do one step with what
 //! came, tries the sends that it asks for, and, if the trace is on, writes the lines of the step's
-//! acts. A *tick* is a reading of the machine's monotonic clock, in microseconds.
+//! acts. A *tick* is a reading of the machine's monotonic clock, in microseconds. If its ticker has a
+//! board, the daemon writes its half of the page there, which programs read (`tsp_page`).
 //!
 //! `specs/Sessions.antt` defines a *session*, the turns of a daemon, by the rules of the node, and
 //! `specs/Serving.antt` what comes before it, and when none begins. Contracts speak of a link, a
@@ -22,6 +23,13 @@
 //! - Each fault has its cause (`link`, `write`).
 //! - Each receive waits until the node is due, for at least a thousandth of a second and at most one, and
 //!   there was one in each turn (`serves` of `serve`, `wait_until`).
+//! - What it writes on its page, with which octets: at its beginning, in each turn that corrects the clock
+//!   or changes a role, and after a second in which it wrote nothing. That comes before the turn's sends: a
+//!   session that is cut off at one of them has written it (`serves` of `serve`, by `MarksIfTold`).
+//! - The fields of the page are those of the node's past: the tick of the last correction, target and rest
+//!   right after it, what the node is and whom it follows; how far the target moved since the beginning, by
+//!   slews and steps; how many steps there were; and the least that may be shown, what the page before
+//!   shows at a moment of the counter that isn't before the turn's step (`half_after`).
 //! - What its node does in these turns keeps all that is promised without premises (`kept`, by
 //!   `HistoryKept`), and there is a setting (networks, rates, wall clocks) of which this speaks
 //!   (`each_daemon_is_set`).
@@ -39,15 +47,20 @@
 //! # What is neither proved nor tested
 //!
 //! - That each line is one write.
+//! - That the moment is read after the sequence was made odd, and that a page's sequence is even at rest.
 #![tactic(auto)]
 
+mod changes;
 pub mod command;
 mod counters;
 pub mod end;
 pub mod exit;
+mod half;
 pub mod laws;
 mod lines;
 mod node;
+mod page;
+mod room;
 mod sends;
 pub mod serve;
 mod step;

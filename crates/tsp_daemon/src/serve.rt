@@ -3,15 +3,18 @@ ghost use Rattle.std.specs.Prelude.{◌≡◌, ◌≤◌, ◌<◌, ◌*◌, ◌^
 ghost use Rattle.tsp_gateway.specs.GatewayStands.{clock_at};
 ghost use Rattle.tsp_gateway.specs.Rooms.{ports_in, room_of_ports};
 ghost use Rattle.tsp_query.specs.Faults.{Counts};
+ghost use Rattle.tsp_query.specs.Outside.{paged};
 ghost use Rattle.tsp_query.specs.Told.{HoldsOf, KeepsOn};
 ghost use Rattle.tsp_daemon.specs.Ends.{IsAt, Lives, Serves};
+ghost use Rattle.tsp_daemon.specs.Pages.{KeepsBoard};
 ghost use Rattle.tsp_daemon.specs.Sessions.{Session};
 
 use crate::counters::Counters;
 use crate::end::ServeEnd;
+use crate::page::begin;
+use crate::room::Room;
 use crate::turn::turn;
 use std::alloc::Global;
-use tsp_base::pad::Pad;
 use tsp_gateway::Gateway;
 use tsp_io::link::Link;
 use tsp_io::sink::Sink;
@@ -28,6 +31,12 @@ use tsp_io::ticker::Ticker;
 /// 0 over all turns. So they reach the sink before the next receive. There is one receive for each
 /// turn, and one for the turn that ends the session, unless that ran out of memory before its
 /// receive.
+///
+/// If the ticker has a board, and knows from where its ticks are counted, the daemon's half of the page
+/// (`tsp_page`) is written there: at the beginning; in each turn whose step corrects the clock or changes
+/// a role, before that turn's sends are tried; and in a turn that comes a second or more after the last
+/// of these writes, to say that the daemon is alive. Each is three writes: the sequence, odd; the fields;
+/// the sequence, even. `specs/Pages.antt` says what the fields are. Without a board nothing else differs.
 ///
 /// `LinkFault` comes only if a receive failed, and the link's count of faults rose; `WriteFault`
 /// only if a write failed, and the sink's count rose. The node must stand for a past, as each does
@@ -48,25 +57,27 @@ pub fn serve<K: Sink, L: Link, T: Ticker>(
         → HoldsOf L.Link T.Ticker (IsAt s gateway (record { turns = 0; posts = 0 })) link.old
         ticker.old (K.written sink.old)
         → HoldsOf L.Link T.Ticker (Serves turns s) link.new ticker.new (K.written sink.new)
-        (L.waits link.old) (L.waits link.new) result }
+        (L.waits link.old) (L.waits link.new) (paged T.Ticker ticker.old) (T.marks ticker.new)
+        result }
     ensures keeps { KeepsOn L.Link T.Ticker link.old ticker.old link.new ticker.new }
+    ensures board { KeepsBoard T.Ticker ticker.old ticker.new }
     ensures link { Counts (L.faults link.old) (L.faults link.new) (result ≡ ServeEnd.LinkFault) }
     ensures write { Counts (K.faults sink.old) (K.faults sink.new)
         (result ≡ ServeEnd.WriteFault) }
     ensures sends { L.send_faults link.old ≤ L.send_faults link.new }
 {
-    let mut pad = Pad::new(alloc);
+    let mut room = Room::new(alloc);
     let mut counters = Counters { turns: 0, posts: 0 };
-    let mut buf = [0; 512];
+    let mut page = begin(&gateway, ticker);
     for _ in 0..turns {
         if let Err(end) = turn(
             &mut gateway,
-            &mut pad,
+            &mut room,
             &mut counters,
+            &mut page,
             sink,
             link,
             ticker,
-            &mut buf,
         ) {
             return end;
         }

@@ -1,11 +1,13 @@
 //! A turn of the daemon.
-ghost use Rattle.std.specs.Prelude.{◌≡◌, ◌≤◌, ◌<◌, ◌+◌, ◌^◌, length, IfErr, MatchResult, OnOk, Err};
+ghost use Rattle.std.specs.Prelude.{◌≡◌, ℕ, ◌≤◌, ◌<◌, ◌+◌, ◌^◌, length, IfErr, MatchResult, OnOk, Err};
+ghost use Rattle.std.specs.Prelude.{Some};
 ghost use Rattle.tsp_io.specs.Streams.{Grows};
 ghost use Rattle.tsp_gateway.specs.GatewayStands.{clock_at};
 ghost use Rattle.tsp_gateway.specs.Rooms.{ports_in, room_of_ports};
 ghost use Rattle.tsp_query.specs.Faults.{Counts};
 ghost use Rattle.tsp_query.specs.Told.{HoldsOf, KeepsOn};
 ghost use Rattle.tsp_daemon.specs.Ends.{IsAt, Lives, EndsTurn, FinishesUntil, OnlySends, TriesAll};
+ghost use Rattle.tsp_daemon.specs.Pages.{EndsMarks, KeepsBoard, NotesMarks, marks_in_turn, page_in_turn};
 ghost use Rattle.tsp_daemon.specs.Posts.{AreKnown, sends_of, shown_lines};
 ghost use Rattle.tsp_daemon.specs.Sessions.{Session, turned};
 ghost use Rattle.tsp_daemon.specs.Waits.{NotesTurn, NotesWait};
@@ -13,11 +15,12 @@ ghost use Rattle.tsp_daemon.specs.Waits.{NotesTurn, NotesWait};
 use crate::counters::Counters;
 use crate::end::ServeEnd;
 use crate::lines::{is_shown, tell};
+use crate::page::{Page, show};
+use crate::room::Room;
 use crate::sends::{posts_in, send_all};
 use crate::step::{make_room, step};
 use crate::wait::wait_until;
 use tsp_base::act::Placed;
-use tsp_base::pad::Pad;
 use tsp_gateway::Gateway;
 use tsp_io::link::{Link, Recv};
 use tsp_io::sink::Sink;
@@ -55,17 +58,17 @@ fn finish<K: Sink, L: Link>(
     Ok(())
 }
 
-/// A turn: reads the tick, waits for a datagram, reads the tick again, and lets the node step; then
-/// tries its sends, and writes the lines of a traced step. Fails if the receive or a write fails,
-/// or if out of memory: that ends the session. The buffer is for the datagram: what it held is lost.
+/// A turn: reads the tick, waits for a datagram, reads the tick again, and lets the node step; writes
+/// on the page what that changes; then tries its sends, and writes the lines of a traced step. Fails if
+/// the receive or a write fails, or if out of memory: that ends the session. What the room held is lost.
 pub(crate) fn turn<K: Sink, L: Link, T: Ticker>(
     node: &mut Gateway,
-    pad: &mut Pad,
+    room: &mut Room,
     counters: &mut Counters,
+    page: &mut Option<Page>,
     sink: &mut K,
     link: &mut L,
     ticker: &mut T,
-    buf: &mut [u8; 512],
 ) -> Result<(), ServeEnd>
     requires lives { Lives node.old }
     requires later { clock_at node.old ≤ T.last ticker.old }
@@ -82,7 +85,14 @@ pub(crate) fn turn<K: Sink, L: Link, T: Ticker>(
         (K.written sink.old)
         → MatchResult result (λ _. NotesWait s (L.waits link.old) (L.waits link.new))
         (NotesTurn s (L.waits link.old) (L.waits link.new)) }
+    ensures marks { (s : Session) (delay : ℕ)
+        → HoldsOf L.Link T.Ticker (IsAt s node.old counters.old) link.old ticker.old
+        (K.written sink.old) → T.delay_is ticker.old ≡ Some delay
+        → MatchResult result (λ _. (page.new ≡ page_in_turn delay s page.old)
+        × NotesMarks (marks_in_turn delay s page.old) (T.marks ticker.old) (T.marks ticker.new))
+        (EndsMarks delay s page.old (L.calls link.new) (T.marks ticker.old) (T.marks ticker.new)) }
     ensures keeps { KeepsOn L.Link T.Ticker link.old ticker.old link.new ticker.new }
+    ensures board { KeepsBoard T.Ticker ticker.old ticker.new }
     ensures lives { OnOk result (Lives node.new) }
     ensures clock { OnOk result (clock_at node.new ≤ T.last ticker.new) }
     ensures counts { OnOk result ((counters.new.turns ≡ counters.old.turns + 1)
@@ -94,19 +104,20 @@ pub(crate) fn turn<K: Sink, L: Link, T: Ticker>(
         (result ≡ Err ServeEnd.WriteFault) }
     ensures sends { L.send_faults link.old ≤ L.send_faults link.new }
 {
-    if make_room(pad, node.room()).is_err() {
+    if make_room(&mut room.pad, node.room()).is_err() {
         return Err(ServeEnd::OutOfMemory);
     }
     let first = ticker.tick();
-    let received = link.recv(buf, wait_until(node.due(), first));
+    let received = link.recv(&mut room.buf, wait_until(node.due(), first));
     if let Recv::Failed = received {
         return Err(ServeEnd::LinkFault);
     }
     let tick = ticker.tick();
     let before = node.tracing();
-    step(node, tick, received, buf, pad);
+    step(node, tick, received, &room.buf, &mut room.pad);
     let shown = is_shown(before, node.tracing());
-    let acts = pad.acts();
+    let acts = room.pad.acts();
+    show(page, node, tick, acts, ticker);
     if let Err(end) = finish(shown, counters, tick, acts, sink, link) {
         return Err(end);
     }

@@ -6,6 +6,7 @@ pub mod DueLemmas
 pub mod LiftLemmas
 pub mod LoopLemmas
 pub mod PostLemmas
+pub mod ReadingLemmas
 pub mod RestLemmas
 pub mod RoomLemmas
 pub mod StepLemmas

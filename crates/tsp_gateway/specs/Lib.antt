@@ -7,4 +7,5 @@ pub mod PartsFresh
 pub mod PortFacts
 pub mod PortOf
 pub mod Rooms
+pub mod Standings
 pub mod Untold

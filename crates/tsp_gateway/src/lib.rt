@@ -43,7 +43,8 @@
 //!   boot (`row`, `err` of `Gateway::boot`).
 //! - A step puts exactly the acts of the table over ports, at most `room()`, and the node then represents the
 //!   longer past (`row`, `room` of `Gateway::step`, `turn`, `take`).
-//! - `due`, `tracing` and `port_of` are what its past says (`past`).
+//! - `due`, `tracing` and `port_of` are what its past says (`past`), and so are the clock's target and what
+//!   it shows, when it was corrected last, and who sets it (`past`, `standing`).
 //!
 //! # What is only tested
 //!
@@ -61,6 +62,7 @@ mod leading;
 mod looping;
 mod readings;
 mod rounds;
+mod standing;
 mod stepping;
 mod taking;
 mod turning;
@@ -68,3 +70,4 @@ mod turning;
 pub use config::GateConfig;
 pub use fault::PortFault;
 pub use gateway::Gateway;
+pub use standing::Standing;

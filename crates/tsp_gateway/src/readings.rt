@@ -1,5 +1,6 @@
 //! What a caller can read of a gateway.
-ghost use Rattle.std.specs.Prelude.{◌≡◌, ◌<◌, length};
+ghost use Rattle.std.specs.Prelude.{◌≡◌, ◌<◌, ◌≤◌, ◌+◌, ◌^◌, ◌<ℤ◌, pos, negsuc, nat_abs, length};
+ghost use Rattle.tsp_base.specs.Frames.{IsTick};
 ghost use Rattle.tsp_rules.specs.NodeRows.{NodePast};
 ghost use Rattle.tsp_gateway.specs.Dues.{IsGatewayDue, IsNodeDue};
 ghost use Rattle.tsp_gateway.specs.PortOf.{port_of};
@@ -11,8 +12,8 @@ use tsp_rules::room::room_for;
 
 impl Gateway {
     ghost use Rattle.tsp_base.specs.History.{dids};
-    ghost use Rattle.tsp_base.specs.NodeFacts.{tracing};
-    ghost use Rattle.tsp_gateway.specs.GatewayStands.{GatewayStands};
+    ghost use Rattle.tsp_base.specs.NodeFacts.{last_correct, rest, target, tracing, word};
+    ghost use Rattle.tsp_gateway.specs.GatewayStands.{GatewayStands, clock_at};
     ghost use Rattle.tsp_gateway.specs.PortOf.{setups_in};
     ghost use Rattle.tsp_gateway.specs.Rooms.{ports_in, room_of_ports};
 
@@ -56,6 +57,45 @@ impl Gateway {
             → result ≡ tracing (dids past.lines) }
     {
         self.tracing
+    }
+
+    /// The word with which it booted.
+    pub fn word(&self) -> u64
+        ensures past { (past : NodePast) → GatewayStands past self.now
+            → result ≡ word (dids past.lines) }
+    {
+        self.ports[0].station().me.word
+    }
+
+    /// The tick of the clock's last correction, or of the boot where there was none.
+    pub fn corrected(&self) -> u64
+        ensures value { result ≡ clock_at self.now }
+        ensures tick { IsTick (clock_at self.now) }
+        ensures past { (past : NodePast) → GatewayStands past self.now
+            → result ≡ last_correct (dids past.lines) }
+    {
+        self.clock.corrected()
+    }
+
+    /// How many microseconds were still to be slewed right after that.
+    pub fn left(&self) -> i64
+        ensures small { nat_abs result ≤ 2 ^ 61 + 2 ^ 52 }
+        ensures past { (past : NodePast) → GatewayStands past self.now
+            → result ≡ rest (dids past.lines) }
+    {
+        self.clock.left()
+    }
+
+    /// The clock's target at a tick, in microseconds since 1970. The tick must not be before the last correction.
+    pub fn target(&self, tick: u64) -> i64
+        requires tick { IsTick tick }
+        requires later { clock_at self.now ≤ tick }
+        ensures low { negsuc 2147483647999999 <ℤ result }
+        ensures high { result <ℤ pos (2147483648000000 + tick) }
+        ensures past { (past : NodePast) → GatewayStands past self.now
+            → result ≡ target (dids past.lines) tick }
+    {
+        self.clock.target(tick)
     }
 
     /// The lowest port that has this peer, other than as the node itself; port 0 where none has.

@@ -1,5 +1,8 @@
 -- What tick counters and wall clocks answer.
-use Rattle.std.specs.Prelude.{◌≡◌, ℕ, ◌≤◌, ◌*◌, ◌/◌, ◌^◌, min, max, Bool, true, ◌&&◌, nat_le, List, [], ◌∷◌, None, Some, Option, ℤ, pos, negsuc, ◌≤ℤ◌}
+use Rattle.std.specs.Prelude.{◌≡◌, ℕ, ◌≤◌, ◌*◌, ◌/◌, ◌^◌, min, max, Bool, true, ◌&&◌, nat_le, List, [], ◌∷◌, None, Some, Option, ℤ, pos, negsuc, ◌≤ℤ◌, ◌+ℤ◌}
+use Rattle.std.specs.Option.{option_map}
+use Rattle.tsp_io.specs.declared.counter.Counter.{Counter, TheVariants.Raw, TheVariants.Monotonic}
+use Rattle.tsp_io.specs.declared.origin.Origin.{Origin}
 
 -- the answer is the next of the readings, or the last one again once they are used up. If the readings weren't told,
 -- they aren't told afterwards either
@@ -32,3 +35,15 @@ counted speed elapsed = min (elapsed * speed / 1000000000) (2 ^ 61)
 abbrev pub comes_to : ℕ → ℕ → Option ℕ → ℕ
 comes_to speed last None = last
 comes_to speed last (Some elapsed) = max (counted speed elapsed) last
+
+-- the number that Linux gives a counter: 4 for the one whose rate no program changes, and 1 for the other
+abbrev pub number_of : Counter → ℕ
+number_of Raw = 4
+number_of Monotonic = 1
+
+-- ticks are counted from here: from 0 at this first reading of this counter, in microseconds, at this rate
+pub record IsOrigin (counter : Counter) (start : Option ℕ) (speed : ℕ) (origin : Origin) : Type 0 where
+  pub counter_is : origin.counter ≡ number_of counter
+  pub nanos_are : option_map (λ first. pos (first * 1000)) start ≡ Some origin.nanos
+  pub tick_is : origin.tick ≡ 0
+  pub rate_is : pos 1000000000 +ℤ origin.rate ≡ pos speed

@@ -1,3 +1,4 @@
+pub mod Boards
 pub mod Clocks
 pub mod Counts
 pub mod Directories

@@ -1,7 +1,8 @@
 -- What a link over a UDP socket is bound to, whom it hears, and where it sends.
-use Rattle.std.specs.Prelude.{◌≡◌, ℕ, Bool, true, false, List, [], ◌∷◌, None, Some, Option, MatchOption}
+use Rattle.std.specs.Prelude.{◌≡◌, ◌⊎◌, ℕ, Bool, true, false, List, [], ◌∷◌, None, Some, Option, MatchOption}
 use Rattle.std.specs.Option.{option_map}
-use Rattle.tsp_io.specs.{Directories.addr_of, Directories.ComesFrom, Links.Binding, Sockets.IsWaitFor, Sockets.sockaddr_of, declared.addr.Addr.Addr}
+use Rattle.tsp_io.specs.{Counts.one_more, Directories.addr_of, Directories.ComesFrom, Links.Binding, declared.addr.Addr.Addr}
+use Rattle.tsp_io.specs.Sockets.{IsWaitFor, at_once, sockaddr_of}
 use Rattle.tsp_io.specs.declared.link.Recv.{Recv, TheVariants.Datagram, TheVariants.Nothing, TheVariants.Failed}
 use Rattle.tsp_io.specs.declared.socket.Socket.{Socket}
 
@@ -35,3 +36,16 @@ IsAwaited wait socket result = MatchOption socket ⊥ (λ s. IsWaitFor wait s.wa
 -- the last send of the socket went to this address
 abbrev pub GoesTo : Option Addr → Option Socket → Type 0
 GoesTo addr socket = MatchOption socket ⊥ (λ s. option_map sockaddr_of addr ≡ Some s.to)
+
+-- how often the system was asked for a send
+abbrev pub tries_of : Option Socket → ℕ
+tries_of None = 0
+tries_of (Some socket) = socket.tries
+
+-- the system was asked once more, for a send of so many octets that fails at once if there is no room
+abbrev pub SendsOnce : ℕ → Option Socket → Option Socket → Type 0
+SendsOnce count before now = (tries_of now ≡ one_more (tries_of before)) × MatchOption now ⊥ (λ s. (s.octets ≡ count) × (s.flags ≡ at_once))
+
+-- the system was asked once more for a send, or not at all
+abbrev pub SendsAtMostOnce : Option Socket → Option Socket → Type 0
+SendsAtMostOnce before now = (tries_of now ≡ tries_of before) ⊎ (tries_of now ≡ one_more (tries_of before))

@@ -1,9 +1,11 @@
 //! The machine's clocks.
-ghost use Rattle.std.specs.Prelude.{◌≡◌, ◌≤◌, ◌^◌, None, Some, IfSome, min, pos};
+ghost use Rattle.std.specs.Prelude.{◌≡◌, ℕ, ◌≤◌, ◌<◌, ◌*◌, ◌^◌, None, Some, Option, IfSome, IsSome, false, min, pos};
 ghost use Rattle.std.specs.Option.{option_map};
-ghost use Rattle.tsp_io.specs.Clocks.{IsWall, comes_to};
+ghost use Rattle.tsp_io.specs.Clocks.{IsOrigin, IsWall, comes_to};
 
+use crate::counter::Counter;
 use crate::machine_clock::machine_micros;
+use crate::origin::Origin;
 use crate::rate::Rate;
 use crate::ticker::Ticker;
 use std::rt::Clock;
@@ -19,7 +21,7 @@ const LAST_WALL: u64 = 1 << 62;
 /// microseconds, at the counter's rate: `e + floor(e * parts / 10^9)` when that has come `e` whole
 /// microseconds. It never falls, and stays at 2^61, some 73,000 years. The wall clock is read once;
 /// that reading is the word too. If the machine gives no reading, the counter answers its last one,
-/// and wall and word are 0.
+/// and wall and word are 0. It has no board.
 #[derive(Drop)]
 pub struct MachineTicker<R> {
     rt: R,
@@ -28,14 +30,17 @@ pub struct MachineTicker<R> {
     elapsed: Option<u64>,
     wall: Option<u64>,
     last: u64,
+    counter: Counter,
     ghost bounded: { last ≤ 2 ^ 61 },
 }
 
 impl<R: Clock> MachineTicker<R> {
-    /// Clocks that weren't read yet, whose counter has this rate.
+    /// Clocks that weren't read yet, whose counter has this rate, and counts by the machine's
+    /// `CLOCK_MONOTONIC`.
     pub fn new(rt: R, rate: Rate) -> MachineTicker<R>
-        ensures { (result.rate ≡ rate) × (result.start ≡ None) × (result.elapsed ≡ None)
+        ensures unread { (result.rate ≡ rate) × (result.start ≡ None) × (result.elapsed ≡ None)
             × (result.wall ≡ None) × (result.last ≡ 0) }
+        ensures counter { result.counter ≡ Counter.Monotonic }
     {
         MachineTicker {
             rt,
@@ -44,14 +49,34 @@ impl<R: Clock> MachineTicker<R> {
             elapsed: None,
             wall: None,
             last: 0,
+            counter: Counter::Monotonic,
         }
+    }
+
+    /// The same clocks, if it is this counter of the machine's that `rt` reads.
+    pub fn counted_by(mut self, counter: Counter) -> MachineTicker<R>
+        ensures { result ≡ record self { counter = counter } }
+    {
+        self.counter = counter;
+        self
     }
 }
 
-/// The microseconds since the first reading; None if the machine gives no reading.
-fn since_start(rt: &impl Clock, start: &mut Option<u64>) -> Option<u64> {
+/// The microseconds since the first reading, which is noted; None if the machine gives no reading.
+fn since_start(rt: &impl Clock, start: &mut Option<u64>) -> Option<u64>
+    ensures first { start.old ≡ None → IfSome result (λ elapsed. elapsed ≡ 0) }
+    ensures noted { IfSome result (λ _. IsSome start.new) }
+    ensures kept { IfSome start.old (λ first. start.new ≡ Some first) }
+{
     let now = machine_micros(rt)?;
     now.checked_sub(*start.get_or_insert(now))
+}
+
+/// The microseconds since the first reading; None if there was none, or the machine gives none now.
+fn elapsed_now(rt: &impl Clock, start: Option<u64>) -> Option<u64>
+    ensures { start ≡ None → result ≡ None }
+{
+    machine_micros(rt)?.checked_sub(start?)
 }
 
 /// The wall clock, in microseconds since 1970; None if the machine gives no reading, or an earlier
@@ -87,6 +112,14 @@ impl<R: Clock> Ticker for MachineTicker<R> {
 
     ghost last = { λ s. s.last };
 
+    ghost origin_is = { λ _. None };
+
+    ghost delay_is = { λ _. None };
+
+    ghost boarded = { λ _. false };
+
+    ghost marks = { λ _. None };
+
     fn tick(&mut self) -> u64
         ensures low { self.old.last ≤ result }
         ensures high { result ≤ 2 ^ 61 }
@@ -94,6 +127,10 @@ impl<R: Clock> Ticker for MachineTicker<R> {
         ensures counts { result ≡ comes_to self.old.rate.speed self.old.last self.new.elapsed }
         ensures rate { self.new.rate ≡ self.old.rate }
         ensures wall { self.new.wall ≡ self.old.wall }
+        ensures first { self.old.start ≡ None → IfSome self.new.elapsed (λ elapsed. elapsed ≡ 0) }
+        ensures noted { IfSome self.new.elapsed (λ _. IsSome self.new.start) }
+        ensures start { IfSome self.old.start (λ first. self.new.start ≡ Some first) }
+        ensures counter { self.new.counter ≡ self.old.counter }
     {
         self.elapsed = since_start(&self.rt, &mut self.start);
         let ticks = match self.elapsed {
@@ -120,4 +157,40 @@ impl<R: Clock> Ticker for MachineTicker<R> {
     {
         wall_once(&self.rt, &mut self.wall)
     }
+
+    /// From where the ticks are counted: the first reading. None before it, and if its nanoseconds aren't
+    /// less than 2^63.
+    fn origin(&self) -> Option<Origin>
+        ensures found { IfSome result (IsOrigin self.now.counter self.now.start
+            self.now.rate.speed) }
+        ensures all { IfSome self.now.start (λ first. first * 1000 < 2 ^ 63 → IsSome result) }
+    {
+        let nanos = i64::try_from(self.start?.checked_mul(1_000)?).ok()?;
+        Some(Origin {
+            counter: self.counter.number(),
+            nanos,
+            tick: 0,
+            rate: self.rate.parts(),
+        })
+    }
+
+    fn moment(&self) -> u64
+        ensures low { self.now.last ≤ result }
+        ensures high { result ≤ 2 ^ 61 }
+        ensures counts { (elapsed : Option ℕ) × (result
+            ≡ comes_to self.now.rate.speed self.now.last elapsed) }
+    {
+        match elapsed_now(&self.rt, self.start) {
+            Some(elapsed) => self.rate.ticks(elapsed).max(self.last),
+            None => self.last,
+        }
+    }
+
+    fn has_board(&self) -> bool {
+        false
+    }
+
+    fn mark(&mut self, _at: u64, _octets: &[u8])
+        ensures same { self.new ≡ self.old }
+    {}
 }

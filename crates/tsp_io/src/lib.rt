@@ -1,6 +1,6 @@
-//! The outside: octets that are read and written, datagrams that come and go, and clocks.
+//! The outside: octets that are read and written, datagrams that come and go, clocks, and boards.
 //!
-//! Four traits, each with an implementation in memory, for tests, and one over the machine:
+//! Five traits, each with an implementation in memory, for tests, and one over the machine:
 //!
 //! | Trait | In memory | Over the machine |
 //! |---|---|---|
@@ -8,6 +8,10 @@
 //! | [`sink::Sink`] | [`memory::MemorySink`] | [`machine::Writing`], over a writer |
 //! | [`link::Link`] | [`memory_link::MemoryLink`] | [`udp::UdpLink`], over a UDP socket (IPv4) |
 //! | [`ticker::Ticker`] | [`memory_ticker::MemoryTicker`] | [`clock::MachineTicker`], over the machine's clocks |
+//! | [`board::Board`] | [`memory_board::MemoryBoard`] | [`file_board::FileBoard`], over a file |
+//!
+//! [`paged::Paged`] gives a ticker a board, on which other programs read what its ticks mean.
+//! [`unslewed::Unslewed`] are the machine's clocks with a counter whose rate no program changes.
 //!
 //! The contracts of a trait speak of what an object holds: the octets left or written, the arrivals
 //! to come, the sends that were tried, the readings to come. In memory these are *told*: contracts know
@@ -39,12 +43,16 @@
 //!   arrival, cut to 512 octets, a send that was tried is on the list, as are what a link was bound to and
 //!   how long each receive was to wait (`binds`, `waits`), and a failure comes only with its count, which
 //!   stays if nothing failed (`reads`, `writes`, `receives`, `sends`, `cause`, `still`).
+//! - What is written on a board was handed to it, and nothing is written after a write that failed
+//!   (`writes`, `marks`, `ended`).
 //! - Tick counters don't fall (`low`, `takes`).
-//! - A machine's counter is as far as its rate says, by the reading that the machine gave, and the wall clock
-//!   and the word are one reading (`counts`, `read`, `kept` of `MachineTicker`).
+//! - A machine's counter is as far as its rate says, by the reading that the machine gave, and at 0 at the
+//!   first one, from which programs count (`counts`, `first`, `found`), and the wall clock and the word are
+//!   one reading (`read`, `kept` of `MachineTicker`).
 //! - A socket is asked for the address of the bind, and its number is none of a standard stream.
 //! - Its wait is less than a millisecond below the one that is asked for (`waits`).
-//! - No send is tried while it waits (`waits` of `send`).
+//! - A send is one try, with all of the octets, and the system is told not to wait for room (`once`, `octets`,
+//!   `waits` of `send`, `whole` of `UdpLink`).
 //! - It takes nothing in a receive that ended too late (`fresh`).
 //! - Whose a datagram is that a socket gets: that of the peer with the lowest number that has its address,
 //!   and a stranger's exactly if no peer has it, and a datagram for a peer goes to that peer's address
@@ -61,24 +69,33 @@
 //! - What came in a pause is thrown away.
 //! - Ten million times at rates of all sizes.
 //! - Through the program a link that takes nothing.
+//! - Programs count the same ticks.
+//! - A file that takes only a part of a write.
 //!
 //! # What is neither proved nor tested
 //!
-//! - What the operating system does.
+//! - What the operating system does, and that it is asked for what a socket's fields say of a send.
+//! - That a receive gives what it took, and counts what it throws away.
 #![tactic(auto)]
 
 pub mod addr;
 mod arrivals;
+pub mod board;
 pub mod clock;
+pub mod counter;
 mod directory;
 mod failing;
+pub mod file_board;
 pub mod link;
 pub mod machine;
 mod machine_clock;
 pub mod memory;
+pub mod memory_board;
 pub mod memory_link;
 pub mod memory_ticker;
 mod noted_calls;
+pub mod origin;
+pub mod paged;
 pub mod rate;
 mod raw_addr;
 pub mod sink;

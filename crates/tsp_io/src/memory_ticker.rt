@@ -1,8 +1,9 @@
 //! A tick counter and a wall clock in memory.
-ghost use Rattle.std.specs.Prelude.{◌≡◌, ℕ, ◌≤◌, ◌<◌, ◌^◌, length, true, drop, IfOk, None, Some, vec_len};
+ghost use Rattle.std.specs.Prelude.{◌≡◌, ℕ, ◌≤◌, ◌<◌, ◌^◌, length, true, false, drop, IfOk, None, Some, vec_len};
 ghost use Rattle.std.specs.Option.{option_map};
 ghost use Rattle.tsp_io.specs.Clocks.{climbs, IsWall};
 
+use crate::origin::Origin;
 use crate::ticker::Ticker;
 use std::alloc::{AllocError, Global};
 
@@ -15,6 +16,8 @@ pub struct MemoryTicker {
     word: u64,
     last: u64,
     wall_at: Option<usize>,
+    origin: Option<Origin>,
+    delay: u64,
     ghost within: { at ≤ vec_len ticks },
     ghost climbs: { climbs last (drop at ticks.items) ≡ true },
     ghost last_small: { last ≤ 2 ^ 61 },
@@ -36,6 +39,7 @@ impl MemoryTicker {
         ensures readings { IfOk result (λ s. drop s.at s.ticks.items ≡ ticks.now) }
         ensures rest { IfOk result (λ s. (s.wall ≡ wall) × (s.word ≡ word) × (s.last ≡ 0)
             × (s.wall_at ≡ None)) }
+        ensures page { IfOk result (λ s. (s.origin ≡ None) × (s.delay ≡ 0)) }
     {
         Ok(MemoryTicker {
             ticks: Vec::from_slice(alloc, ticks)?,
@@ -44,7 +48,25 @@ impl MemoryTicker {
             word,
             last: 0,
             wall_at: None,
+            origin: None,
+            delay: 0,
         })
+    }
+
+    /// The same ticker, whose ticks are counted from there.
+    pub fn counted_from(mut self, origin: Origin) -> MemoryTicker
+        ensures { result ≡ record self { origin = Some origin } }
+    {
+        self.origin = Some(origin);
+        self
+    }
+
+    /// The same ticker, whose `moment` is so many microseconds after the last reading.
+    pub fn delayed(mut self, delay: u64) -> MemoryTicker
+        ensures { result ≡ record self { delay = delay } }
+    {
+        self.delay = delay;
+        self
     }
 
     /// How many of the readings are still to be given.
@@ -66,6 +88,14 @@ impl Ticker for MemoryTicker {
 
     ghost last = { λ s. s.last };
 
+    ghost origin_is = { λ s. Some s.origin };
+
+    ghost delay_is = { λ s. Some s.delay };
+
+    ghost boarded = { λ _. false };
+
+    ghost marks = { λ _. None };
+
     fn tick(&mut self) -> u64 {
         if self.at < self.ticks.len() {
             let at = self.at;
@@ -83,4 +113,18 @@ impl Ticker for MemoryTicker {
     fn word(&mut self) -> u64 {
         self.word
     }
+
+    fn origin(&self) -> Option<Origin> {
+        self.origin
+    }
+
+    fn moment(&self) -> u64 {
+        self.last.saturating_add(self.delay).min(1 << 61)
+    }
+
+    fn has_board(&self) -> bool {
+        false
+    }
+
+    fn mark(&mut self, _at: u64, _octets: &[u8]) {}
 }

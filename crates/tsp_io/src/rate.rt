@@ -37,6 +37,13 @@ impl Rate {
         })
     }
 
+    /// How many parts in 10^9 it is above the machine's.
+    pub fn parts(&self) -> i64
+        ensures { pos 1000000000 +ℤ result ≡ pos self.now.speed }
+    {
+        i64::from(self.speed) - OWN
+    }
+
     /// How far the counter has come when the machine's clock has come `elapsed` microseconds: rounded
     /// down, and at most 2^61.
     pub fn ticks(&self, elapsed: u64) -> u64

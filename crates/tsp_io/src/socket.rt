@@ -2,6 +2,7 @@
 ghost use Rattle.std.specs.Prelude.{◌≡◌, ◌⊎◌, ◌≤◌, ◌<ℤ◌, length, false, true, None, Some, pos};
 ghost use Rattle.std.specs.Prelude.{IfOk, IfSome, IsTrue, OnErr, OnOk};
 ghost use Rattle.std.specs.Net.Udp.{udp_raw_fd};
+ghost use Rattle.tsp_io.specs.Counts.{one_more};
 ghost use Rattle.tsp_io.specs.Directories.{addr_of};
 ghost use Rattle.tsp_io.specs.Sockets.{IsWaitFor, is_late, sockaddr_of, at_once};
 
@@ -65,6 +66,10 @@ pub(crate) struct Socket {
     pub to: [u8; 128],
     /// How the system was asked to send it.
     pub flags: i32,
+    /// How many octets it was asked to send.
+    pub octets: usize,
+    /// How often the system was asked for a send.
+    pub tries: u64,
     /// How many datagrams were thrown away.
     pub discarded: u64,
     /// The wait in microseconds that was last set; 0 if none was set, so that receives wait for ever.
@@ -96,6 +101,8 @@ impl Socket {
             local,
             to: [0; 128],
             flags: AT_ONCE,
+            octets: 0,
+            tries: 0,
             discarded: 0,
             wait: 0,
             ended: machine_micros(rt),
@@ -217,19 +224,43 @@ impl Socket {
         Ok(came)
     }
 
-    /// Sends a datagram, and says whether the system took all of it. A send that finds no room fails at
-    /// once.
+    /// Asks the system once to send these octets, to the address and in the way that were noted. Says
+    /// whether it took all of them.
+    #[inline(always)]
+    fn try_once(&mut self, octets: &[u8]) -> bool
+        requires { self.old.flags ≡ at_once }
+        ensures octets { self.new.octets ≡ length octets.now }
+        ensures once { self.new.tries ≡ one_more self.old.tries }
+        ensures same { self.new ≡ record self.old {
+          octets = self.new.octets;
+          tries = self.new.tries;
+        } }
+    {
+        self.octets = octets.len();
+        self.tries = self.tries.saturating_add(1);
+        let fd = self.udp.as_raw_fd();
+        let count = unsafe { net::sendto(fd, octets, self.flags, &self.to, RAW_LEN) };
+        usize::try_from(count).is_ok_and(|count| count == octets.len())
+    }
+
+    /// Sends a datagram, and says whether the system took all of it. The system is asked once, and a send
+    /// that finds no room fails at once.
     #[inline(always)]
     pub(crate) fn send(&mut self, octets: &[u8], to: Addr) -> bool
         ensures to { self.new.to ≡ sockaddr_of to }
         ensures waits { self.new.flags ≡ at_once }
-        ensures same { self.new ≡ record self.old { to = self.new.to; flags = self.new.flags } }
+        ensures octets { self.new.octets ≡ length octets.now }
+        ensures once { self.new.tries ≡ one_more self.old.tries }
+        ensures same { self.new ≡ record self.old {
+          to = self.new.to;
+          flags = self.new.flags;
+          octets = self.new.octets;
+          tries = self.new.tries;
+        } }
     {
         self.to = raw_addr(to);
         self.flags = AT_ONCE;
-        let fd = self.udp.as_raw_fd();
-        let count = unsafe { net::sendto(fd, octets, self.flags, &self.to, RAW_LEN) };
-        usize::try_from(count).is_ok_and(|count| count == octets.len())
+        self.try_once(octets)
     }
 }
 

@@ -1,9 +1,17 @@
 //! A machine's tick counter, and the wall clock and the word that a node gets at its boot.
-ghost use Rattle.std.specs.Prelude.{◌≡◌, ℕ, ℤ, ◌≤◌, ◌^◌, List, IfSome, Option, Some};
+ghost use Rattle.std.specs.Prelude.{◌≡◌, ℕ, ℤ, ◌≤◌, ◌+◌, ◌^◌, min, List, Bool, IfSome, Option, Some};
 ghost use Rattle.std.specs.Option.{option_map};
+ghost use Rattle.tsp_io.specs.Boards.{Mark};
 ghost use Rattle.tsp_io.specs.Clocks.{TakesReading, IsWall};
+ghost use Rattle.tsp_io.specs.Links.{NotesReceive};
+ghost use Rattle.tsp_io.specs.declared.origin.Origin.{Origin};
+
+use crate::origin::Origin;
 
 /// Clocks: a tick counter and a wall clock, both in microseconds. No call fails.
+///
+/// Other programs can count the same ticks, if they know from where (`origin`), and a ticker may have a
+/// board for them, on which is written what its ticks mean.
 pub trait Ticker {
     /// The readings that `tick` still has to give; None if they aren't told.
     ghost readings: { Self → Option (List ℕ) };
@@ -21,6 +29,18 @@ pub trait Ticker {
     /// The last answer of `tick`; 0 before the first.
     ghost last: { Self → ℕ };
 
+    /// What `origin` answers; None if that isn't told.
+    ghost origin_is: { Self → Option (Option Origin) };
+
+    /// How many microseconds after the last reading `moment` is; None if that isn't told.
+    ghost delay_is: { Self → Option ℕ };
+
+    /// Whether there is a board.
+    ghost boarded: { Self → Bool };
+
+    /// What was written on the board, write by write; None if that isn't told.
+    ghost marks: { Self → Option (List Mark) };
+
     /// The tick counter, in microseconds. It never falls, and is at most 2^61.
     fn tick(&mut self) -> u64
         ensures low { last self.old ≤ result }
@@ -30,7 +50,10 @@ pub trait Ticker {
             result }
         ensures same { (wall_is self.new ≡ wall_is self.old)
             × (word_is self.new ≡ word_is self.old)
-            × (left_at_wall self.new ≡ left_at_wall self.old) };
+            × (left_at_wall self.new ≡ left_at_wall self.old) }
+        ensures page { (origin_is self.new ≡ origin_is self.old)
+            × (delay_is self.new ≡ delay_is self.old) × (boarded self.new ≡ boarded self.old)
+            × (marks self.new ≡ marks self.old) };
 
     /// The wall clock, in microseconds since 1970, from -2^62 to 2^62.
     fn wall(&mut self) -> i64
@@ -39,7 +62,10 @@ pub trait Ticker {
         ensures reads { left_at_wall self.new ≡ option_map Some (readings self.old) }
         ensures same { (readings self.new ≡ readings self.old)
             × (wall_is self.new ≡ wall_is self.old) × (word_is self.new ≡ word_is self.old)
-            × (last self.new ≡ last self.old) };
+            × (last self.new ≡ last self.old) }
+        ensures page { (origin_is self.new ≡ origin_is self.old)
+            × (delay_is self.new ≡ delay_is self.old) × (boarded self.new ≡ boarded self.old)
+            × (marks self.new ≡ marks self.old) };
 
     /// A number that should differ at each boot: the word of a node's life.
     fn word(&mut self) -> u64
@@ -47,5 +73,35 @@ pub trait Ticker {
         ensures same { (readings self.new ≡ readings self.old)
             × (wall_is self.new ≡ wall_is self.old) × (word_is self.new ≡ word_is self.old)
             × (left_at_wall self.new ≡ left_at_wall self.old)
-            × (last self.new ≡ last self.old) };
+            × (last self.new ≡ last self.old) }
+        ensures page { (origin_is self.new ≡ origin_is self.old)
+            × (delay_is self.new ≡ delay_is self.old) × (boarded self.new ≡ boarded self.old)
+            × (marks self.new ≡ marks self.old) };
+
+    /// From where the ticks are counted; None if that isn't known, as before the first reading.
+    fn origin(&self) -> Option<Origin>
+        ensures answers { IfSome (origin_is self.now) (λ origin. result ≡ origin) };
+
+    /// The tick counter now, at least its last reading and at most 2^61, without a reading that `tick`
+    /// has to give.
+    fn moment(&self) -> u64
+        ensures low { last self.now ≤ result }
+        ensures high { result ≤ 2 ^ 61 }
+        ensures answers { IfSome (delay_is self.now)
+            (λ delay. result ≡ min (last self.now + delay) (2 ^ 61)) };
+
+    /// Whether there is a board.
+    fn has_board(&self) -> bool
+        ensures { result ≡ boarded self.now };
+
+    /// Writes octets on the board, at a place counted from 0, as its `write` does; nothing if there is no
+    /// board. If the write fails, that is the board's to count.
+    fn mark(&mut self, at: u64, octets: &[u8])
+        ensures marks { NotesReceive (marks self.old) (marks self.new) (at, octets.now) }
+        ensures same { (readings self.new ≡ readings self.old)
+            × (wall_is self.new ≡ wall_is self.old) × (word_is self.new ≡ word_is self.old)
+            × (left_at_wall self.new ≡ left_at_wall self.old)
+            × (last self.new ≡ last self.old) }
+        ensures page { (origin_is self.new ≡ origin_is self.old)
+            × (delay_is self.new ≡ delay_is self.old) × (boarded self.new ≡ boarded self.old) };
 }

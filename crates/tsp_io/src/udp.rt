@@ -3,7 +3,8 @@ ghost use Rattle.std.specs.Prelude.{◌≡◌, ◌≢◌, ◌≤◌, false, true
 ghost use Rattle.tsp_io.specs.Counts.{Rose};
 ghost use Rattle.tsp_io.specs.Links.{is_from_stranger, NotesBind, ReceivesOne, Sends};
 ghost use Rattle.tsp_io.specs.Directories.{addr_at, ComesFrom};
-ghost use Rattle.tsp_io.specs.UdpLinks.{binds_of, discarded_by, GoesTo, IsAwaited, IsBoundTo, TakesFrom};
+ghost use Rattle.tsp_io.specs.UdpLinks.{binds_of, discarded_by, IsAwaited, IsBoundTo, TakesFrom};
+ghost use Rattle.tsp_io.specs.UdpLinks.{GoesTo, SendsAtMostOnce, SendsOnce};
 
 use crate::addr::Addr;
 use crate::directory::Directory;
@@ -186,6 +187,9 @@ impl<R: Net + Clock> Link for UdpLink<R> {
         ensures still { result ≢ Sent.Failed → self.new.send_faults ≡ self.old.send_faults }
         ensures to { result ≡ Sent.Sent → GoesTo (addr_at self.old.directory self.old.last to)
             self.new.socket }
+        ensures whole { result ≡ Sent.Sent → SendsOnce (length octets.now) self.old.socket
+            self.new.socket }
+        ensures once { SendsAtMostOnce self.old.socket self.new.socket }
         ensures memory { ¬ result ≡ Sent.OutOfMemory }
     {
         let went = match (self.addr_at(to), &mut self.socket) {

@@ -1,43 +1,63 @@
 //! Clocks whose monotonic one nobody slews.
-ghost use Rattle.std.specs.Prelude.{◌≡◌, ℕ, ◌+◌, ◌*◌, IfSome, pos};
+ghost use Rattle.std.specs.Prelude.{◌≡◌, ℕ, ◌+◌, ◌*◌, ◌<◌, IfSome, IsSome, pos, if◌then◌else◌};
 ghost use Rattle.std.specs.Duration.{as_nanos};
 
+use crate::counter::Counter;
 use libc::types::timespec;
 use std::io;
 use std::io::ErrorKind;
 use std::rt::Clock;
 use std::time::Duration;
 
-/// Linux's number of the monotonic clock that keeps the rate of the machine's counter.
-const CLOCK_MONOTONIC_RAW: i32 = 4;
+/// Linux's number of `CLOCK_MONOTONIC_RAW`.
+const RAW: i32 = 4;
 
-/// The clocks of `rt`, but the monotonic one is Linux's `CLOCK_MONOTONIC_RAW`, whose rate no program
-/// that sets the time changes. Where the system doesn't give it, the monotonic one is that of `rt` too. Which
-/// of both it is, is settled when this is made.
+/// The clocks of `rt`, but the monotonic one is Linux's `CLOCK_MONOTONIC_RAW`, if that is wanted. Where
+/// the system doesn't give it, the monotonic one is that of `rt`, Linux's `CLOCK_MONOTONIC`. Which of
+/// both it is, is settled when this is made, since the two count from different moments.
 #[derive(Drop)]
 pub struct Unslewed<R> {
     rt: R,
-    raw: bool,
+    counter: Counter,
 }
 
 impl<R: Clock> Unslewed<R> {
-    /// Clocks whose monotonic one is the unslewed one, if the machine gives a reading of it now.
-    pub fn new(rt: R) -> Unslewed<R>
-        ensures { result.rt ≡ rt }
+    /// Clocks whose monotonic one is the counter that is wanted, if the machine gives a reading of it now.
+    pub fn new(rt: R, wanted: Counter) -> Unslewed<R>
+        ensures clocks { result.rt ≡ rt }
+        ensures monotonic { wanted ≡ Counter.Monotonic → result.counter ≡ Counter.Monotonic }
     {
-        Unslewed {
-            rt,
-            raw: raw_reading().is_some(),
-        }
+        let counter = match wanted {
+            Counter::Raw => raw_if(raw_reading().is_some()),
+            Counter::Monotonic => Counter::Monotonic,
+        };
+        Unslewed { rt, counter }
+    }
+
+    /// Which counter of the machine the monotonic clock is.
+    pub fn counter(&self) -> Counter
+        ensures { result ≡ self.now.counter }
+    {
+        self.counter
+    }
+}
+
+/// The raw counter if it is there, and else the other.
+fn raw_if(there: bool) -> Counter
+    ensures { result ≡ (if there then Counter.Raw else Counter.Monotonic) }
+{
+    if there {
+        Counter::Raw
+    } else {
+        Counter::Monotonic
     }
 }
 
 impl<R: Clock> Clock for Unslewed<R> {
     fn monotonic(&self) -> io::Result<Duration> {
-        if self.raw {
-            raw_reading().ok_or_else(|| io::Error::from(ErrorKind::Unsupported))
-        } else {
-            self.rt.monotonic()
+        match self.counter {
+            Counter::Raw => raw_reading().ok_or_else(|| io::Error::from(ErrorKind::Unsupported)),
+            Counter::Monotonic => self.rt.monotonic(),
         }
     }
 
@@ -50,14 +70,14 @@ impl<R: Clock> Clock for Unslewed<R> {
     }
 }
 
-/// The unslewed clock's time since some moment before the program's start; None if the machine gives
-/// no reading.
+/// The raw counter's time since some moment before the program's start; None if the machine gives no
+/// reading.
 fn raw_reading() -> Option<Duration> {
     let mut time = timespec {
         tv_sec: 0,
         tv_nsec: 0,
     };
-    if libc::clock_gettime(CLOCK_MONOTONIC_RAW, &mut time) != 0 {
+    if libc::clock_gettime(RAW, &mut time) != 0 {
         return None;
     }
     span(time.tv_sec, time.tv_nsec)
@@ -66,8 +86,9 @@ fn raw_reading() -> Option<Duration> {
 /// So many seconds and nanoseconds; None exactly if there are fewer than 0 of either, or 10^9 nanoseconds
 /// or more.
 fn span(secs: i64, nanos: i64) -> Option<Duration>
-    ensures { IfSome result (λ d. (s n : ℕ) → secs ≡ pos s → nanos ≡ pos n
+    ensures sum { IfSome result (λ d. (s n : ℕ) → secs ≡ pos s → nanos ≡ pos n
         → as_nanos d ≡ s * 1000000000 + n) }
+    ensures all { (s n : ℕ) → secs ≡ pos s → nanos ≡ pos n → n < 1000000000 → IsSome result }
 {
     let secs = u64::try_from(secs).ok()?;
     let nanos = u32::try_from(nanos).ok()?;

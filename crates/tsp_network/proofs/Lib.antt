@@ -1,7 +1,15 @@
+pub mod EndLemmas
+pub mod EventLists
+pub mod LivesCount
 pub mod NetworkAgrees
 pub mod NetworkRuns
 pub mod NetworksKeep
+pub mod PacedClocks
 pub mod RosterLemmas
 pub mod SetUpLemmas
+pub mod ServeUse
+pub mod ToldLemmas
 pub mod UseLemmas
+pub mod WanderLemmas
+pub mod WanderUse
 pub mod WitnessUse

@@ -1,24 +1,24 @@
 -- A daemon's session and its node in the run are alike, and stay so from turn to turn: what the daemons of a network did is the run of its
 -- events.
-use Rattle.std.proofs.Common.{sym, ap, ap₂, arith, append_assoc, length-append, ◌∙◌, ◌≡◌, ℕ, suc, ◌+◌, ℤ, List, [], ◌∷◌, ◌++◌, length, refl, subst, subst₂, eq-eqb, ◌-◌}
+use Rattle.std.proofs.Common.{sym, ap, ap₂, arith, append_assoc, length-append, ◌∙◌, ◌≡◌, ℕ, suc, ◌+◌, ℤ, List, [], ◌∷◌, ◌++◌, length, refl, subst, eq-eqb, ◌-◌}
 use Rattle.std.proofs.Common.{◌<◌, ◌≤◌, ◌==◌, Bool, true, false, slice_index_or, eqb-true, if◌then◌else◌, map, Option, None, Some}
 use Rattle.std.proofs.lemmas.Bool.{eqb-false, ne_eqb}
 use Rattle.tsp_args.specs.declared.serve.ServeWords.{ServeWords}
 use Rattle.tsp_io.specs.Links.{Arrival}
 use Rattle.tsp_daemon.specs.Sessions.{Session, acts_in_turn, turned, turn_begun, turn_cause, given_of}
 use Rattle.tsp_daemon.specs.{Nodes.daemon_config, Nodes.setups_from, Posts.sends_of}
-use Rattle.tsp_network.specs.Networks.{named_acts, daemon_tick, Network, acted, life_from, node_wall, nothing_yet, sent_by, starts, turned_to, turns}
-use Rattle.tsp_network.proofs.SetUpLemmas.{daemon_ports, tells_apart, AllMatch, NoneMatch, acts_match, match_append, configs_alike}
+use Rattle.tsp_network.specs.Networks.{named_acts, daemon_tick, Network, acted, next_life, life_from, node_wall, nothing_yet, life_until, sent_by, sent_until, starts, turned_to, turns}
+use Rattle.tsp_network.proofs.SetUpLemmas.{daemon_ports, tells_apart, AllMatch, NoneMatch, acts_match, match_append, until_match, configs_alike}
 use Rattle.tsp_network.specs.Lives.{Life, session_after, session_of, turn_told, turn_acts, Daemons, AreStarted, first_acts}
 use Rattle.tsp_network.specs.Rosters.{renaming_on}
 use Rattle.tsp_rules.specs.NodeRows.{NodePast, PortSetup, in_node_step, no_port}
 use Rattle.tsp_rules.specs.GateRows.{NodeGiven, NodeTurn, GotOn, answers_all, boots_all}
 use Rattle.tsp_rules.specs.{Renames.Renaming, Values.Placed, Values.Peer, Values.Stranger, Values.Port, Values.Boot}
-use Rattle.tsp_base.specs.Words.{IsHeader, Begins, Line, Step, dids, first_port, joined, line_of, of, stepped, tick_at, up, Booted, Acts}
-use Rattle.tsp_promises.proofs.Clocks.{tick-mono}
+use Rattle.tsp_base.specs.Words.{Begins, Line, Step, dids, first_port, joined, line_of, of, stepped, up, Booted, Acts}
+use Rattle.tsp_promises.specs.Setting.{KeepsTime}
 use Rattle.tsp_run.proofs.RunLemmas.{stepped_own, stepped_other, up_joined, posts_stepped}
-use Rattle.tsp_run.specs.{Run.step_tick, Run.boot_step, Run.joins, Run.posts, Run.posts_from, Setup.node_line, Setup.past_of, Setup.rests}
-use Rattle.tsp_run.{proofs.Happens.acts_by, proofs.Happens.stepping, proofs.SettingLemmas.each-is-set, specs.Networks.networks}
+use Rattle.tsp_run.specs.{Clocked.IsSetUp, Clocked.boot_by, Clocked.tick_by, Run.joins, Run.posts, Run.posts_from, Setup.past_of, Setup.rests}
+use Rattle.tsp_run.{proofs.HappensBy.acts_by, proofs.HappensBy.stepping, specs.Networks.networks}
 use Rattle.tsp_alike.specs.AlikeNodes.{AlikeLines, AlikeNodes, AllKnown, Both, ComesOn, TellsApart, naming_of, namings, renamed_given, SameBoot, renamed_placed}
 use Rattle.tsp_alike.proofs.AlikeLaws.{answers_are_alike, boots_are_alike}
 use Rattle.tsp_alike.proofs.NodesAlike.{configs_of, with_lines}
@@ -78,16 +78,14 @@ comes-step s x past NodeTurn c = c
 comes-step s x past (GotOn q (Peer from) t) c = c
 comes-step s x past (GotOn q Stranger t) c = c
 
-module _ (d : Daemons) (is : IsHeader d.header) where
+module _ (d : Daemons) (is : IsSetUp d.header) (keeps : (n : ℕ) → KeepsTime d.header.drift (d.clocks.tick n)) where
   abbrev nets : List (List ℕ)
   nets = networks d.header
 
   -- ticks never fall
   pub ticks_rise : (n t at : ℕ) → t ≤ at → daemon_tick d n t ≤ daemon_tick d n at
-  ticks_rise n t at later =
-      let set = each-is-set d.header is in
-      let mono = tick-mono set.0 n t at later in
-      subst₂ (λ x y. x ≤ y) (set.1.tick_is n t) (set.1.tick_is n at) mono
+  ticks_rise n t at later = subst (λ k. daemon_tick d n t ≤ daemon_tick d n k) (let e : t + (at - t) ≡ at = omega (arith, later) in e)
+      ((keeps n).rises t (at - t))
 
   -- a daemon that runs on node n has come to this life; and so has the node in a run that has come to this history at this true time
   pub record Agrees (n : ℕ) (life : Life) (t : ℕ) (h : List Line) : Type 0 where
@@ -96,7 +94,8 @@ module _ (d : Daemons) (is : IsHeader d.header) where
     pub began : life.origin ≤ daemon_tick d n t
     pub ports : (session_of (d.words n) life).past.ports ≡ daemon_ports d n
     pub up_is : up (dids (of n h)) ≡ true
-    pub alike : AlikeNodes (renaming_on nets n life.origin) (tells_apart d is n low life.origin) life.origin (session_of (d.words n) life).past (past_of d.header (rests n) h)
+    pub alike : AlikeNodes (renaming_on nets n life.origin) (tells_apart d is n life.origin) life.origin (session_of (d.words n) life).past
+        (past_of d.header (rests n) h)
 
   -- nothing changes for it while its node does nothing
   agrees_later : (n : ℕ) (life : Life) (t at : ℕ) (h h' : List Line) → of n h' ≡ of n h → t ≤ at → Agrees n life t h → Agrees n life at h'
@@ -106,7 +105,7 @@ module _ (d : Daemons) (is : IsHeader d.header) where
     began = (let one = a.began in let two = ticks_rise n t at later in omega (arith, one, two));
     ports = a.ports;
     up_is = ap (λ l. up (dids l)) same ∙ a.up_is;
-    alike = later_lines (tells_apart d is n a.low life.origin) a.alike (rests n) (of n h') same;
+    alike = later_lines (tells_apart d is n life.origin) a.alike (rests n) (of n h') same;
   }
 
   -- what a daemon is given in a turn in which this comes
@@ -135,34 +134,42 @@ module _ (d : Daemons) (is : IsHeader d.header) where
   pub all_still : (w : Network) (t at : ℕ) (h : List Line) → t ≤ at → AllAgree w t h → AllAgree w at h
   all_still w t at h later a = record { history = a.history; nodes = λ n. later-one n (w.lives n) t at h h refl later (a.nodes n); sends = a.sends }
 
-  -- a daemon has stepped, and its node in the run
-  pub acted_agrees : (w : Network) (t : ℕ) (h : List Line) (step : Step) (now : Life) (acts : List Placed) → AllAgree w t h → t ≤ step.at →
-      Agrees step.node now step.at (stepped step (step_tick d.header step) (named_acts nets step.node now.origin acts) h) →
+  -- a daemon has stepped, or ended, and its node in the run has stepped
+  pub acted_agrees : (w : Network) (t : ℕ) (h : List Line) (k : ℕ) (step : Step) (now : Life) (acts : List Placed) → AllAgree w t h → t ≤ step.at →
+      Agrees step.node now step.at (stepped step (tick_by d.clocks step) (named_acts nets step.node now.origin acts) h) →
       AllMatch d (map (sent_by step.node) (sends_of acts)) (posts_from step.at step.node (named_acts nets step.node now.origin acts)) →
-      AllAgree (acted d step now acts w) step.at (stepped step (step_tick d.header step) (named_acts nets step.node now.origin acts) h)
-  acted_agrees w t h step now acts a later own sends =
-      let x : ℕ = step_tick d.header step in
+      AllAgree (acted d k step now acts w) step.at (stepped step (tick_by d.clocks step) (named_acts nets step.node now.origin acts) h)
+  acted_agrees w t h k step now acts a later own sends =
+      let x : ℕ = tick_by d.clocks step in
       let theirs : List Placed = named_acts nets step.node now.origin acts in
       record {
         history = ap (λ l. stepped step x theirs l) a.history;
         nodes = λ m. by_node m (m == step.node) refl;
-        sends = subst (λ l. AllMatch d (w.sent ++ map (sent_by step.node) (sends_of acts)) l) (sym (posts_stepped step x theirs h)) (match_append d a.sends sends);
+        sends = subst (λ l. AllMatch d (w.sent ++ sent_until (d.tries k) (map (sent_by step.node) (sends_of acts))) l) (sym (posts_stepped step x theirs h))
+            (match_append d a.sends (until_match d (d.tries k) sends));
       } where
-        by_node : (m : ℕ) (b : Bool) → (m == step.node) ≡ b → OneAgrees m (if b then Some now else w.lives m) step.at (stepped step (step_tick d.header step) (named_acts nets step.node now.origin acts) h)
-        by_node m true e = subst (λ k. Agrees k now step.at (stepped step (step_tick d.header step) (named_acts nets step.node now.origin acts) h)) (sym (eqb-true m step.node e)) own
+        more : List Line
+        more = stepped step (tick_by d.clocks step) (named_acts nets step.node now.origin acts) h
+
+        by_end : (o : Option ℕ) → OneAgrees step.node (life_until o now) step.at more
+        by_end None = own
+        by_end (Some n) = tt
+
+        by_node : (m : ℕ) (b : Bool) → (m == step.node) ≡ b → OneAgrees m (if b then life_until (d.tries k) now else w.lives m) step.at more
+        by_node m true e = subst (λ n. OneAgrees n (life_until (d.tries k) now) step.at more) (sym (eqb-true m step.node e)) (by_end (d.tries k))
         by_node m false e =
             let off = ne_eqb step.node m (λ same. eqb-false m step.node e (sym same)) in
-            let more : List Line = stepped step (step_tick d.header step) (named_acts nets step.node now.origin acts) h in
-            later-one m (w.lives m) t step.at h more (stepped_other m step (step_tick d.header step) (named_acts nets step.node now.origin acts) h off) later (a.nodes m)
+            later-one m (w.lives m) t step.at h more
+            (stepped_other m step (tick_by d.clocks step) (named_acts nets step.node now.origin acts) h off) later (a.nodes m)
 
   -- a daemon takes a turn, and its node what comes to it: both act the same, and agree after it
   pub turn_agrees_all : (w : Network) (t : ℕ) (h : List Line) (k : ℕ) (step : Step) (a : Arrival) (life : Life) (g : NodeGiven) → AllAgree w t h → t ≤ step.at → w.lives step.node ≡ Some life →
       renamed_given (renaming_on nets step.node life.origin) (given step.node life a) ≡ g → ComesOn (session_of (d.words step.node) life).past (given step.node life a) →
-      AllAgree (turns d k step a (w.lives step.node) w) step.at (joins (Some (stepping d.header h (answers_all g) step)) h)
+      AllAgree (turns d k step a (w.lives step.node) w) step.at (joins (Some (stepping d.clocks d.header h (answers_all g) step)) h)
   turn_agrees_all w t h k step a life g all later lives same comes =
       let n : ℕ = step.node in
       let own : Agrees n life t h = subst (λ o. OneAgrees n o t h) lives (all.nodes n) in
-      let x : ℕ = step_tick d.header step in
+      let x : ℕ = tick_by d.clocks step in
       let y : ℕ = x - life.origin in
       let before = own.began in
       let rise = ticks_rise n t step.at later in
@@ -173,7 +180,7 @@ module _ (d : Daemons) (is : IsHeader d.header) where
       let early : ℕ = d.early k in
       let now : Life = turn_told a early y life in
       let rs : Port → Renaming = renaming_on nets n life.origin in
-      let apart : (q : Port) → TellsApart (rs q) = tells_apart d is n own.low life.origin in
+      let apart : (q : Port) → TellsApart (rs q) = tells_apart d is n life.origin in
       let p : NodePast = turn_begun given_is y past in
       let acts : List Placed = turn_acts s life now in
       let acts_are : acts ≡ answers_all given_is y p = acts_told s own.reached a early y in
@@ -199,22 +206,24 @@ module _ (d : Daemons) (is : IsHeader d.header) where
         alike = subst (λ (z : Session). AlikeNodes rs apart life.origin z.past (past_of d.header (rests n) (stepped step x theirs h))) (sym later_session)
             (later_lines apart both.after (rests n) (of n (stepped step x theirs h)) (own_lines step x (y + life.origin) theirs ours h tick named));
       } in
-      let acts_same : theirs ≡ acts_by d.header h (answers_all g) step = named ∙ ap₂ (λ z c. answers_all c z (in_node_step step z here)) tick same in
-      let sends = acts_match d is n own.low life.origin past.may step.at acts known in
-      subst (λ o. AllAgree (turns d k step a o w) step.at (joins (Some (stepping d.header h (answers_all g) step)) h)) (sym lives)
-      (subst (λ l. AllAgree (turned_to d step life now w) step.at (stepped step x l h)) acts_same (acted_agrees w t h step now acts all later after sends))
+      let acts_same : theirs ≡ acts_by d.clocks d.header h (answers_all g) step = named ∙ ap₂ (λ z c. answers_all c z (in_node_step step z here)) tick same in
+      let sends = acts_match d is n life.origin past.may step.at acts known in
+      subst (λ o. AllAgree (turns d k step a o w) step.at (joins (Some (stepping d.clocks d.header h (answers_all g) step)) h)) (sym lives)
+      (subst (λ l. AllAgree (turned_to d k step life now w) step.at (stepped step x l h)) acts_same (acted_agrees w t h k step now acts all later after sends))
 
   -- a daemon starts, and its node boots
-  pub boot_agrees : AreStarted d → (w : Network) (t : ℕ) (h : List Line) (k at n word : ℕ) → AllAgree w t h → t ≤ at → n < length d.header.nodes → d.origin k ≤ daemon_tick d n at →
-      AllAgree (starts d k at n word w) at (joins (Some (stepping d.header h boots_all (boot_step d.header at n word))) h)
-  boot_agrees started w t h k at n word all later low began =
-      let step : Step = boot_step d.header at n word in
+  boot-agrees : AreStarted d → (w : Network) (t k at n word : ℕ) → AllAgree w t w.history → t ≤ at → n < length d.header.nodes →
+      d.origin k ≤ daemon_tick d n at →
+      AllAgree (starts d k at n word w) at (joins (Some (stepping d.clocks d.header w.history boots_all (boot_by d.clocks w.history at n word))) w.history)
+  boot-agrees started w t k at n word all later low began =
+      let h : List Line = w.history in
+      let step : Step = boot_by d.clocks h at n word in
       let x : ℕ = daemon_tick d n at in
       let origin : ℕ = d.origin k in
       let y : ℕ = x - origin in
       let tick : y + origin ≡ x = omega (arith, began) in
-      let wall = node_wall d n at in
-      let now : Life = life_from d k at n word (length w.sent) in
+      let wall = node_wall d n (next_life w n) at in
+      let now : Life = life_from d k at n word w in
       let c = daemon_config (d.words n) in
       let first : Step = record { at = y; node = 0; cause = Booted word wall } in
       let base : NodePast = record { name = c.name; may = c.may; strict = c.strict; ports = c.ports; step = first; lines = [] } in
@@ -223,10 +232,10 @@ module _ (d : Daemons) (is : IsHeader d.header) where
       let p' : NodePast = in_node_step step (y + origin) here in
       let acts : List Placed = first_acts (d.words n) y wall word in
       let ports : base.ports ≡ daemon_ports d n = ap (λ l. setups_from 0 l) (started n low).ports in
-      let configs = configs_alike d is n low (started n low) origin step h refl base refl refl refl ports in
+      let configs = configs_alike d is n (started n low) origin step h refl base refl refl refl ports in
       let same : SameBoot first step = record { word = word; wall = wall; first = refl; second = refl } in
       let rs : Port → Renaming = renaming_on nets n origin in
-      let apart : (q : Port) → TellsApart (rs q) = tells_apart d is n low origin in
+      let apart : (q : Port) → TellsApart (rs q) = tells_apart d is n origin in
       let b = boots_are_alike rs apart origin y first step base here configs same in
       let ours : List Placed = boots_all (y + origin) p' in
       let theirs : List Placed = named_acts nets n origin acts in
@@ -244,6 +253,14 @@ module _ (d : Daemons) (is : IsHeader d.header) where
       } in
       let known = subst (λ (l : List PortSetup). AllKnown (λ q. naming_of (rs q) (apart q) (slice_index_or l q.0 no_port) base.may) b.rest) ports b.known in
       let sends : AllMatch d (map (sent_by n) (sends_of acts)) (posts_from at n theirs) =
-      subst (λ l. AllMatch d (map (sent_by n) (sends_of l)) (posts_from at n (map (renamed_placed rs) l))) (sym b.is) (acts_match d is n low origin base.may at b.rest known) in
-      let all_acts : theirs ≡ acts_by d.header h boots_all step = named ∙ ap (λ z. boots_all z (in_node_step step z here)) tick in
-      subst (λ l. AllAgree (starts d k at n word w) at (stepped step x l h)) all_acts (acted_agrees w t h step now acts all later after sends)
+      subst (λ l. AllMatch d (map (sent_by n) (sends_of l)) (posts_from at n (map (renamed_placed rs) l))) (sym b.is)
+      (acts_match d is n origin base.may at b.rest known) in
+      let all_acts : theirs ≡ acts_by d.clocks d.header h boots_all step = named ∙ ap (λ z. boots_all z (in_node_step step z here)) tick in
+      subst (λ l. AllAgree (starts d k at n word w) at (stepped step x l h)) all_acts (acted_agrees w t h k step now acts all later after sends)
+
+  pub boot_agrees : AreStarted d → (w : Network) (t : ℕ) (h : List Line) (k at n word : ℕ) → AllAgree w t h → t ≤ at → n < length d.header.nodes →
+      d.origin k ≤ daemon_tick d n at →
+      AllAgree (starts d k at n word w) at (joins (Some (stepping d.clocks d.header h boots_all (boot_by d.clocks h at n word))) h)
+  boot_agrees started w t h k at n word all later low began =
+      subst (λ g. AllAgree (starts d k at n word w) at (joins (Some (stepping d.clocks d.header g boots_all (boot_by d.clocks g at n word))) g)) all.history
+      (boot-agrees started w t k at n word (subst (λ g. AllAgree w t g) (sym all.history) all) later low began)

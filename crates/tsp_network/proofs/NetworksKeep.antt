@@ -1,26 +1,29 @@
 -- Every network of daemons keeps the promises: what can happen in a run can happen in it; what a daemon's session has tried is what the network
 -- has of it; and the numbers of a daemon's peers are the places of their addresses.
-use Rattle.std.proofs.Common.{option_map, sym, ap, subst, arith, inl, inr, ◌∙◌, ◌≡◌, ℕ, zero, suc, ◌<◌, ◌==◌, nat_lt, Bool, true, false, if◌then◌else◌, List, [], ◌∷◌, length, Option, None, Some, slice_get, refl, eq-eqb, eqb-true, append-nil, ◌-◌, ◌≤◌, ◌++◌, map, filter, drop, ◌+◌, flat_map, slice_index_or}
+use Rattle.std.proofs.Common.{option_map, sym, ap, subst, arith, inl, inr, ◌∙◌, ◌≡◌, ℕ, zero, suc, ◌<◌, ◌==◌, nat_lt, Bool, true, false, if◌then◌else◌, List, [], ◌∷◌, length, Option, None, Some, slice_get, refl, eq-eqb, eqb-true, append-nil, ◌-◌, ◌≤◌, ◌++◌, map, filter, drop, take, ◌&&◌, ◌+◌, flat_map, slice_index_or}
 use Rattle.std.proofs.lemmas.{List.drop-append-le, List.drop_all, List.map-append, List.length-map, Option.slice_get-get_or, Option.slice_get-map, Option.slice_get_cases}
 use Rattle.std.proofs.lemmas.{Bool.ltb-true, Bool.eqb-false, Bool.ne_eqb, List.Elements.All-head, List.Elements.filter-append}
 use Rattle.tsp_rules.specs.NodeRows.{NodePast, for_ports, nothing_at_all, on, reading_all, spread, ◌and_then◌}
 use Rattle.tsp_rules.specs.Values.{Placed, Event, BootAt, Turn, Take, Bytes, Boot, Port}
 use Rattle.tsp_rules.specs.GateRows.{all_ports, boots_all, boots_on}
-use Rattle.tsp_base.specs.Words.{IsHeader, Line, Step, dids, of, up, first_port, arms, puts, ◌followed_by◌, has_member}
+use Rattle.tsp_base.specs.Words.{HeaderValue, Line, Step, dids, of, up, first_port, arms, puts, ◌followed_by◌, has_member}
 use Rattle.tsp_base.specs.declared.event.EventFault.TheVariants.{NoDatagram}
 use Rattle.tsp_run.proofs.RefusalLemmas.{CanHappen as CanBe, can_happen, first_of-none, up-down}
-use Rattle.tsp_run.specs.Refusals.{down, impossible, node_in, no_datagram, scene, time_back}
-use Rattle.tsp_run.specs.{Run.boot_step, Run.goes_to, Run.last_at, Run.posts, Run.run, Run.step_tick, declared.address.Address.Address}
-use Rattle.tsp_run.proofs.{PossibleRun.possible_before, RunPremises.possible_runs_keep_premises, RunPromises.possible-runs-keep-promises}
-use Rattle.tsp_run.specs.{Networks.networks, Networks.network_from, Possible.Possible, Promises.Promises, declared.posted.Posted.Posted}
+use Rattle.tsp_run.specs.Refusals.{down, impossible, node_in, no_datagram, time_back}
+use Rattle.tsp_run.specs.Clocked.{Clocks, IsSetUp, KeptByEvents, PossibleBy, SetByClocks, boot_by, run_by, scene_by, tick_by}
+use Rattle.tsp_run.specs.{Run.goes_to, Run.last_at, Run.posts, Run.run, declared.address.Address.Address}
+use Rattle.tsp_run.proofs.{PossibleRun.possible_before, RunPremises.clocked_runs_keep_premises, RunPromises.clocked_runs_keep_promises}
+use Rattle.tsp_run.specs.{Networks.networks, Networks.network_from, Promises.Promises, declared.posted.Posted.Posted}
 use Rattle.tsp_run.{proofs.NetworkLemmas.some_same, proofs.RunLemmas.stepped_other, specs.Ranges.IsInRange}
-use Rattle.tsp_network.proofs.NetworkRuns.{Nothing, Outcome, RunAgrees, Starts, Turns, outcome, event_agrees, run_agrees, longer}
-use Rattle.tsp_network.specs.Kept.{tried_by, IsSent, NetworksKeepPromises, NumbersAreAddresses, AllSuit, RunsAreNetworks, Suits}
-use Rattle.tsp_network.specs.Networks.{Network, Sent, acted, named_acts, network, life_from, daemon_tick, node_wall, sent_by}
+use Rattle.tsp_network.proofs.NetworkRuns.{Running, Nothing, Outcome, RunAgrees, Starts, Turns, outcome, event_agrees, run_agrees, longer}
+use Rattle.tsp_network.specs.Kept.{HasTurn, tried_by, IsSent, NetworksKeepPromises, SchedulesAreKept, NumbersAreAddresses, AllSuit, RunsAreNetworks, Suits, TriesFirst}
+use Rattle.tsp_network.specs.Networks.{Network, Sent, acted, named_acts, network, life_from, daemon_tick, next_life, node_wall, first_sent, life_until, sent_by, sent_until, unsent}
 use Rattle.tsp_network.specs.Rosters.{destination, count_below, neighbours, neighbours_on, number_for, others_in, place_in}
 use Rattle.tsp_network.specs.Lives.{AreStarted, Daemons, Life, first_acts, session_of, turn_told, turn_acts, addresses}
 use Rattle.tsp_network.proofs.SetUpLemmas.{AllMatch, Matches, MoreMatch, NoneMatch, match_length, match_at}
 use Rattle.tsp_network.proofs.NetworkAgrees.{AllAgree, Began, Reached, Went, acts_told, session_told}
+use Rattle.tsp_promises.specs.Setting.{KeepsTime}
+use Rattle.tsp_run.proofs.OwnClocks.{kept_own, runs_by_own_clocks, set_own}
 use Rattle.tsp_network.specs.Events.{AllHappen, CanHappen, IsNetwork, IsRunning, RunsAt, RunsFor}
 use Rattle.tsp_network.proofs.RosterLemmas.{length_neighbours, none_some, place_is}
 use Rattle.tsp_io.specs.{Links.Tried, declared.addr.Addr.Addr}
@@ -42,112 +45,186 @@ send_at d (MoreMatch m a) (suc k) p e = let r = send_at d a k p e in record { se
 abbrev pub IsQuiet : Network → Type 0
 IsQuiet w = (n : ℕ) → w.lives n ≡ None → of n w.history ≡ []
 
-acted-quiet : (d : Daemons) (step : Step) (life : Life) (acts : List Placed) (w : Network) → IsQuiet w → IsQuiet (acted d step life acts w)
-acted-quiet d step life acts w q n e = by_node (n == step.node) refl e where
-  by_node : (b : Bool) → (n == step.node) ≡ b → (if b then Some life else w.lives n) ≡ None → of n (acted d step life acts w).history ≡ []
-  by_node true same e = let bad : ⊥ = cc in absurd bad
+acted-quiet : (d : Daemons) (k : ℕ) (step : Step) (life : Life) (acts : List Placed) (w : Network) → d.tries k ≡ None → IsQuiet w →
+    IsQuiet (acted d k step life acts w)
+acted-quiet d k step life acts w going q n e = by_node (n == step.node) refl e where
+  by_node : (b : Bool) → (n == step.node) ≡ b → (if b then life_until (d.tries k) life else w.lives n) ≡ None → of n (acted d k step life acts w).history ≡ []
+  by_node true same e = let alive : Some life ≡ None = subst (λ o. life_until o life ≡ None) going e in let bad : ⊥ = cc in absurd bad
   by_node false other e =
-      stepped_other n step (step_tick d.header step) (named_acts (networks d.header) step.node life.origin acts) w.history (ne_eqb step.node n (λ same. eqb-false n step.node other (sym same))) ∙ q n e
+      stepped_other n step (tick_by d.clocks step) (named_acts (networks d.header) step.node life.origin acts) w.history
+      (ne_eqb step.node n (λ same. eqb-false n step.node other (sym same))) ∙ q n e
 
-event-quiet : {d : Daemons} {k : ℕ} {w v : Network} → IsQuiet w → Outcome d k w v → IsQuiet v
-event-quiet {d} {k} {w} q (Starts at n word) = acted-quiet d (boot_step d.header at n word) _ (first_acts (d.words n) (daemon_tick d n at - d.origin k) (node_wall d n at) word) w q
-event-quiet {d} {k} {w} q (Turns step a life there) = acted-quiet d step _ (turn_acts (d.words step.node) life (turn_told a (d.early k) (step_tick d.header step - life.origin) life)) w q
-event-quiet q Nothing = q
+event-quiet : {d : Daemons} {k : ℕ} {w v : Network} → d.tries k ≡ None → IsQuiet w → Outcome d k w v → IsQuiet v
+event-quiet {d} {k} {w} going q (Starts at n word) =
+    acted-quiet d k (boot_by d.clocks w.history at n word) _
+    (first_acts (d.words n) (daemon_tick d n at - d.origin k) (node_wall d n (next_life w n) at) word) w going q
+event-quiet {d} {k} {w} going q (Turns step a life there) =
+    acted-quiet d k step _ (turn_acts (d.words step.node) life (turn_told a (d.early k) (tick_by d.clocks step - life.origin) life)) w going q
+event-quiet going q Nothing = q
 
-pub quiet : (d : Daemons) (events : List Event) → IsQuiet (network d events)
-quiet d [] = λ n e. refl
-quiet d (e ∷ before) = event-quiet (quiet d before) (outcome d (length before) (network d before) e)
+-- where no daemon ends in a turn
+pub quiet : (d : Daemons) → ((k : ℕ) → d.tries k ≡ None) → (events : List Event) → IsQuiet (network d events)
+quiet d going [] = λ n e. refl
+quiet d going (e ∷ before) = event-quiet (going (length before)) (quiet d going before) (outcome d (length before) (network d before) e)
+
+-- each of these sends was tried
+abbrev AllWent : List Sent → Type 0
+AllWent [] = Unit {0}
+AllWent (s ∷ rest) = (s.went ≡ true) × AllWent rest
+
+went-more : (ss ts : List Sent) → AllWent ss → AllWent ts → AllWent (ss ++ ts)
+went-more [] ts a b = b
+went-more (s ∷ ss) ts a b = (a.0, went-more ss ts a.1 b)
+
+went-by : (n : ℕ) (ts : List Tried) → AllWent (map (sent_by n) ts)
+went-by n [] = tt
+went-by n (t ∷ ts) = (refl, went-by n ts)
+
+went-at : (ss : List Sent) (k : ℕ) (s : Sent) → AllWent ss → slice_get ss k ≡ Some s → s.went ≡ true
+went-at [] k s all e = let bad : ⊥ = cc in absurd bad
+went-at (r ∷ ss) zero s all e = ap (λ (z : Sent). z.went) (sym (some_same e)) ∙ all.0
+went-at (r ∷ ss) (suc k) s all e = went-at ss k s all.1 e
+
+acted-went : (d : Daemons) (k : ℕ) (step : Step) (life : Life) (acts : List Placed) (w : Network) → d.tries k ≡ None → AllWent w.sent →
+    AllWent (acted d k step life acts w).sent
+acted-went d k step life acts w going all = subst (λ o. AllWent (w.sent ++ sent_until o (map (sent_by step.node) (sends_of acts)))) (sym going)
+    (went-more w.sent (map (sent_by step.node) (sends_of acts)) all (went-by step.node (sends_of acts)))
+
+event-went : {d : Daemons} {k : ℕ} {w v : Network} → d.tries k ≡ None → AllWent w.sent → Outcome d k w v → AllWent v.sent
+event-went {d} {k} {w} going all (Starts at n word) =
+    acted-went d k (boot_by d.clocks w.history at n word) (life_from d k at n word w)
+    (first_acts (d.words n) (daemon_tick d n at - d.origin k) (node_wall d n (next_life w n) at) word) w going all
+event-went {d} {k} {w} going all (Turns step a life there) =
+    acted-went d k step (turn_told a (d.early k) (tick_by d.clocks step - life.origin) life)
+    (turn_acts (d.words step.node) life (turn_told a (d.early k) (tick_by d.clocks step - life.origin) life)) w going all
+event-went going all Nothing = all
+
+-- where no daemon ends in a turn
+all-went : (d : Daemons) → ((k : ℕ) → d.tries k ≡ None) → (events : List Event) → AllWent (network d events).sent
+all-went d going [] = tt
+all-went d going (e ∷ before) = event-went (going (length before)) (all-went d going before) (outcome d (length before) (network d before) e)
 
 -- a daemon runs on each node that is up
-pub runs_up : (w : Network) (h : List Line) (n : ℕ) → w.history ≡ h → IsQuiet w → up (dids (of n h)) ≡ true → IsRunning (w.lives n)
+pub runs_up : (w : Network) (h : List Line) (n : ℕ) → w.history ≡ h → IsQuiet w → up (dids (of n h)) ≡ true → Running (w.lives n)
 runs_up w h n same q up_is = by_life (w.lives n) refl where
-  by_life : (o : Option Life) → w.lives n ≡ o → IsRunning o
+  by_life : (o : Option Life) → w.lives n ≡ o → Running (w.lives n)
   by_life None e =
       let none : of n h ≡ [] = ap (of n) (sym same) ∙ q n e in
       let off : up (dids (of n h)) ≡ false = ap (λ l. up (dids l)) none in
       let bad : ⊥ = cc in
       absurd bad
-  by_life (Some life) e = tt
+  by_life (Some life) e = record { life = life; is = e }
+
+-- and may take a turn that is left to it
+may-turn : (d : Daemons) (w : Network) (n : ℕ) → Running (w.lives n) → HasTurn d w n → IsRunning d n (w.lives n)
+may-turn d w n r has = subst (λ o. IsRunning d n o) (sym r.is) (has r.life r.is)
 
 -- what isn't impossible takes a datagram that was posted
-known-datagram : (header : _) (before : List Event) (at k : ℕ) → impossible (scene header before) (Take at k) ≡ None → k < length (posts (run header before))
-known-datagram header before at k none =
-    let s = scene header before in
+known-datagram : (clocks : Clocks) (header : HeaderValue) (before : List Event) (at k : ℕ) → impossible (scene_by clocks header before) (Take at k) ≡ None →
+    k < length (posts (run_by clocks header before))
+known-datagram clocks header before at k none =
+    let s = scene_by clocks header before in
     let a = first_of-none (time_back at s.last) _ none in
     let b = first_of-none None _ a.1 in
     let c = first_of-none (no_datagram (length s.posts) (Take at k)) _ b.1 in
     ltb-true k (length s.posts) (by_case (nat_lt k (length s.posts)) c.0) where
-      by_case : (b : Bool) → (if b then None else Some (NoDatagram k (length (posts (run header before))))) ≡ None → b ≡ true
+      by_case : (b : Bool) → (if b then None else Some (NoDatagram k (length (posts (run_by clocks header before))))) ≡ None → b ≡ true
       by_case true e = refl
       by_case false e = let bad : ⊥ = cc in absurd bad
 
-module _ (d : Daemons) (header_is : IsHeader d.header) (started : AreStarted d) where
-  take-happens : (before : List Event) (at k : ℕ) → AllAgree d header_is (network d before) (last_at before) (run d.header before) → impossible (scene d.header before) (Take at k) ≡ None → RunsFor d (network d before) (slice_get (network d before).sent k)
-  take-happens before at k a can = elim (slice_get_cases (posts h) k).1 [
+module _ (d : Daemons) (header_is : IsSetUp d.header) (keeps : (n : ℕ) → KeepsTime d.header.drift (d.clocks.tick n)) (started : AreStarted d)
+    (going : (k : ℕ) → d.tries k ≡ None) where
+  take-happens : (before : List Event) (at k : ℕ) → AllAgree d header_is keeps (network d before) (last_at before) (run_by d.clocks d.header before) →
+      impossible (scene_by d.clocks d.header before) (Take at k) ≡ None → Suits d (length before) (network d before) (Take at k) →
+      RunsFor d (network d before) (slice_get (network d before).sent k)
+  take-happens before at k a can suits = elim (slice_get_cases (posts h) k).1 [
     | inl c ↦
         let r = send_at d a.sends k c.0 c.2 in
-        subst (λ o. RunsFor d w o) (sym r.there) (by_address r.send c.0 c.2 r.matches (destination nets r.send.from r.send.tried.0) refl)
-    | inr c ↦ let few = known-datagram d.header before at k can in let past = c.0 in let bad : ⊥ = omega (arith, few, past) in absurd bad
+        subst (λ o. RunsFor d w o) (sym r.there) (
+          went-at w.sent k r.send (all-went d going before) r.there,
+          by_address r.send c.0 c.2 r.matches (λ to goes. suits r.send to r.there goes)
+              (destination nets r.send.from r.send.tried.0) refl,
+        )
+    | inr c ↦ let few = known-datagram d.clocks d.header before at k can in let past = c.0 in let bad : ⊥ = omega (arith, few, past) in absurd bad
   ] where
     w : Network
     w = network d before
 
     h : List Line
-    h = run d.header before
+    h = run_by d.clocks d.header before
 
     nets : List (List ℕ)
     nets = networks d.header
 
-    by_address : (s : Sent) (p : Posted) → slice_get (posts h) k ≡ Some p → Matches d s p → (o : Option Address) → destination nets s.from s.tried.0 ≡ o → RunsAt w o
-    by_address s p there m None e = tt
-    by_address s p there m (Some to) e =
+    by_address : (s : Sent) (p : Posted) → slice_get (posts h) k ≡ Some p → Matches d s p →
+        ((to : Address) → destination nets s.from s.tried.0 ≡ Some to → HasTurn d w to.node) → (o : Option Address) →
+        destination nets s.from s.tried.0 ≡ o → RunsAt d w o
+    by_address s p there m has None e = tt
+    by_address s p there m has (Some to) e =
         let goes : goes_to nets (slice_get (posts h) k) ≡ Some to = ap (goes_to nets) there ∙ sym m.goes ∙ e in
-        let free : down (scene d.header before).up (Some to.node) ≡ None = ap (λ z. down (scene d.header before).up (node_in z)) (sym goes) ∙ (can_happen (scene d.header before) (Take at k) can).up in
-        runs_up w h to.node a.history (quiet d before) (up-down (scene d.header before) to.node free)
+        let free : down (scene_by d.clocks d.header before).up (Some to.node) ≡ None =
+        ap (λ z. down (scene_by d.clocks d.header before).up (node_in z)) (sym goes)
+        ∙ (can_happen (scene_by d.clocks d.header before) (Take at k) can).up in
+        may-turn d w to.node (runs_up w h to.node a.history (quiet d going before) (up-down (scene_by d.clocks d.header before) to.node free)) (has to e)
 
-  happens-so : (before : List Event) (e : Event) → AllAgree d header_is (network d before) (last_at before) (run d.header before) → impossible (scene d.header before) e ≡ None → IsInRange e → Suits d (length before) e → CanHappen d (length before) (network d before) e
-  happens-so before (BootAt at node word) a can range suits = ((can_happen (scene d.header before) (BootAt at node word) can).node, range, suits)
-  happens-so before (Turn at node) a can range suits = runs_up (network d before) (run d.header before) node a.history (quiet d before) (up-down (scene d.header before) node (can_happen (scene d.header before) (Turn at node) can).up)
-  happens-so before (Take at k) a can range suits = take-happens before at k a can
+  happens-so : (before : List Event) (e : Event) → AllAgree d header_is keeps (network d before) (last_at before) (run_by d.clocks d.header before) →
+      impossible (scene_by d.clocks d.header before) e ≡ None → IsInRange e → Suits d (length before) (network d before) e →
+      CanHappen d (length before) (network d before) e
+  happens-so before (BootAt at node word) a can range suits =
+      ((can_happen (scene_by d.clocks d.header before) (BootAt at node word) can).node, range, suits.0, suits.1)
+  happens-so before (Turn at node) a can range suits =
+      may-turn d (network d before) node (runs_up (network d before) (run_by d.clocks d.header before) node a.history (quiet d going before)
+      (up-down (scene_by d.clocks d.header before) node (can_happen (scene_by d.clocks d.header before) (Turn at node) can).up)) suits
+  happens-so before (Take at k) a can range suits = take-happens before at k a can suits
   happens-so before (Bytes at node port from octets) a can range suits =
-      let s = scene d.header before in
+      let s = scene_by d.clocks d.header before in
       let k : CanBe s (Bytes at node port from octets) = can_happen s (Bytes at node port from octets) can in
       let all = length_neighbours node (networks d.header) in
       let has = k.node.1 in
-      (runs_up (network d before) (run d.header before) node a.history (quiet d before) (up-down s node k.up), omega (arith, all, has), suits.0, suits.1, range)
+      let few : port.0 < length (neighbours node (networks d.header)) = omega (arith, all, has) in
+      let runs = runs_up (network d before) (run_by d.clocks d.header before) node a.history (quiet d going before) (up-down s node k.up) in
+      (may-turn d (network d before) node runs suits.2, few, suits.0, suits.1, range)
 
   -- the events of a run, as a network's
   record Comes (events : List Event) : Type 0 where
     pub happen : AllHappen d events
-    pub few : length (network d events).sent ≡ length (posts (run d.header events))
-    pub agree : RunAgrees d header_is started events
+    pub few : length (network d events).sent ≡ length (posts (run_by d.clocks d.header events))
+    pub agree : RunAgrees d header_is keeps started events
 
-  comes : (events : List Event) → AllSuit d events → Possible d.header events → Comes events
-  comes [] suits p = record { happen = tt; few = refl; agree = run_agrees d header_is started [] tt (omega arith) }
+  comes : (events : List Event) → AllSuit d events → PossibleBy d.clocks d.header events → Comes events
+  comes [] suits p = record { happen = tt; few = refl; agree = run_agrees d header_is keeps started [] tt (omega arith) }
   comes (e ∷ before) suits p =
-      let older = possible_before d.header e before p in
+      let older = possible_before d.clocks d.header e before p in
       let old = comes before suits.1 older in
       let can = p.happens.0 in
-      let later = (can_happen (scene d.header before) e can).time in
+      let later = (can_happen (scene_by d.clocks d.header before) e can).time in
       let now = happens-so before e old.agree.agree can (All-head IsInRange e before p.ranges) suits.0 in
       let happen : AllHappen d (e ∷ before) = (later, now, old.happen) in
-      let next = event_agrees d header_is started before e older later old.agree.agree now in
+      let next = event_agrees d header_is keeps started before e older later old.agree.agree now in
       let same = match_length d next.agree.sends in
       let few = p.few in
-      record { happen = happen; few = same; agree = run_agrees d header_is started (e ∷ before) happen (omega (arith, same, few)) }
+      record { happen = happen; few = same; agree = run_agrees d header_is keeps started (e ∷ before) happen (omega (arith, same, few)) }
 
-pub run_is_network : (d : Daemons) (events : List Event) → AreStarted d → AllSuit d events → Possible d.header events → IsNetwork d events
-run_is_network d events started suits p =
-    let c = comes d p.header_is started events suits p in
+pub run_is_network : (d : Daemons) (events : List Event) → AreStarted d → ((k : ℕ) → d.tries k ≡ None) → AllSuit d events →
+    PossibleBy d.clocks d.header events → IsNetwork d events
+run_is_network d events started going suits p =
+    let c = comes d p.header_is p.keeps started going events suits p in
     let same = c.few in
     let few = p.few in
-    record { header_is = p.header_is; started = started; happen = c.happen; few = omega (arith, same, few) }
+    record { header_is = p.header_is; keeps = p.keeps; started = started; happen = c.happen; few = omega (arith, same, few) }
+
+-- a daemon that runs has a turn left
+has-turn : (d : Daemons) (w : Network) (n : ℕ) → IsRunning d n (w.lives n) → HasTurn d w n
+has-turn d w n r life there = subst (λ o. IsRunning d n o) there r
 
 -- what happens suits the daemons
-suits-so : (d : Daemons) (k : ℕ) (w : Network) (e : Event) → CanHappen d k w e → Suits d k e
-suits-so d k w (BootAt at node word) c = c.2
-suits-so d k w (Bytes at node port from octets) c = (c.2, c.3)
-suits-so d k w _ c = tt
+suits-so : (d : Daemons) (k : ℕ) (w : Network) (e : Event) → CanHappen d k w e → Suits d k w e
+suits-so d k w (BootAt at node word) c = (c.2, c.3)
+suits-so d k w (Turn at node) c = has-turn d w node c
+suits-so d k w (Take at number) c = λ s a there goes. (
+    let runs : (s.went ≡ true) × RunsAt d w (destination (networks d.header) s.from s.tried.0) = subst (λ o. RunsFor d w o) there c in
+    has-turn d w a.node (subst (λ o. RunsAt d w o) goes runs.1))
+suits-so d k w (Bytes at node port from octets) c = (c.2, c.3, has-turn d w node c.0)
 
 all-suit : (d : Daemons) (events : List Event) → AllHappen d events → AllSuit d events
 all-suit d [] all = tt
@@ -156,7 +233,10 @@ all-suit d (e ∷ before) all = (suits-so d (length before) (network d before) e
 pub runs_are_networks : RunsAreNetworks
 runs_are_networks = record {
   all = run_is_network;
-  only = λ d events n. (all-suit d events n.happen, (let few = n.few in run_agrees d n.header_is n.started events n.happen (omega (arith, few))).possible);
+  only = λ d events n. (
+    all-suit d events n.happen,
+    (let few = n.few in run_agrees d n.header_is n.keeps n.started events n.happen (omega (arith, few))).possible,
+  );
 }
 
 -- a node that boots sends nothing
@@ -171,15 +251,52 @@ boots-silent x p = let begun : NodePast = spread x p (on first_port (puts Boot) 
 
 -- what one node has tried of more sends
 more-tried : (n : ℕ) (ss ts : List Sent) → tried_by n (ss ++ ts) ≡ tried_by n ss ++ tried_by n ts
-more-tried n ss ts = ap (map (λ (s : Sent). s.tried)) (filter-append (λ (s : Sent). s.from == n) ss ts) ∙ map-append (λ (s : Sent). s.tried) (filter (λ (s : Sent). s.from == n) ss) (filter (λ (s : Sent). s.from == n) ts)
+more-tried n ss ts =
+    ap (map (λ (s : Sent). s.tried)) (filter-append (λ (s : Sent). s.went && (s.from == n)) ss ts)
+    ∙ map-append (λ (s : Sent). s.tried) (filter (λ (s : Sent). s.went && (s.from == n)) ss) (filter (λ (s : Sent). s.went && (s.from == n)) ts)
+
+-- of one send and more
+one-tried : (m : ℕ) (s : Sent) (rest : List Sent) (b : Bool) → (s.went && (s.from == m)) ≡ b →
+    tried_by m (s ∷ rest) ≡ (if b then s.tried ∷ tried_by m rest else tried_by m rest)
+one-tried m s rest true e = ap
+    (λ b. map (λ (z : Sent). z.tried)
+    (if b then s ∷ filter (λ (z : Sent). z.went && (z.from == m)) rest else filter (λ (z : Sent). z.went && (z.from == m)) rest)) e
+one-tried m s rest false e = ap
+    (λ b. map (λ (z : Sent). z.tried)
+    (if b then s ∷ filter (λ (z : Sent). z.went && (z.from == m)) rest else filter (λ (z : Sent). z.went && (z.from == m)) rest)) e
 
 own-tried : (n : ℕ) (ts : List Tried) → tried_by n (map (sent_by n) ts) ≡ ts
 own-tried n [] = refl
-own-tried n (t ∷ ts) = ap (λ b. map (λ (s : Sent). s.tried) (if b then sent_by n t ∷ filter (λ (s : Sent). s.from == n) (map (sent_by n) ts) else filter (λ (s : Sent). s.from == n) (map (sent_by n) ts))) (eq-eqb n n refl) ∙ ap (λ l. t ∷ l) (own-tried n ts)
+own-tried n (t ∷ ts) = one-tried n (sent_by n t) (map (sent_by n) ts) true (eq-eqb n n refl) ∙ ap (λ l. t ∷ l) (own-tried n ts)
+
+-- none of those that weren't tried
+none-tried : (n : ℕ) (ss : List Sent) → tried_by n (map unsent ss) ≡ []
+none-tried n [] = refl
+none-tried n (s ∷ ss) = one-tried n (unsent s) (map unsent ss) false refl ∙ none-tried n ss
+
+first-tried : (n m : ℕ) (ts : List Tried) → tried_by n (first_sent m (map (sent_by n) ts)) ≡ take m ts
+first-tried n zero [] = refl
+first-tried n zero (t ∷ ts) = none-tried n (map (sent_by n) (t ∷ ts))
+first-tried n (suc m) [] = refl
+first-tried n (suc m) (t ∷ ts) = one-tried n (sent_by n t) (first_sent m (map (sent_by n) ts)) true (eq-eqb n n refl) ∙ ap (λ l. t ∷ l) (first-tried n m ts)
 
 other-tried : (m n : ℕ) → (n == m) ≡ false → (ts : List Tried) → tried_by m (map (sent_by n) ts) ≡ []
 other-tried m n off [] = refl
-other-tried m n off (t ∷ ts) = ap (λ b. map (λ (s : Sent). s.tried) (if b then sent_by n t ∷ filter (λ (s : Sent). s.from == m) (map (sent_by n) ts) else filter (λ (s : Sent). s.from == m) (map (sent_by n) ts))) off ∙ other-tried m n off ts
+other-tried m n off (t ∷ ts) = one-tried m (sent_by n t) (map (sent_by n) ts) false off ∙ other-tried m n off ts
+
+other-first : (m n : ℕ) → (n == m) ≡ false → (k : ℕ) (ts : List Tried) → tried_by m (first_sent k (map (sent_by n) ts)) ≡ []
+other-first m n off zero ts = none-tried m (map (sent_by n) ts)
+other-first m n off (suc k) [] = refl
+other-first m n off (suc k) (t ∷ ts) = one-tried m (sent_by n t) (first_sent k (map (sent_by n) ts)) false off ∙ other-first m n off k ts
+
+other-until : (m n : ℕ) → (n == m) ≡ false → (o : Option ℕ) (ts : List Tried) → tried_by m (sent_until o (map (sent_by n) ts)) ≡ []
+other-until m n off None ts = other-tried m n off ts
+other-until m n off (Some k) ts = other-first m n off k ts
+
+until-nothing : (o : Option ℕ) → sent_until o [] ≡ []
+until-nothing None = refl
+until-nothing (Some zero) = refl
+until-nothing (Some (suc k)) = refl
 
 tried-more : (n k : ℕ) (ss ts : List Sent) → k ≤ length ss → tried_by n (drop k (ss ++ ts)) ≡ tried_by n (drop k ss) ++ tried_by n ts
 tried-more n k ss ts few = ap (tried_by n) (drop-append-le k ss ts few) ∙ more-tried n (drop k ss) ts
@@ -194,18 +311,23 @@ module _ (d : Daemons) where
   abbrev AllTried : Network → Type 0
   AllTried w = (n : ℕ) (life : Life) → w.lives n ≡ Some life → LifeTried n life w.sent
 
-  acted-tried : (step : Step) (now : Life) (acts : List Placed) (w : Network) → AllTried w → LifeTried step.node now (w.sent ++ map (sent_by step.node) (sends_of acts)) → AllTried (acted d step now acts w)
-  acted-tried step now acts w all own m life there = by_node (m == step.node) refl there where
+  acted-tried : (k : ℕ) (step : Step) (now : Life) (acts : List Placed) (w : Network) → AllTried w →
+      LifeTried step.node now (w.sent ++ map (sent_by step.node) (sends_of acts)) → AllTried (acted d k step now acts w)
+  acted-tried k step now acts w all own m life there = by_node (m == step.node) refl there where
     more : List Sent
-    more = map (sent_by step.node) (sends_of acts)
+    more = sent_until (d.tries k) (map (sent_by step.node) (sends_of acts))
 
-    by_node : (b : Bool) → (m == step.node) ≡ b → (if b then Some now else w.lives m) ≡ Some life → LifeTried m life (w.sent ++ more)
-    by_node true e there = subst (λ n. LifeTried n life (w.sent ++ more)) (sym (eqb-true m step.node e)) (subst (λ l. LifeTried step.node l (w.sent ++ more)) (some_same there) own)
+    by_end : (o : Option ℕ) → life_until o now ≡ Some life → LifeTried step.node life (w.sent ++ sent_until o (map (sent_by step.node) (sends_of acts)))
+    by_end None there = subst (λ l. LifeTried step.node l (w.sent ++ map (sent_by step.node) (sends_of acts))) (some_same there) own
+    by_end (Some n) there = let bad : ⊥ = cc in absurd bad
+
+    by_node : (b : Bool) → (m == step.node) ≡ b → (if b then life_until (d.tries k) now else w.lives m) ≡ Some life → LifeTried m life (w.sent ++ more)
+    by_node true e there = subst (λ n. LifeTried n life (w.sent ++ more)) (sym (eqb-true m step.node e)) (by_end (d.tries k) there)
     by_node false e there =
         let old = all m life there in
         let few = old.few in
         let long = longer w.sent more in
-        let silent = other-tried m step.node (ne_eqb step.node m (λ same. eqb-false m step.node e (sym same))) (sends_of acts) in
+        let silent = other-until m step.node (ne_eqb step.node m (λ same. eqb-false m step.node e (sym same))) (d.tries k) (sends_of acts) in
         let before : List Tried = tried_by m (drop life.sent_before w.sent) in
         record {
           reached = old.reached;
@@ -218,7 +340,7 @@ module _ (d : Daemons) where
   event-tried {k} {w} all (Turns step a life there) =
       let n : ℕ = step.node in
       let s = d.words n in
-      let y : ℕ = step_tick d.header step - life.origin in
+      let y : ℕ = tick_by d.clocks step - life.origin in
       let now : Life = turn_told a (d.early k) y life in
       let acts : List Placed = turn_acts s life now in
       let own = all n life there in
@@ -226,27 +348,43 @@ module _ (d : Daemons) where
       let long = longer w.sent (map (sent_by n) (sends_of acts)) in
       let before : List Tried = tried_by n (drop life.sent_before w.sent) in
       let after : (session_of s now).outside.tried ≡ (session_of s life).outside.tried ++ sends_of acts =
-      ap (λ (z : Session). z.outside.tried) (session_told s own.reached a (d.early k) y) ∙ ap (λ l. (session_of s life).outside.tried ++ sends_of l) (sym (acts_told s own.reached a (d.early k) y)) in
-      acted-tried step now acts w all (record {
+      ap (λ (z : Session). z.outside.tried) (session_told s own.reached a (d.early k) y)
+      ∙ ap (λ l. (session_of s life).outside.tried ++ sends_of l) (sym (acts_told s own.reached a (d.early k) y)) in
+      acted-tried k step now acts w all (record {
         reached = Went own.reached a (d.early k) y;
         few = omega (arith, few, long);
-        tried = after ∙ ap (λ l. l ++ sends_of acts) own.tried ∙ sym (tried-more n life.sent_before w.sent (map (sent_by n) (sends_of acts)) own.few ∙ ap (λ l. before ++ l) (own-tried n (sends_of acts)));
+        tried = after ∙ ap (λ l. l ++ sends_of acts) own.tried
+            ∙ sym (tried-more n life.sent_before w.sent (map (sent_by n) (sends_of acts)) own.few ∙ ap (λ l. before ++ l) (own-tried n (sends_of acts)));
       })
   event-tried {k} {w} all (Starts at n word) =
       let y : ℕ = daemon_tick d n at - d.origin k in
-      let wall = node_wall d n at in
+      let wall = node_wall d n (next_life w n) at in
       let acts : List Placed = first_acts (d.words n) y wall word in
       let silent : sends_of acts ≡ [] = boots-silent y (booting (daemon_config (d.words n)) y wall word) in
       let sent : w.sent ++ map (sent_by n) (sends_of acts) ≡ w.sent = ap (λ l. w.sent ++ map (sent_by n) l) silent ∙ append-nil w.sent in
-      acted-tried (boot_step d.header at n word) (life_from d k at n word (length w.sent)) acts w all (record {
+      acted-tried k (boot_by d.clocks w.history at n word) (life_from d k at n word w) acts w all (record {
         reached = Began (d.origin k) (length w.sent) wall word y;
         few = longer w.sent (map (sent_by n) (sends_of acts));
         tried = sym (ap (λ l. tried_by n (drop (length w.sent) l)) sent ∙ ap (tried_by n) (drop_all (length w.sent) w.sent (omega arith)));
       })
 
-  all-tried : (events : List Event) → AllTried (network d events)
+  pub all-tried : (events : List Event) → AllTried (network d events)
   all-tried [] = λ n life there. (let bad : ⊥ = cc in absurd bad)
   all-tried (e ∷ before) = event-tried (all-tried before) (outcome d (length before) (network d before) e)
+
+  -- a daemon that ends in a turn has tried the first of that turn's sends
+  pub ends-after : (before : List Event) (step : Step) (life now : Life) (m : ℕ) → (network d before).lives step.node ≡ Some life →
+      d.tries (length before) ≡ Some m →
+      TriesFirst d before step life now m
+  ends-after before step life now m there ends =
+      let n : ℕ = step.node in
+      let w : Network = network d before in
+      let own = all-tried before n life there in
+      let sends : List Tried = sends_of (turn_acts (d.words n) life now) in
+      ap (λ o. tried_by n (drop life.sent_before (w.sent ++ sent_until o (map (sent_by n) sends)))) ends
+      ∙ tried-more n life.sent_before w.sent (first_sent m (map (sent_by n) sends)) own.few
+      ∙ ap (λ l. l ++ tried_by n (first_sent m (map (sent_by n) sends))) (sym own.tried)
+      ∙ ap (λ l. (session_of (d.words n) life).outside.tried ++ l) (first-tried n m sends)
 
 get-left : {A : Type 0} (xs ys : List A) (c : ℕ) → c < length xs → slice_get (xs ++ ys) c ≡ slice_get xs c
 get-left [] ys c h = absurd (omega (arith, h))
@@ -306,8 +444,8 @@ numbers_are_addresses d n q k m started on member off =
 pub networks_keep_promises : NetworksKeepPromises
 networks_keep_promises d setting events n set =
     let few = n.few in
-    let r = run_agrees d n.header_is n.started events n.happen (omega (arith, few)) in
-    let kept : Promises setting (run d.header events) = possible-runs-keep-promises d.header setting events set r.possible in
+    let r = run_agrees d n.header_is n.keeps n.started events n.happen (omega (arith, few)) in
+    let kept : Promises setting (run_by d.clocks d.header events) = clocked_runs_keep_promises d.clocks d.header setting events set r.possible in
     record {
       runs = r.agree.history;
       count = match_length d r.agree.sends;
@@ -315,6 +453,19 @@ networks_keep_promises d setting events n set =
           let m = match_at d r.agree.sends k s there in
           subst (λ q. IsSent d s q) (some_same (sym m.there ∙ post)) m.matches.sent;
       tried = λ m life there. (all-tried d events m life there).tried;
+      ended = λ step life arrival early tick m there ends. ends-after d events step life (turn_told arrival early tick life) m there ends;
       promises = subst (λ h. Promises setting h) (sym r.agree.history) kept;
-      premises = possible_runs_keep_premises d.header events r.possible;
+      premises = clocked_runs_keep_premises d.clocks d.header events r.possible;
+    }
+
+-- so it is with the clocks of a header's lines: the history is the run of a schedule
+pub schedules_are_kept : SchedulesAreKept
+schedules_are_kept d setting events n own set =
+    let mine : SetByClocks d.clocks d.header setting = subst (λ c. SetByClocks c d.header setting) (sym own) (set_own d.header setting set) in
+    let kept = networks_keep_promises d setting events n mine in
+    let same : run_by d.clocks d.header events ≡ run d.header events = ap (λ c. run_by c d.header events) own ∙ runs_by_own_clocks d.header events in
+    record {
+      kept = kept;
+      runs = kept.runs ∙ same;
+      premises = kept_own d.header events (subst (λ c. KeptByEvents c d.header events) own kept.premises);
     }

@@ -1,21 +1,20 @@
 -- Rosters: which nodes the ports of a node of a header reach, and which node a number names there.
-use Rattle.std.proofs.Common.{sym, ap, subst, inl, inr, arith, true≢false, eq-eqb, eqb-true, le-leb, leb-true, ◌∙◌, ◌≡◌, ◌≢◌, ◌⊎◌, ℕ, zero, suc, ◌+◌, ◌-◌, ◌<◌, ◌≤◌, ◌==◌, nat_le, nat_lt, Bool, true, false, not, ◌&&◌, if◌then◌else◌, List, [], ◌∷◌, length, map, slice_index_or, refl, All, Option, None, Some}
-use Rattle.std.proofs.lemmas.List.Elements.{All-get_or, All-head, All-tail, All-weaker, All-filter, All-append, All-cons, All-nil, filter_passes}
+use Rattle.std.proofs.Common.{sym, ap, subst, inl, inr, arith, true≢false, eq-eqb, eqb-true, le-leb, leb-true, ◌∙◌, ◌≡◌, ◌≢◌, ◌⊎◌, ℕ, zero, suc, ◌+◌, ◌-◌, ◌<◌, ◌≤◌, ◌==◌, nat_le, nat_lt, Bool, true, false, not, ◌&&◌, if◌then◌else◌, List, [], ◌∷◌, length, map, slice_index_or, sum, refl, All, Option, None, Some}
+use Rattle.std.proofs.lemmas.List.Elements.{All-get_or, All-head, All-tail, All-weaker, All-append, All-cons, All-nil, filter_passes}
+use Rattle.std.proofs.lemmas.List.Sums.{get_or-le-sum_by}
 use Rattle.std.proofs.lemmas.Bool.{and_parts, cases_lt, eqb-false, lt-ltb, ltb-true, ne_eqb, or_cases, or_right}
 use Rattle.std.{proofs.lemmas.List.Kept.IsStrictlyIncreasing-filter, specs.List.range_with_len, specs.List.Sorted.IsStrictlyIncreasing}
 use Rattle.tsp_rules.specs.{NodeRows.no_port, Values.PeerId, Values.Place, Values.Peer, Values.Stranger, Values.Port}
-use Rattle.tsp_base.specs.Words.{is_among, others, peer_of, HeaderValue, IsHeader, IsNet, has_member}
+use Rattle.tsp_base.specs.Words.{is_among, others, peer_of, HeaderValue, IsNet, has_member}
 use Rattle.tsp_base.proofs.AscendingLemmas.{Rise, Rise-numbers, Rise-rest}
 use Rattle.tsp_network.specs.Rosters.{named_node, neighbours, neighbours_on, others_in, place_in}
 use Rattle.tsp_run.specs.Networks.{address_at, address_of, network_at, network_from, networks, networks_among, numbers_below, peers_on, port_at, port_from, port_on, ports_on}
 use Rattle.tsp_run.proofs.NetworkLemmas.{on_network, on_port_of, some_same}
-use Rattle.tsp_run.specs.declared.address.Address.{Address}
+use Rattle.tsp_run.specs.{Clocked.IsSetUp, declared.address.Address.Address}
 use Rattle.tsp_networks.proofs.MemberLemmas.{ascending-below}
 
--- nodes that a node numbers: all have numbers below 64, none is the node itself, and none stands there twice
+-- nodes that a node numbers: none is the node itself, and none stands there twice
 pub record IsRoster (n : ℕ) (nodes : List ℕ) : Type 0 where
-  pub own : n < 64
-  pub below : (i : ℕ) → i < length nodes → slice_index_or nodes i 0 < 64
   pub apart : (i : ℕ) → i < length nodes → slice_index_or nodes i 0 ≢ n
   pub once : (i j : ℕ) → i < length nodes → j < length nodes → slice_index_or nodes i 0 ≡ slice_index_or nodes j 0 → i ≡ j
 
@@ -23,7 +22,7 @@ pub record IsRoster (n : ℕ) (nodes : List ℕ) : Type 0 where
 pub data Names (n done : ℕ) (nodes : List ℕ) (p : ℕ) : Type 0 where
   Itself : p ≡ 0 → named_node n done nodes p ≡ n → Names n done nodes p
   Member : (i : ℕ) → i < length nodes → p ≡ done + 1 + i → named_node n done nodes p ≡ slice_index_or nodes i 0 → Names n done nodes p
-  Nobody : named_node n done nodes p ≡ p + 64 → Names n done nodes p
+  Nobody : named_node n done nodes p ≡ p + (n + sum nodes + 1) → Names n done nodes p
 
 pub named_member : (n done : ℕ) (nodes : List ℕ) (i : ℕ) → i < length nodes → named_node n done nodes (done + 1 + i) ≡ slice_index_or nodes i 0
 named_member n done nodes i h =
@@ -46,19 +45,25 @@ names n done nodes p = by_zero (p == 0) refl where
         Member (p - (done + 1)) (omega (arith, low, high)) (omega (arith, low)) (rw (e, f) refl)
     by_range false f = Nobody (rw (e, f) refl)
 
+-- each of these numbers is at most their sum
+in-sum : (nodes : List ℕ) (i : ℕ) → i < length nodes → slice_index_or nodes i 0 ≤ sum nodes
+in-sum nodes i h = get_or-le-sum_by (λ (m : ℕ). m) nodes i 0 h
+
 -- different numbers name different nodes
 pub named_once : (n done : ℕ) (nodes : List ℕ) → IsRoster n nodes → (p q : ℕ) → named_node n done nodes p ≡ named_node n done nodes q → p ≡ q
 named_once n done nodes r p q e = by_both (names n done nodes p) (names n done nodes q) where
   by_both : Names n done nodes p → Names n done nodes q → p ≡ q
   by_both (Itself a f) (Itself b g) = a ∙ sym b
   by_both (Itself a f) (Member j h b g) = absurd (r.apart j h (sym g ∙ sym e ∙ f))
-  by_both (Itself a f) (Nobody g) = let own = r.own in let same : n ≡ q + 64 = sym f ∙ e ∙ g in absurd (omega (arith, own, same))
+  by_both (Itself a f) (Nobody g) = let same : n ≡ q + (n + sum nodes + 1) = sym f ∙ e ∙ g in absurd (omega (arith, same))
   by_both (Member i h a f) (Itself b g) = absurd (r.apart i h (sym f ∙ e ∙ g))
   by_both (Member i h a f) (Member j k b g) = a ∙ ap (λ z. done + 1 + z) (r.once i j h k (sym f ∙ e ∙ g)) ∙ sym b
-  by_both (Member i h a f) (Nobody g) = let low = r.below i h in let same : slice_index_or nodes i 0 ≡ q + 64 = sym f ∙ e ∙ g in absurd (omega (arith, low, same))
-  by_both (Nobody f) (Itself b g) = let own = r.own in let same : n ≡ p + 64 = sym g ∙ sym e ∙ f in absurd (omega (arith, own, same))
-  by_both (Nobody f) (Member j k b g) = let low = r.below j k in let same : slice_index_or nodes j 0 ≡ p + 64 = sym g ∙ sym e ∙ f in absurd (omega (arith, low, same))
-  by_both (Nobody f) (Nobody g) = let same : p + 64 ≡ q + 64 = sym f ∙ e ∙ g in omega (arith, same)
+  by_both (Member i h a f) (Nobody g) = let low = in-sum nodes i h in let same : slice_index_or nodes i 0 ≡ q + (n + sum nodes + 1) = sym f ∙ e ∙ g in
+      absurd (omega (arith, low, same))
+  by_both (Nobody f) (Itself b g) = let same : n ≡ p + (n + sum nodes + 1) = sym g ∙ sym e ∙ f in absurd (omega (arith, same))
+  by_both (Nobody f) (Member j k b g) = let low = in-sum nodes j k in let same : slice_index_or nodes j 0 ≡ p + (n + sum nodes + 1) = sym g ∙ sym e ∙
+      f in absurd (omega (arith, low, same))
+  by_both (Nobody f) (Nobody g) = let same : p + (n + sum nodes + 1) ≡ q + (n + sum nodes + 1) = sym f ∙ e ∙ g in omega (arith, same)
 
 -- so numbers are compared as their nodes are
 pub compared : (n done : ℕ) (nodes : List ℕ) → IsRoster n nodes → (p q : ℕ) → (named_node n done nodes p == named_node n done nodes q) ≡ (p == q)
@@ -123,7 +128,7 @@ below-all count zero few = All-nil (λ m. m < count)
 below-all count (suc n) few = All-append (λ m. m < count) (numbers_below n) (n ∷ []) (below-all count n (omega (arith, few))) (All-cons (λ m. m < count) n [] (omega (arith, few)) (All-nil (λ m. m < count)))
 
 -- the networks of a header are
-pub header_nets : (header : HeaderValue) → IsHeader header → All (GoodNet (length header.nodes)) (networks header)
+pub header_nets : (header : HeaderValue) → IsSetUp header → All (GoodNet (length header.nodes)) (networks header)
 header_nets header is = by_nets header.nets is.nets_are where
   by_nets : (nets : List (List ℕ)) → All (IsNet (length header.nodes)) nets → All (GoodNet (length header.nodes)) (networks_among (length header.nodes) nets)
   by_nets [] all = All-cons (GoodNet (length header.nodes)) (numbers_below (length header.nodes)) [] (record { rising = ascending-below (length header.nodes); low = below-all (length header.nodes) (length header.nodes) (omega arith) }) (All-nil (GoodNet (length header.nodes)))
@@ -167,10 +172,8 @@ passes-apart : (n m : ℕ) → not (m == n) ≡ true → m ≢ n
 passes-apart n m e same = true≢false (sym e ∙ ap not (eq-eqb m n same))
 
 -- the others of a network are a roster
-pub roster : (count n : ℕ) (net : List ℕ) → count ≤ 64 → n < 64 → GoodNet count net → IsRoster n (others_in n net)
-roster count n net few low good = record {
-  own = low;
-  below = λ i h. (let less = All-get_or (λ m. m < count) (others_in n net) i 0 h (All-filter (λ m. not (m == n)) (λ m. m < count) net good.low) in omega (arith, less, few));
+pub roster : (count n : ℕ) (net : List ℕ) → GoodNet count net → IsRoster n (others_in n net)
+roster count n net good = record {
   apart = λ i h. passes-apart n (slice_index_or (others_in n net) i 0) (All-get_or (λ m. not (m == n) ≡ true) (others_in n net) i 0 h (filter_passes (λ m. not (m == n)) net));
   once = rising-once (others_in n net) (IsStrictlyIncreasing-filter (λ m. not (m == n)) net good.rising);
 }

@@ -1,10 +1,10 @@
 -- The node of a daemon is set up as its node in the schedule, in other names: each port has its peers' numbers to itself. What comes to a daemon
 -- is what comes to its node, and what it sends is what its node posts.
-use Rattle.std.proofs.Common.{sym, ap, subst, arith, le-leb, ◌∙◌, ◌≡◌, ◌≢◌, ℕ, zero, suc, ◌+◌, ◌<◌, ◌==◌, nat_le, Bool, true, false, if◌then◌else◌, List, [], ◌∷◌, length, map, Some, slice_index_or, refl, inl, inr, true≢false, eq-eqb, take_all, ◌≤◌, take, ◌++◌, None, slice_get}
+use Rattle.std.proofs.Common.{sym, ap, subst, arith, le-leb, ◌∙◌, ◌≡◌, ◌≢◌, ℕ, zero, suc, ◌+◌, ◌<◌, ◌==◌, nat_le, Bool, true, false, if◌then◌else◌, List, [], ◌∷◌, length, map, None, Option, Some, slice_index_or, refl, inl, inr, true≢false, eq-eqb, take_all, ◌≤◌, take, ◌++◌, None, slice_get}
 use Rattle.std.proofs.lemmas.{Bool.lt-leb, Bool.ne_eqb, Bool.cases_lt, Bool.or_right, List.length-map, List.get_or_past, List.map-append}
 use Rattle.std.proofs.lemmas.List.{Elements.All-head, Elements.All-tail, FromFn.length-map-range_with_len}
 use Rattle.std.specs.List.{range_with_len}
-use Rattle.tsp_base.specs.Words.{has_member, peer_of, IsHeader, Line, Step, is_among, others, first_port}
+use Rattle.tsp_base.specs.Words.{has_member, peer_of, Line, Step, is_among, others, first_port}
 use Rattle.tsp_base.proofs.AscendingLemmas.{Rise-numbers}
 use Rattle.tsp_gateway.specs.PortOf.{has_other_peer, port_of_from}
 use Rattle.tsp_io.specs.declared.addr.Addr.{Addr}
@@ -15,9 +15,9 @@ use Rattle.tsp_daemon.specs.{Nodes.numbered_setup, Nodes.setups_from, Nodes.daem
 use Rattle.tsp_daemon.specs.Posts.{send_of, sends_of}
 use Rattle.tsp_network.specs.Rosters.{count_below, neighbours, others_in, port_of_number, neighbours_on, renaming_on, named_node, number_for, place_in, sender_for, destination, send_address}
 use Rattle.tsp_network.proofs.RosterLemmas.{is_in_range, not_in_range, IsRoster, compared, in_range, named_member, others_above, range_named, header_nets, length_neighbours, one_fewer, others_on, port_is, roster, place_is, none_some}
-use Rattle.tsp_network.specs.{Events.MayCome, Kept.IsSent, Lives.addresses, Lives.Daemons, Lives.IsStarted, Networks.Sent, Networks.sent_by}
+use Rattle.tsp_network.specs.{Events.MayCome, Kept.IsSent, Lives.addresses, Lives.Daemons, Lives.IsStarted, Networks.Sent, Networks.first_sent, Networks.sent_by, Networks.sent_until, Networks.unsent}
 use Rattle.tsp_run.proofs.NetworkLemmas.{port_named, goes_there, some_same}
-use Rattle.tsp_run.specs.{Networks.networks, Networks.ports_on, Networks.address_of, declared.address.Address.Address}
+use Rattle.tsp_run.specs.{Clocked.IsSetUp, Networks.networks, Networks.ports_on, Networks.address_of, declared.address.Address.Address}
 use Rattle.tsp_run.specs.{Run.posted_by, Run.posts_from, Setup.node_line, Setup.past_of, declared.posted.Posted.Posted}
 use Rattle.tsp_alike.specs.AlikeNodes.{AlikeConfigs, AlikeSetup, TellsApart, ComesOn, renamed_given, AllKnown, naming_of, renamed_placed}
 use Rattle.tsp_codec.specs.{Canon.canon, Taken.taken_of}
@@ -119,6 +119,24 @@ pub match_length : (d : Daemons) {ss : List Sent} {ps : List Posted} → AllMatc
 match_length d NoneMatch = refl
 match_length d (MoreMatch m a) = ap (λ k. suc k) (match_length d a)
 
+-- a send that wasn't tried matches the same post
+unsent-match : (d : Daemons) {s : Sent} {p : Posted} → Matches d s p → Matches d (unsent s) p
+unsent-match d m = record { sent = record { from = m.sent.from; to = m.sent.to; octets = m.sent.octets }; goes = m.goes; away = m.away }
+
+none-match : (d : Daemons) {ss : List Sent} {ps : List Posted} → AllMatch d ss ps → AllMatch d (map unsent ss) ps
+none-match d NoneMatch = NoneMatch
+none-match d (MoreMatch m a) = MoreMatch (unsent-match d m) (none-match d a)
+
+first-match : (d : Daemons) (n : ℕ) {ss : List Sent} {ps : List Posted} → AllMatch d ss ps → AllMatch d (first_sent n ss) ps
+first-match d zero a = none-match d a
+first-match d (suc n) NoneMatch = NoneMatch
+first-match d (suc n) (MoreMatch m a) = MoreMatch m (first-match d n a)
+
+-- so do all of a turn in which a daemon ended
+pub until_match : (d : Daemons) (o : Option ℕ) {ss : List Sent} {ps : List Posted} → AllMatch d ss ps → AllMatch d (sent_until o ss) ps
+until_match d None a = a
+until_match d (Some n) a = first-match d n a
+
 -- the post of a send
 pub record MatchedAt (d : Daemons) (s : Sent) (ps : List Posted) (k : ℕ) : Type 0 where
   pub post : Posted
@@ -131,12 +149,9 @@ match_at d NoneMatch k s e = let bad : ⊥ = cc in absurd bad
 match_at d (MoreMatch {p = p} m a) zero s e = record { post = p; there = refl; few = omega arith; matches = subst (λ z. Matches d z p) (some_same e) m }
 match_at d (MoreMatch m a) (suc k) s e = let r = match_at d a k s e in record { post = r.post; there = r.there; few = (let f = r.few in omega (arith, f)); matches = r.matches }
 
-module _ (d : Daemons) (is : IsHeader d.header) (n : ℕ) (low : n < length d.header.nodes) where
+module _ (d : Daemons) (is : IsSetUp d.header) (n : ℕ) where
   abbrev nets : List (List ℕ)
   nets = networks d.header
-
-  few : n < 64
-  few = (let some = is.few in omega (arith, low, some))
 
   long : AsLong (addresses d.address n 0 nets) (neighbours n nets)
   long = as_long d.address n 0 nets
@@ -147,10 +162,11 @@ module _ (d : Daemons) (is : IsHeader d.header) (n : ℕ) (low : n < length d.he
 
   pub is_roster : (q : ℕ) → IsRoster n (neighbours_on n q nets)
   is_roster q = elim (cases_lt q (length (ports_on n nets))) [
-    | inl has ↦ (let p = port_is (length d.header.nodes) n q nets (header_nets d.header is) has in subst (IsRoster n) (sym p.nodes) (roster (length d.header.nodes) n p.net is.few few p.good))
+    | inl has ↦ (let p = port_is (length d.header.nodes) n q nets (header_nets d.header is) has in
+        subst (IsRoster n) (sym p.nodes) (roster (length d.header.nodes) n p.net p.good))
     | inr past ↦ (let all = length_neighbours n nets in
         let none : neighbours_on n q nets ≡ [] = get_or_past (neighbours n nets) q [] (omega (arith, past, all)) in
-        subst (IsRoster n) (sym none) (record { own = few; below = λ i h. absurd (omega (arith, h)); apart = λ i h. absurd (omega (arith, h)); once = λ i j h k e. absurd (omega (arith, h)) }))
+        subst (IsRoster n) (sym none) (record { apart = λ i h. absurd (omega (arith, h)); once = λ i j h k e. absurd (omega (arith, h)) }))
   ]
 
   -- different numbers name different nodes

@@ -1,18 +1,20 @@
 -- A daemon of the network, from its start on: what it has been told, and its session.
-use Rattle.std.specs.Prelude.{◌≡◌, ℕ, ◌+◌, ◌<◌, ℤ, true, if◌then◌else◌, List, [], ◌∷◌, ◌++◌, length, map}
+use Rattle.std.specs.Prelude.{◌≡◌, ℕ, ◌+◌, ◌<◌, ℤ, true, if◌then◌else◌, List, [], ◌∷◌, ◌++◌, length, map, Option}
 use Rattle.tsp_base.specs.Words.{HeaderValue, has_member}
-use Rattle.tsp_args.specs.declared.serve.ServeWords.{ServeWords}
+use Rattle.tsp_args.specs.{Serves.IsServe, declared.serve.ServeWords.ServeWords}
 use Rattle.tsp_io.specs.{Links.Arrival, declared.addr.Addr.Addr}
 use Rattle.tsp_query.specs.{Ends.Outside, Outside.after_bind}
 use Rattle.tsp_rules.specs.{GateRows.boots_all, Values.Placed}
-use Rattle.tsp_run.specs.{Networks.networks, Setup.node_line}
+use Rattle.tsp_run.specs.{Clocked.Clocks, Networks.networks, Setup.node_line}
 use Rattle.tsp_daemon.specs.Nodes.{booting, daemon_config, is_strict, may_be}
 use Rattle.tsp_daemon.specs.{Serving.first_session, Sessions.Session, Sessions.acts_in_turn, Sessions.after_turns}
 use Rattle.tsp_network.specs.Rosters.{others_in}
 
--- the daemons of a network, one for each node of a header, which names their clocks, names and networks
+-- the daemons of a network, one for each node of a header, which has their names and networks; what its lines say of clocks means nothing here
 pub record Daemons : Type 0 where
   pub header : HeaderValue
+  -- each node's counter at each true time, and its wall clock in each of its lives
+  pub clocks : Clocks
   -- the words with which each node's daemon is started
   pub words : ℕ → ServeWords
   -- the address by which node m is reached on network k
@@ -21,15 +23,18 @@ pub record Daemons : Type 0 where
   pub origin : ℕ → ℕ
   -- for each event, what the daemon's counter says when the turn begins, before the daemon waits
   pub early : ℕ → ℕ
+  -- for each event, after how many of the turn's sends the daemon ended in it, if it did: killed, or out of memory
+  pub tries : ℕ → Option ℕ
 
 -- the addresses of the other members of each network that node n is on: one list for each of its ports. These networks have the numbers from k on
 abbrev pub addresses : (ℕ → ℕ → Addr) → ℕ → ℕ → List (List ℕ) → List (List Addr)
 addresses at n k [] = []
 addresses at n k (net ∷ rest) = if has_member n net then map (at k) (others_in n net) ∷ addresses at n (k + 1) rest else addresses at n (k + 1) rest
 
--- node n's daemon is started with its node's name and networks; its peers stand in the order of the nodes; and if it may be master, it
--- is elected as the header says
+-- node n's daemon is started with words that `serve` takes, and with its node's name and networks; its peers stand in the order of the nodes;
+-- and if it may be master, it is elected as the header says
 pub record IsStarted (d : Daemons) (n : ℕ) : Type 0 where
+  pub serves : IsServe (d.words n)
   pub name : (d.words n).name ≡ (node_line d.header n).name
   pub may : may_be (d.words n).candidacy ≡ (node_line d.header n).may
   pub strict : may_be (d.words n).candidacy ≡ true → is_strict (d.words n).candidacy ≡ d.header.strict

@@ -1,13 +1,13 @@
 -- Two daemons in use: an election, the setting of a clock, a round, and what it corrects. Then what is asked of the events of a network is
 -- needed: without it, what the daemons do isn't the run; and a copy that comes to another daemon than it is addressed to breaks a promise.
-use Rattle.std.specs.Prelude.{◌≡◌, ℕ, zero, suc, ◌==◌, pos, negsuc, true, false, if◌then◌else◌, List, [], ◌∷◌, ◌++◌, codes, ◌≢◌, Some, slice_get}
+use Rattle.std.specs.Prelude.{◌≡◌, ℕ, zero, suc, ◌==◌, pos, negsuc, true, false, if◌then◌else◌, List, [], ◌∷◌, ◌++◌, codes, ◌≢◌, None, Some, slice_get}
 use Rattle.tsp_rules.specs.Values.{Act, Boot, Took, Post, Become, Arm, Ring, Back, Backer, Close, Correct, Sample, Acked, Join, Quiet, Window, Elect, Search, Round, Probe, CloseAlarm, Message, Stamp, Good, Accept, Ack, AdjTime, Election, MasterReq, MasterUp, NodeLine, SetTime, SlaveUp, Peer, Starting, Loose, Follow, Candidate, Master, Request, Reply, Event, BootAt, Turn, Take, Bytes, Place, Stranger}
 use Rattle.tsp_base.specs.Words.{Acts, Begins, Deed, HeaderValue, Line, bare, timed, peer_of as peer, first_port}
 use Rattle.tsp_args.specs.declared.serve.{Candidacy.TheVariants.Never, Candidacy.TheVariants.Plain, ServeWords.ServeWords}
 use Rattle.tsp_args.specs.declared.serve.Candidacy.{Candidacy}
 use Rattle.tsp_io.specs.declared.addr.Addr.{Addr}
 use Rattle.tsp_promises.specs.{Once.OnceObeyed, Premises.Honest, Premises.Life, Premises.Words, Setting.Setting}
-use Rattle.tsp_run.specs.{Networks.networks, Possible.Possible, Run.run, declared.address.Address.Address}
+use Rattle.tsp_run.specs.{Clocked.PossibleBy, Clocked.clocks_of, Clocked.run_by, Networks.networks, declared.address.Address.Address}
 use Rattle.tsp_network.specs.{Events.IsNetwork, Events.AllHappen, Networks.network, Networks.Network, Networks.Sent, Networks.delivers}
 use Rattle.tsp_network.specs.{Lives.Daemons, Lives.addresses, Lives.AreStarted, Rosters.destination}
 
@@ -43,7 +43,17 @@ two_words (suc n) = words_for (networks two_nodes) (codes "b") Never 1
 
 -- their daemons. Both nodes' ticks begin 1 second before the daemons do, whose counters begin with 0
 abbrev pub two_daemons : Daemons
-two_daemons = record { header = two_nodes; words = two_words; address = network_address; origin = λ k. 1000000; early = λ k. 0 }
+two_daemons =
+    record {
+      header = two_nodes;
+      clocks = clocks_of two_nodes;
+      words = two_words;
+      address = network_address;
+      origin = λ k. 1000000;
+      early =
+          λ k. 0;
+      tries = λ k. None;
+    }
 
 -- the events, the newest first. In the order of time: both start; they search a master; a stands for election, b backs it, and a is
 -- master; b follows it, is set by a SETTIME and acknowledges it; a round asks b for its clock four times and takes one answer, and its ADJTIME
@@ -136,10 +146,12 @@ one_node = record { drift = 0; strict = false; nodes = node_a ∷ []; nets = (0 
 abbrev pub one_daemon : ℕ → Daemons
 one_daemon origin = record {
   header = one_node;
+  clocks = clocks_of one_node;
   words = λ n. words_for (networks one_node) (codes "a") Plain n;
   address = network_address;
   origin = λ k. origin;
   early = λ k. 0;
+  tries = λ k. None;
 }
 
 -- it starts
@@ -153,9 +165,9 @@ on_second_port from = Bytes 1 0 (record { 0 = 1 }) from [] ∷ start
 -- a run is possible whose events can't all happen to these daemons; and what they do at the events isn't the run
 pub record IsOther (d : Daemons) (events : List Event) : Type 0 where
   pub started : AreStarted d
-  pub possible : Possible d.header events
+  pub possible : PossibleBy d.clocks d.header events
   pub cannot : ¬ AllHappen d events
-  pub differs : (network d events).history ≢ run d.header events
+  pub differs : (network d events).history ≢ run_by d.clocks d.header events
 
 -- what isn't a network
 pub record NetworksBreak : Type 0 where
@@ -183,7 +195,17 @@ three_words (suc (suc n)) = words_for (networks three_nodes) (codes "c") Never 2
 
 -- their daemons, whose counters are their nodes' ticks
 abbrev pub three_daemons : Daemons
-three_daemons = record { header = three_nodes; words = three_words; address = network_address; origin = λ k. 0; early = λ k. 0 }
+three_daemons =
+    record {
+      header = three_nodes;
+      clocks = clocks_of three_nodes;
+      words = three_words;
+      address = network_address;
+      origin = λ k. 0;
+      early =
+          λ k. 0;
+      tries = λ k. None;
+    }
 
 -- the events, the newest first. In the order of time: all start, b and c with one word; b and c back a, which is elected; they follow it; and
 -- it answers b's SLAVEUP by a SETTIME, which is datagram 14

@@ -1,24 +1,26 @@
 -- A network of daemons: what they do at the events of true time, and what all of them have done.
-use Rattle.std.specs.Prelude.{ℕ, ◌-◌, ◌==◌, ℤ, pos, ◌+ℤ◌, if◌then◌else◌, List, [], ◌∷◌, ◌++◌, length, map, Option, None, Some, slice_get}
+use Rattle.std.specs.Prelude.{ℕ, zero, suc, Bool, true, false, ◌+◌, ◌-◌, ◌==◌, ℤ, pos, ◌+ℤ◌, if◌then◌else◌, List, [], ◌∷◌, ◌++◌, length, map, Option, None, Some, slice_get}
 use Rattle.tsp_rules.specs.Values.{Placed, Event, BootAt, Turn, Take, Bytes, Peer}
-use Rattle.tsp_base.specs.Words.{Turned, Came, Handed, Step, Line, peer_of, stepped, tick_at}
+use Rattle.tsp_base.specs.Words.{Turned, Came, Handed, Step, Line, dids, lives, of, peer_of, stepped}
 use Rattle.tsp_rules.specs.Renames.{renamed_act}
 use Rattle.tsp_io.specs.Links.{Arrival, Tried}
 use Rattle.tsp_daemon.specs.Posts.{sends_of}
-use Rattle.tsp_run.specs.{Networks.networks, Run.boot_step, Run.step_tick, Setup.node_line, declared.address.Address.Address}
+use Rattle.tsp_run.specs.{Clocked.boot_by, Clocked.tick_by, Networks.networks, declared.address.Address.Address}
 use Rattle.tsp_network.specs.Lives.{Daemons, Life, first_acts, turn_told, turn_acts}
 use Rattle.tsp_network.specs.Rosters.{destination, renaming_on, sender_for}
 
--- a send that node `from` has tried: to whom, in the numbers of its daemon, and the octets
+-- a send of node `from`: to whom, in the numbers of its daemon, and the octets; and whether it was tried, since a daemon may end in the
+-- middle of a turn's sends
 pub record Sent : Type 0 where
   pub from : ℕ
   pub tried : Tried
+  pub went : Bool
 
 -- how far a network has come
 pub record Network : Type 0 where
   -- the daemon that runs on a node, if one does
   pub lives : ℕ → Option Life
-  -- all sends that any of them has tried, the oldest first; each has its place here as its number
+  -- all sends of any of them, the oldest first; each has its place here as its number
   pub sent : List Sent
   -- what all of them did, the newest first, in the numbers of the nodes
   pub history : List Line
@@ -34,48 +36,79 @@ named_act nets n origin p = record { port = p.port; act = renamed_act (renaming_
 abbrev pub named_acts : List (List ℕ) → ℕ → ℕ → List Placed → List Placed
 named_acts nets n origin = map (named_act nets n origin)
 
--- a send of node n
+-- a send of node n that was tried
 abbrev pub sent_by : ℕ → Tried → Sent
-sent_by n t = record { from = n; tried = t }
+sent_by n t = record { from = n; tried = t; went = true }
 
--- this life is node n's; all others are as they were
-abbrev pub with_life : ℕ → Life → (ℕ → Option Life) → ℕ → Option Life
-with_life n life lives m = if m == n then Some life else lives m
+-- one that wasn't, since its daemon ended before
+abbrev pub unsent : Sent → Sent
+unsent s = record s { went = false }
 
--- a daemon puts these acts in a step, and has come to this life
-abbrev pub acted : Daemons → Step → Life → List Placed → Network → Network
-acted d step life acts w = record {
-  lives = with_life step.node life w.lives;
-  sent = w.sent ++ map (sent_by step.node) (sends_of acts);
-  history = stepped step (step_tick d.header step) (named_acts (networks d.header) step.node life.origin acts) w.history;
+-- sends of which the first so many were tried
+abbrev pub first_sent : ℕ → List Sent → List Sent
+first_sent zero ss = map unsent ss
+first_sent (suc m) [] = []
+first_sent (suc m) (s ∷ rest) = s ∷ first_sent m rest
+
+-- the sends of a turn: all were tried, unless the daemon ended after so many
+abbrev pub sent_until : Option ℕ → List Sent → List Sent
+sent_until None ss = ss
+sent_until (Some m) ss = first_sent m ss
+
+-- the life after a turn, if the daemon didn't end in it
+abbrev pub life_until : Option ℕ → Life → Option Life
+life_until None life = Some life
+life_until (Some m) life = None
+
+-- this life is node n's, if there is one; all others are as they were
+abbrev pub with_life : ℕ → Option Life → (ℕ → Option Life) → ℕ → Option Life
+with_life n life lives m = if m == n then life else lives m
+
+-- a daemon puts these acts in a step of event k, and has come to this life, or has ended in that turn
+abbrev pub acted : Daemons → ℕ → Step → Life → List Placed → Network → Network
+acted d k step life acts w = record {
+  lives = with_life step.node (life_until (d.tries k) life) w.lives;
+  sent = w.sent ++ sent_until (d.tries k) (map (sent_by step.node) (sends_of acts));
+  history = stepped step (tick_by d.clocks step) (named_acts (networks d.header) step.node life.origin acts) w.history;
 }
 
 -- the tick of node n's counter at a true time
 abbrev pub daemon_tick : Daemons → ℕ → ℕ → ℕ
-daemon_tick d n at = tick_at (node_line d.header n).rate at
+daemon_tick d n at = d.clocks.tick n at
 
--- its wall clock then: it runs at the rate of the counter
-abbrev pub node_wall : Daemons → ℕ → ℕ → ℤ
-node_wall d n at = (node_line d.header n).wall +ℤ pos (daemon_tick d n at)
+-- the number of the life that begins next on node n; the first has number 1
+abbrev pub next_life : Network → ℕ → ℕ
+next_life w n = lives (dids (of n w.history)) + 1
 
--- the life of a daemon that starts at event k, when so many datagrams were sent: it has read its first tick
-abbrev pub life_from : Daemons → ℕ → ℕ → ℕ → ℕ → ℕ → Life
-life_from d k at n word sent =
-    record { origin = d.origin k; sent_before = sent; wall = node_wall d n at; word = word; arrivals = []; readings = (daemon_tick d n at - d.origin k) ∷ [] }
+-- node n's wall clock in a life, at a true time
+abbrev pub node_wall : Daemons → ℕ → ℕ → ℕ → ℤ
+node_wall d n life at = d.clocks.wall n life +ℤ pos (daemon_tick d n at)
+
+-- the life of a daemon that starts at event k in this network: it has read its first tick
+abbrev pub life_from : Daemons → ℕ → ℕ → ℕ → ℕ → Network → Life
+life_from d k at n word w = record {
+  origin = d.origin k;
+  sent_before = length w.sent;
+  wall = node_wall d n (next_life w n) at;
+  word = word;
+  arrivals = [];
+  readings = (daemon_tick d n at - d.origin k) ∷ [];
+}
 
 -- a daemon starts
 abbrev pub starts : Daemons → ℕ → ℕ → ℕ → ℕ → Network → Network
 starts d k at n word w =
-    acted d (boot_step d.header at n word) (life_from d k at n word (length w.sent)) (first_acts (d.words n) (daemon_tick d n at - d.origin k) (node_wall d n at) word) w
+    acted d k (boot_by d.clocks w.history at n word) (life_from d k at n word w)
+    (first_acts (d.words n) (daemon_tick d n at - d.origin k) (node_wall d n (next_life w n) at) word) w
 
--- a daemon has taken a turn, and come from one life to the other
-abbrev pub turned_to : Daemons → Step → Life → Life → Network → Network
-turned_to d step life now w = acted d step now (turn_acts (d.words step.node) life now) w
+-- a daemon has taken a turn at event k, and come from one life to the other
+abbrev pub turned_to : Daemons → ℕ → Step → Life → Life → Network → Network
+turned_to d k step life now w = acted d k step now (turn_acts (d.words step.node) life now) w
 
 -- a daemon that runs takes a turn, in which this comes
 abbrev pub turns : Daemons → ℕ → Step → Arrival → Option Life → Network → Network
 turns d k step arrival None w = w
-turns d k step arrival (Some life) w = turned_to d step life (turn_told arrival (d.early k) (step_tick d.header step - life.origin) life) w
+turns d k step arrival (Some life) w = turned_to d k step life (turn_told arrival (d.early k) (tick_by d.clocks step - life.origin) life) w
 
 -- a copy of a send, as it comes to a port: its octets, from the daemon that sent it
 abbrev pub copy_at : List (List ℕ) → Address → Sent → Arrival

@@ -1,6 +1,6 @@
 -- Who is whom: by which numbers the daemons of a network know each other. A daemon is number 0 for itself, and its peers have the numbers
 -- from 1 on, port by port, and on each port in the order of the nodes.
-use Rattle.std.specs.Prelude.{ℕ, zero, suc, ◌+◌, ◌-◌, ◌==◌, nat_le, nat_lt, not, ◌&&◌, if◌then◌else◌, List, [], ◌∷◌, length, filter, Option, None, Some, slice_index_or}
+use Rattle.std.specs.Prelude.{ℕ, zero, suc, ◌+◌, ◌-◌, ◌==◌, nat_le, nat_lt, not, ◌&&◌, if◌then◌else◌, List, [], ◌∷◌, length, filter, sum, Option, None, Some, slice_index_or}
 use Rattle.tsp_rules.specs.{Values.Place, Values.Peer, Values.Stranger, Values.Port, Renames.Renaming}
 use Rattle.tsp_base.specs.Words.{has_member, peer_of}
 use Rattle.tsp_run.specs.{Networks.address_of, declared.address.Address.Address}
@@ -33,10 +33,11 @@ place_in m (n ∷ rest) = if n == m then 0 else suc (place_in m rest)
 abbrev pub number_for : ℕ → ℕ → ℕ → List (List ℕ) → ℕ
 number_for n q m nets = if m == n then 0 else count_below q (neighbours n nets) + 1 + place_in m (neighbours_on n q nets)
 
--- the node that a number names for node n, if these nodes have the numbers after `done`; a number that names nobody there is above all
--- nodes' numbers, of which there are at most 64
+-- the node that a number names for node n, if these nodes have the numbers after `done`; a number that names nobody there becomes one above
+-- those of n and of these nodes
 abbrev pub named_node : ℕ → ℕ → List ℕ → ℕ → ℕ
-named_node n done nodes p = if p == 0 then n else (if nat_lt done p && nat_le p (done + length nodes) then slice_index_or nodes (p - (done + 1)) 0 else p + 64)
+named_node n done nodes p = if p == 0 then n else
+    (if nat_lt done p && nat_le p (done + length nodes) then slice_index_or nodes (p - (done + 1)) 0 else p + (n + sum nodes + 1))
 
 -- what a port's acts are in the numbers of the nodes, and in the ticks of the node: `origin` is the node's tick when the daemon's own
 -- counter was at 0

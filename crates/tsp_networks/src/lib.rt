@@ -42,7 +42,7 @@
 //! - How much memory posts take.
 #![tactic(auto)]
 
-ghost use Rattle.std.specs.Prelude.{◌≡◌, ◌≤◌, [], ◌∷◌, length, true, IfOk};
+ghost use Rattle.std.specs.Prelude.{◌≡◌, ◌≤◌, [], ◌∷◌, length, vec_len, true, IfOk};
 ghost use Rattle.tsp_base.specs.Headers.{has_member};
 ghost use Rattle.tsp_networks.specs.Rooms.{AreRooms};
 ghost use Rattle.tsp_run.specs.Networks.{networks, numbers_below, peers_on, ports_on, room};
@@ -157,7 +157,8 @@ pub fn room_of(nets: &[Members], n: u32) -> u64
 /// How many acts a step of each of so many nodes may put, in order, on these networks. Fails only if out of memory.
 pub fn rooms_of(alloc: Global, count: u32, nets: &[Members]) -> Result<Vec<u64>, AllocError>
     requires { length nets.now ≤ 64 }
-    ensures { IfOk result (λ v. AreRooms nets.now v.items) }
+    ensures rooms { IfOk result (λ v. AreRooms nets.now v.items) }
+    ensures all { IfOk result (λ v. vec_len v ≡ count) }
 {
     let mut rooms = Vec::new(alloc);
     for node in 0..count {

@@ -18,7 +18,7 @@ pub struct Sheet {
 }
 
 impl Sheet {
-    ghost use Rattle.tsp_networks.specs.Sheets.{acts_on};
+    ghost use Rattle.tsp_networks.specs.Sheets.{acts_on, spare_on};
 
     /// No lines and no room. Takes no memory.
     pub fn new(alloc: Global) -> Sheet
@@ -33,6 +33,7 @@ impl Sheet {
     /// Removes all lines. Their room stays.
     pub fn clear(&mut self)
         ensures acts { acts_on self.new ≡ [] }
+        ensures room { spare_on self.new ≡ vec_capacity self.old.lines }
     {
         self.lines.clear();
         self.spare = self.lines.capacity();
@@ -47,7 +48,9 @@ impl Sheet {
 
     /// Gives its lines for others. No room is left until it is asked for.
     pub fn exchange(&mut self, lines: &mut Vec<Line>)
-        ensures { lines.new.items ≡ self.old.lines.items }
+        ensures taken { lines.new.items ≡ self.old.lines.items }
+        ensures given { self.new.lines.items ≡ lines.old.items }
+        ensures room { spare_on self.new ≡ 0 }
     {
         self.spare = 0;
         swap(lines, &mut self.lines);

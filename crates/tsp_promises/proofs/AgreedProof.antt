@@ -3,7 +3,7 @@
 use Rattle.std.proofs.Common.{arith, ◌≡◌, ◌≤◌, ◌≤ℤ◌, ℤ, pos, ◌+ℤ◌, ◌-ℤ◌, nat_abs, ℕ, ◌+◌, sym, ap, subst, inl, inr, ◌∙◌, ◌-◌, ◌*◌, List, ◌∷◌, is_some, refl}
 use Rattle.std.proofs.Common.{subst₂, []}
 use Rattle.std.proofs.lemmas.Int.{ints}
-use Rattle.tsp_base.specs.Words.{Line, of, dids, view, moved, time_of, Within, tick_at, width}
+use Rattle.tsp_base.specs.Words.{Line, of, dids, lives, view, moved, time_of, Within, width}
 use Rattle.tsp_base.proofs.PlaceLemmas.{Within-through, Within-tail}
 use Rattle.tsp_promises.proofs.OwnFitsProof.{given, Given, given_at, place-time, own_fits, fits_at}
 use Rattle.tsp_promises.specs.Agreed.{Agreed, AgreedAt, ClocksAgree, MasterAgrees, PeersAgree, RestsOnSample, StayAgreed, Unchanged, FromRound, UnchangedBut}
@@ -11,40 +11,39 @@ use Rattle.tsp_promises.specs.Throughout.{BoundAt, BoundsLast, PeersBound, Throu
 use Rattle.tsp_promises.specs.Chained.{Hop, Hops, IsChain, ChainAgrees, ChainsAgree, Chained, ChainedAt, TreeAgrees, bound, hop_bound, last_hop, node_at}
 use Rattle.tsp_promises.specs.Chained.{RelayAgrees, Relayed}
 use Rattle.tsp_promises.specs.{Setting.Setting, ClockAt.clock_at, Fits.Fits, Fits.node_of}
-use Rattle.tsp_promises.proofs.{EverywhereLemmas.Everywhere-from, MasterMoved.master_moved, MasterMoved.same-mean, MasterMoved.unmoved, HistoryPlaces.of-own}
+use Rattle.tsp_promises.proofs.{EverywhereLemmas.Everywhere-from, MasterMoved.close_life, MasterMoved.master_moved, MasterMoved.offset_corrected}
+use Rattle.tsp_promises.proofs.{ClockProof.offset, MasterMoved.offset_kept, MasterMoved.offset_meant, MasterMoved.same-mean}
 use Rattle.tsp_promises.proofs.{HistoryPlaces.Within-of, TakingProof.Met, TakingProof.begun-by, TakingProof.corrects-adj, TakingProof.whole, Clocks.drift_apart}
 use Rattle.tsp_promises.proofs.{SendPlaces.post_fits, SinceProof.since}
 
--- wk and wm are the walls, k0 and m0 what the clocks had moved at the reading, k1 what k's has moved after its Correct, ticks at the reading and now
-pub sums : (wk wm k0 k1 m0 mean diff amount e : ℤ) (kr kt mr mt w : ℕ) → amount ≡ mean -ℤ diff → k1 ≡ k0 +ℤ amount →
-    pos (nat_abs (diff -ℤ (((wk +ℤ k0) +ℤ pos kr) -ℤ ((wm +ℤ m0) +ℤ pos mr)))) ≤ℤ e →
+-- k0 and m0 are the clocks besides their ticks at the reading, k1 that of k after its Correct; the ticks are those at the reading and now
+pub sums : (k0 k1 m0 mean diff amount e : ℤ) (kr kt mr mt w : ℕ) → amount ≡ mean -ℤ diff → k1 ≡ k0 +ℤ amount →
+    pos (nat_abs (diff -ℤ ((k0 +ℤ pos kr) -ℤ (m0 +ℤ pos mr)))) ≤ℤ e →
     kt + mr ≤ kr + mt + w → kr + mt ≤ kt + mr + w →
-    pos (nat_abs (((wk +ℤ k1) +ℤ pos kt) -ℤ ((((wm +ℤ m0) +ℤ mean)) +ℤ pos mt))) ≤ℤ (e +ℤ pos w)
-sums wk wm k0 k1 m0 mean diff amount e kr kt mr mt w a b f g h = omega (arith, ints)
+    pos (nat_abs ((k1 +ℤ pos kt) -ℤ ((m0 +ℤ mean) +ℤ pos mt))) ≤ℤ (e +ℤ pos w)
+sums k0 k1 m0 mean diff amount e kr kt mr mt w a b f g h = omega (arith, ints)
 
 -- two clocks near a third are near each other
 pub triangle : (a b ref e f : ℤ) (w v : ℕ) → pos (nat_abs (a -ℤ ref)) ≤ℤ (e +ℤ pos w) → pos (nat_abs (b -ℤ ref)) ≤ℤ (f +ℤ pos v) → pos (nat_abs (a -ℤ b)) ≤ℤ ((e +ℤ f) +ℤ pos (w + v))
 triangle a b ref e f w v h k = omega (arith, ints)
 
 -- a clock that moved by the mean
-pub moved-by : (wall moved_h moved_c mean : ℤ) (tick : ℕ) → moved_h ≡ moved_c +ℤ mean → (wall +ℤ moved_h) +ℤ pos tick ≡ ((wall +ℤ moved_c) +ℤ mean) +ℤ pos tick
-moved-by wall moved_h moved_c mean tick e = omega (arith, ints)
+pub moved-by : (now then mean : ℤ) (tick : ℕ) → now ≡ then +ℤ mean → now +ℤ pos tick ≡ (then +ℤ mean) +ℤ pos tick
+moved-by now then mean tick e = omega (arith, ints)
 
 -- the clock of k against m's clock as its Close left it
 pub core : (setting : Setting) (m : ℕ) (cpast : List Line) (mean : ℤ) (c : Line) (past : List Line) (r : Line) (rolder h : List Line) (err : ℤ) (t : ℕ) → Fits setting h → time_of (dids h) ≤ t →
     Unchanged (node_of c) (c ∷ past) h → Met setting m (node_of c) cpast mean c past r rolder err →
-    pos (nat_abs (clock_at setting (node_of c) h t -ℤ (((setting.wall m +ℤ moved (dids (of m cpast))) +ℤ mean) +ℤ pos (setting.tick m t)))) ≤ℤ (err +ℤ pos (2 * width setting.drift (t - r.did.step.at)))
+    pos (nat_abs (clock_at setting (node_of c) h t -ℤ ((offset setting m cpast +ℤ mean) +ℤ pos (setting.tick m t)))) ≤ℤ (err +ℤ pos (2 * width setting.drift (t - r.did.step.at)))
 core setting m cpast mean c past r rolder h err t f by u x =
     let k = node_of c in
-    let moved_h : moved (dids (of k (c ∷ past))) ≡ moved (dids (of k h)) = unmoved setting k (c ∷ past) h f u.within u.since in
-    let own : dids (of k (c ∷ past)) ≡ c.did ∷ dids (of k past) = ap dids (of-own k c past refl) in
-    let moved_c : moved (c.did ∷ dids (of k past)) ≡ moved (dids (of k past)) +ℤ x.amount = rw x.deed refl in
-    let k1 : moved (dids (of k h)) ≡ moved (dids (of k (r ∷ rolder))) +ℤ x.amount = sym moved_h ∙ (ap moved own ∙ (moved_c ∙ ap (λ z. z +ℤ x.amount) (sym x.moved_k))) in
+    let k1 : offset setting k h ≡ offset setting k (r ∷ rolder) +ℤ x.amount =
+    sym (offset_kept setting k (c ∷ past) h f u.within u.since) ∙ (offset_corrected setting c past x.amount x.stepped x.shown x.deed ∙ ap (λ z. z +ℤ x.amount) (sym x.same_k)) in
     let r_h : Within (r ∷ rolder) h = Within-through (r ∷ rolder) past h x.reads (Within-tail c past h u.within) in
     let order : r.did.step.at ≤ t = (let p = place-time setting (r ∷ rolder) h f r_h in omega arith) in
     let d = drift_apart setting k m r.did.step.at t order in
-    subst (λ z. pos (nat_abs (clock_at setting k h t -ℤ (((setting.wall m +ℤ z) +ℤ mean) +ℤ pos (setting.tick m t)))) ≤ℤ (err +ℤ pos (2 * width setting.drift (t - r.did.step.at)))) x.moved_m
-    (sums (setting.wall k) (setting.wall m) (moved (dids (of k (r ∷ rolder)))) (moved (dids (of k h))) (moved (dids (of m (r ∷ rolder)))) mean x.diff x.amount err
+    subst (λ z. pos (nat_abs (clock_at setting k h t -ℤ ((z +ℤ mean) +ℤ pos (setting.tick m t)))) ≤ℤ (err +ℤ pos (2 * width setting.drift (t - r.did.step.at)))) x.same_m
+    (sums (offset setting k (r ∷ rolder)) (offset setting k h) (offset setting m (r ∷ rolder)) mean x.diff x.amount err
     (setting.tick k r.did.step.at) (setting.tick k t) (setting.tick m r.did.step.at) (setting.tick m t) (2 * width setting.drift (t - r.did.step.at))
     x.amount_is k1 x.error d.0 d.1)
 
@@ -53,7 +52,7 @@ agreed_peers setting h t g by m close cpast c d past qast r q rolder qolder e f 
     let one = whole setting m close cpast c past r rolder e (given_at setting (c ∷ past) h g u.within) x in
     let two = whole setting m close cpast d qast q qolder f (given_at setting (d ∷ qast) h g v.within) y in
     let mean : two.mean ≡ one.mean = same-mean one.count two.count one.lo two.lo one.size two.size one.mean two.mean (sym one.deed ∙ two.deed) in
-    triangle (clock_at setting (node_of c) h t) (clock_at setting (node_of d) h t) (((setting.wall m +ℤ moved (dids (of m cpast))) +ℤ one.mean) +ℤ pos (setting.tick m t)) e f
+    triangle (clock_at setting (node_of c) h t) (clock_at setting (node_of d) h t) ((offset setting m cpast +ℤ one.mean) +ℤ pos (setting.tick m t)) e f
     (2 * width setting.drift (t - r.did.step.at)) (2 * width setting.drift (t - q.did.step.at))
     (core setting m cpast one.mean c past r rolder h e t g.fits by u one.met)
     (core setting m cpast one.mean d qast q qolder h f t g.fits by v (subst (λ z. Met setting m (node_of d) cpast z d qast q qolder f) mean two.met))
@@ -65,7 +64,8 @@ agreed_master setting h t g by m close cpast c past r rolder e x u v =
     let close_in : Within (close ∷ cpast) h = Within-through (close ∷ cpast) past h x.closes past_h in
     let moved_is = master_moved setting m w.port close cpast w.fw h w.count w.lo w.size w.mean g.fits w.deed x.close_node close_in v (Within-through w.fw past h w.fw_in past_h) w.followed in
     subst (λ z. pos (nat_abs (clock_at setting (node_of c) h t -ℤ z)) ≤ℤ (e +ℤ pos (2 * width setting.drift (t - r.did.step.at))))
-    (sym (moved-by (setting.wall m) (moved (dids (of m h))) (moved (dids (of m cpast))) w.mean (setting.tick m t) moved_is)) (core setting m cpast w.mean c past r rolder h e t g.fits by u w.met)
+    (sym (moved-by (offset setting m h) (offset setting m cpast) w.mean (setting.tick m t) (offset_meant setting m close cpast h w.count w.lo w.size w.mean w.deed x.close_node v.lives moved_is)))
+    (core setting m cpast w.mean c past r rolder h e t g.fits by u w.met)
 
 clocks_agree : (setting : Setting) (h : List Line) (t : ℕ) → Given setting h → time_of (dids h) ≤ t → ClocksAgree setting h t
 clocks_agree setting h t g by = record { peers = agreed_peers setting h t g by; master = agreed_master setting h t g by }
@@ -102,12 +102,18 @@ bound_at setting h t g by m close cpast mean c past r older err s =
     let met = subst (λ z. Met setting m k cpast z c past r older err) is w.met in
     let o = place-time setting (c ∷ past) h g.fits s.within in
     let left = core setting m cpast mean c past r older (c ∷ past) err t gc.fits (omega arith) (record { within = inl refl; since = record { corrects = refl; lives = refl } }) met in
-    let taken = back (setting.wall k) (setting.wall m) (moved (dids (of k (c ∷ past)))) (moved (dids (of m cpast))) (moved (dids (of k h))) (moved (dids (of m h))) mean err (setting.tick k t) (setting.tick m t) (2 * width setting.drift (t - r.did.step.at)) left in
+    let w_k : setting.wall k (lives (dids (of k (c ∷ past)))) ≡ setting.wall k (lives (dids (of k h))) = ap (setting.wall k) s.one_life in
+    let w_m : setting.wall m (lives (dids (of m cpast))) ≡ setting.wall m (lives (dids (of m h))) =
+    ap (setting.wall m) (close_life m close cpast h s.count s.lo s.size mean s.deed s.from_round.close_node s.one_life_master) in
+    let taken = back (setting.wall k (lives (dids (of k h)))) (setting.wall m (lives (dids (of m h)))) (moved (dids (of k (c ∷ past)))) (moved (dids (of m cpast))) (moved (dids (of k h))) (moved (dids (of m h)))
+    mean err (setting.tick k t) (setting.tick m t) (2 * width setting.drift (t - r.did.step.at))
+    (subst₂ (λ x y. pos (nat_abs (((x +ℤ moved (dids (of k (c ∷ past)))) +ℤ pos (setting.tick k t)) -ℤ (((y +ℤ moved (dids (of m cpast))) +ℤ mean) +ℤ pos (setting.tick m t))))
+    ≤ℤ (err +ℤ pos (2 * width setting.drift (t - r.did.step.at)))) w_k w_m left) in
     record { taken_back = taken; now = besides (clock_at setting k h t) (clock_at setting m h t) (moved (dids (of k h)) -ℤ moved (dids (of k (c ∷ past)))) ((moved (dids (of m h)) -ℤ moved (dids (of m cpast))) -ℤ mean) (err +ℤ pos (2 * width setting.drift (t - r.did.step.at))) taken }
 
 -- a clock with what moved it since a place taken back is as that place left it
-left-as : (wall now then : ℤ) (tick : ℕ) → ((wall +ℤ now) +ℤ pos tick) -ℤ (now -ℤ then) ≡ (wall +ℤ then) +ℤ pos tick
-left-as wall now then tick = omega (arith, ints)
+left-as : (wall was now then : ℤ) (tick : ℕ) → was ≡ wall → ((wall +ℤ now) +ℤ pos tick) -ℤ (now -ℤ then) ≡ (was +ℤ then) +ℤ pos tick
+left-as wall was now then tick e = omega (arith, ints)
 
 peers_bound : (setting : Setting) (h : List Line) (t : ℕ) → Given setting h → time_of (dids h) ≤ t → PeersBound setting h t
 peers_bound setting h t g by m close cpast c d past qast r q rolder qolder e f x y =
@@ -125,9 +131,11 @@ peers_bound setting h t g by m close cpast c d past qast r q rolder qolder e f x
     let near_d = core setting m cpast one.mean d qast q qolder (d ∷ qast) f t gd.fits (omega arith) (record { within = inl refl; since = record { corrects = refl; lives = refl } }) met in
     let v = 2 * width setting.drift (t - r.did.step.at) in
     let w = 2 * width setting.drift (t - q.did.step.at) in
-    let near = triangle (clock_at setting k (c ∷ past) t) (clock_at setting l (d ∷ qast) t) (((setting.wall m +ℤ moved (dids (of m cpast))) +ℤ one.mean) +ℤ pos (setting.tick m t)) e f v w near_c near_d in
-    let back_c = left-as (setting.wall k) (moved (dids (of k h))) (moved (dids (of k (c ∷ past)))) (setting.tick k t) in
-    let back_d = left-as (setting.wall l) (moved (dids (of l h))) (moved (dids (of l (d ∷ qast)))) (setting.tick l t) in
+    let near = triangle (clock_at setting k (c ∷ past) t) (clock_at setting l (d ∷ qast) t) ((offset setting m cpast +ℤ one.mean) +ℤ pos (setting.tick m t)) e f v w near_c near_d in
+    let back_c = left-as (setting.wall k (lives (dids (of k h)))) (setting.wall k (lives (dids (of k (c ∷ past))))) (moved (dids (of k h))) (moved (dids (of k (c ∷ past)))) (setting.tick k t)
+    (ap (setting.wall k) x.one_life) in
+    let back_d = left-as (setting.wall l (lives (dids (of l h)))) (setting.wall l (lives (dids (of l (d ∷ qast))))) (moved (dids (of l h))) (moved (dids (of l (d ∷ qast)))) (setting.tick l t)
+    (ap (setting.wall l) y.one_life) in
     let taken = subst₂ (λ a b. pos (nat_abs (a -ℤ b)) ≤ℤ ((e +ℤ f) +ℤ pos (v + w))) (sym back_c) (sym back_d) near in
     record { taken_back = taken; now = besides (clock_at setting k h t) (clock_at setting l h t) (moved_since k (c ∷ past) h) (moved_since l (d ∷ qast) h) ((e +ℤ f) +ℤ pos (v + w)) taken }
 

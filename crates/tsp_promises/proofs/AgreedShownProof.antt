@@ -11,7 +11,7 @@ use Rattle.tsp_promises.proofs.AgreedProof.{agreed_master, agreed_peers, chained
 use Rattle.tsp_promises.proofs.{HistoryPlaces.of-own, HistoryPlaces.Within-of, Printed.after_slew, Printed.shows_target}
 use Rattle.std.proofs.Common.{sym, arith, subst, ◌∙◌, ◌≡◌, ◌≤◌, ◌≤ℤ◌, ℕ, ◌+◌, ◌-◌, ℤ, pos, ◌+ℤ◌, ◌-ℤ◌, nat_abs, true, List, [], ◌∷◌, ap, subst₂, inl, ◌/◌, Bool, false, refl}
 use Rattle.std.proofs.lemmas.Int.{ints}
-use Rattle.tsp_base.specs.Words.{Line, of, dids, time_of, up, Within, tick_at, Acts, Did, last_correct, last_correct_after, shown, target, tick_of, heard}
+use Rattle.tsp_base.specs.Words.{Line, of, dids, time_of, up, Within, Acts, Did, last_correct, last_correct_after, shown, target, tick_of, heard}
 use Rattle.tsp_base.proofs.{PlaceLemmas.Within-through, PlaceLemmas.Within-tail, Views.plain_view}
 use Rattle.tsp_rules.specs.Values.{Correct}
 
@@ -32,7 +32,7 @@ corrected-up : (setting : Setting) (m : ℕ) (close : Line) (cpast : List Line) 
 corrected-up setting m close cpast c past r older e h f x u =
     let k = node_of c in
     let fc = fits_at setting (c ∷ past) h f u.within in
-    stays_up k past h (Within-tail c past h u.within) (subst (λ z. Alive setting z c.did (up (dids (of k past)))) x.acts.correct fc.0.alive)
+    stays_up k past h (Within-tail c past h u.within) (subst (λ z. Alive setting z c.did (dids (of k past))) x.acts.correct fc.0.alive)
 
 -- and so has whoever corrected it
 master-up : (setting : Setting) (m : ℕ) (close : Line) (cpast : List Line) (c : Line) (past : List Line) (r : Line) (older : List Line) (e : ℤ) (h : List Line) → Fits setting h → FromRound m close cpast c past r older e → Unchanged (node_of c) (c ∷ past) h → up (dids (of m h)) ≡ true

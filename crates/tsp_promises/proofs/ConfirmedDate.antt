@@ -1,7 +1,7 @@
 -- A date that was passed on and acknowledged was set.
 use Rattle.std.proofs.Common.{sym, ap, arith, subst, subst₂, inl, inr, ◌⊎◌, ◌∙◌, ◌≡◌, ◌+◌, ◌*◌, ◌%◌, ◌<◌, ◌≤◌, true, ℕ, List, ◌∷◌, is_some, refl}
 use Rattle.tsp_rules.specs.Values.{Post, Correct, Acked, Message, Kind, Date, DateAck, SetDate, SetDateReq, PeerId, Peer, Port, LIFE, QUIET}
-use Rattle.tsp_base.specs.Words.{Acts, Did, Line, Seen, Here, of, dids, view, MessageValue, boot_tick, lives, word, Within, acting, begun, begun_to, has_own_number, is_date_request, is_numbered, open_to, Receives, peer_of, tick_at}
+use Rattle.tsp_base.specs.Words.{Acts, Did, Line, Seen, Here, of, dids, view, MessageValue, boot_tick, lives, word, Within, acting, begun, begun_to, has_own_number, is_date_request, is_numbered, open_to, Receives, peer_of}
 use Rattle.tsp_base.proofs.{PlaceLemmas.Within-comparable, PlaceLemmas.Within-tail, PlaceLemmas.Within-through, Views.plain_view}
 use Rattle.tsp_promises.proofs.OwnFitsProof.{own_fits, fits_at, place-time, locate, fits_in, seen_in, tick_in, view-line, deed_fits}
 use Rattle.tsp_promises.specs.Premises.{Few, FewAt, Honest, HonestAt, Life, TakenWithinAt}

@@ -1,20 +1,20 @@
 -- How far a clock is behind its master's after a SETTIME.
-use Rattle.std.proofs.Common.{sym, ap, arith, subst, subst₂, mul-le-mul_left, ◌∙◌, ◌≡◌, ◌≤◌, ◌≤ℤ◌, ℕ, ◌+◌, ◌-◌, ◌*◌, ℤ, pos, ◌+ℤ◌, ◌-ℤ◌, true, List, ◌∷◌, refl}
+use Rattle.std.proofs.Common.{sym, ap, arith, subst, subst₂, mul-le-mul_left, ◌∙◌, ◌≡◌, ◌≤◌, ◌≤ℤ◌, ℕ, ◌+◌, ◌-◌, ◌*◌, ℤ, pos, ◌+ℤ◌, ◌-ℤ◌, nat_abs, true, List, ◌∷◌, refl}
 use Rattle.std.proofs.lemmas.Int.{ints}
 use Rattle.tsp_rules.specs.Values.{Message, Peer, LAST, LIFE}
-use Rattle.tsp_base.specs.Words.{Did, Line, of, dids, plain, view, moved, target, up, Within, Undisturbed, peer_of, time_in, tick_at, width}
+use Rattle.tsp_base.specs.Words.{Did, Line, of, dids, plain, view, target, up, Within, Undisturbed, peer_of, time_in, width}
 use Rattle.tsp_promises.specs.{CorrectFits.amount_of, Fits.Alive, Fits.Fits, Fits.node_of, Premises.Life, Premises.TakenWithinAt}
 use Rattle.tsp_promises.specs.FirstSet.{BehindAtOnce, BehindBy, FirstSet, FirstSetAt, FirstSetSoon, SetBy, behind}
 use Rattle.tsp_base.proofs.{PlaceLemmas.Within-through, PlaceLemmas.Within-tail, Views.plain_view}
-use Rattle.tsp_promises.proofs.{ClockProof.post_up, Clocks.tick-mono, Clocks.ticks_over, HistoryPlaces.of-own, TakingProof.begun_facts}
+use Rattle.tsp_promises.proofs.{ClockProof.post_up, Clocks.tick-mono, Clocks.ticks_over, TakingProof.begun_facts}
 use Rattle.tsp_promises.{proofs.EverywhereLemmas.Everywhere-from, proofs.EverywhereLemmas.Everywhere-within, specs.Setting.Setting}
-use Rattle.tsp_promises.proofs.{OwnFitsProof.fits_in, HistoryPlaces.line_on, OwnFitsProof.tick_in, MasterMoved.correct-moves, MasterMoved.unmoved}
+use Rattle.tsp_promises.proofs.{OwnFitsProof.fits_in, HistoryPlaces.line_on, OwnFitsProof.tick_in, ClockProof.offset, MasterMoved.offset_corrected, MasterMoved.offset_kept}
 use Rattle.tsp_promises.proofs.{OwnFitsProof.fits_at, OwnFitsProof.place-time, ClockProof.clock_target, ClockProof.stays_up}
 
 -- what the clock is behind by, in ticks of both nodes
-core : (wm mh time wk mp mk amount : ℤ) (tf tm tc tk : ℕ) → time ≡ (wm +ℤ mh) +ℤ pos tf → amount ≡ time -ℤ ((wk +ℤ mp) +ℤ pos tc) → mk ≡ mp +ℤ amount →
-    ((wm +ℤ mh) +ℤ pos tm) -ℤ ((wk +ℤ mk) +ℤ pos tk) ≡ (pos tm -ℤ pos tf) -ℤ (pos tk -ℤ pos tc)
-core wm mh time wk mp mk amount tf tm tc tk e f g = omega (arith, ints)
+core : (master time before after amount : ℤ) (tf tm tc tk : ℕ) → time ≡ master +ℤ pos tf → amount ≡ time -ℤ (before +ℤ pos tc) → after ≡ before +ℤ amount →
+    (master +ℤ pos tm) -ℤ (after +ℤ pos tk) ≡ (pos tm -ℤ pos tf) -ℤ (pos tk -ℤ pos tc)
+core master time before after amount tf tm tc tk e f g = omega (arith, ints)
 
 -- where a SETTIME and its Correct stand, and what the clock is behind by then
 record Set (setting : Setting) (m : ℕ) (c : Line) (past h : List Line) (s : SetBy m c past h) : Type 0 where
@@ -43,26 +43,25 @@ set setting m c past h f s =
     let m_up : up (dids (of m fw)) ≡ true = subst (λ n. up (dids (of n fw)) ≡ true) node (post_up setting line fw (Peer (peer_of k)) (Message t.acts.brings.message) (fits_in setting line fw h f line_h) d.begins.sends.deed) in
     let m_now : up (dids (of m h)) ≡ true = stays_up m fw h fw_h m_up in
     let m_left : Undisturbed (dids (of m fw)) (dids (of m h)) = subst (λ b. Undisturbed b (dids (of m h))) begun s.unchanged_master in
-    let m_moved = unmoved setting m fw h f fw_h m_left in
+    let m_same = offset_kept setting m fw h f fw_h m_left in
     let f_at : d.begins.first.step.at ≡ t.first.step.at = ap (λ (z : Did). z.step.at) d.first_is in
     let f_tick : t.first.tick ≡ setting.tick m t.first.step.at = subst (λ (z : Did). z.tick ≡ setting.tick m z.step.at) d.first_is (tick_in setting m line fw h f node line_h) in
-    let time : time_in t.acts.brings.message.body ≡ (setting.wall m +ℤ moved (dids (of m h))) +ℤ pos (setting.tick m t.first.step.at) =
+    let time : time_in t.acts.brings.message.body ≡ offset setting m h +ℤ pos (setting.tick m t.first.step.at) =
     ((d.fits.sets s.sets).time ∙ subst₂ (λ b x. target (plain t.begun) t.first.tick ≡ target b x) begun f_tick refl)
-    ∙ (sym (clock_target setting m fw t.first.step.at (fits_at setting fw h f fw_h) m_up) ∙ ap (λ z. (setting.wall m +ℤ z) +ℤ pos (setting.tick m t.first.step.at)) m_moved) in
+    ∙ (sym (clock_target setting m fw t.first.step.at (fits_at setting fw h f fw_h) m_up) ∙ ap (λ z. z +ℤ pos (setting.tick m t.first.step.at)) m_same) in
     -- the node that is set
-    let k_up : up (dids (of k past)) ≡ true = subst (λ z. Alive setting z c.did (up (dids (of k past)))) t.acts.correct fc.0.alive in
+    let k_up : up (dids (of k past)) ≡ true = subst (λ z. Alive setting z c.did (dids (of k past))) t.acts.correct fc.0.alive in
     let seen : plain (view c.port (of k past)) ≡ dids (of k past) = plain_view c.port (of k past) in
-    let amount : t.acts.amount ≡ time_in t.acts.brings.message.body -ℤ ((setting.wall k +ℤ moved (dids (of k past))) +ℤ pos (setting.tick k c.did.step.at)) =
+    let amount : t.acts.amount ≡ time_in t.acts.brings.message.body -ℤ (offset setting k past +ℤ pos (setting.tick k c.did.step.at)) =
     d.acting.takes.amount_is ∙ (ap (λ z. amount_of z (time_in t.acts.brings.message.body) (target (plain (view c.port (of k past))) c.did.tick)) s.sets
     ∙ ap (λ z. time_in t.acts.brings.message.body -ℤ z) (subst₂ (λ b x. target (plain (view c.port (of k past))) c.did.tick ≡ target b x) seen fc.0.tick refl ∙ sym (clock_target setting k past c.did.step.at fc.1 k_up))) in
-    let moves = correct-moves c.did (dids (of k past)) t.acts.amount t.acts.stepped t.acts.shown t.acts.correct in
-    let k_moved : moved (dids (of k h)) ≡ moved (dids (of k past)) +ℤ t.acts.amount =
-    sym (unmoved setting k (c ∷ past) h f s.unchanged.within s.unchanged.since) ∙ (ap (λ w. moved (dids w)) (of-own k c past refl) ∙ moves.moved_is) in
+    let k_now : offset setting k h ≡ offset setting k past +ℤ t.acts.amount =
+    sym (offset_kept setting k (c ∷ past) h f s.unchanged.within s.unchanged.since) ∙ offset_corrected setting c past t.acts.amount t.acts.stepped t.acts.shown t.acts.correct in
     let post_tick : t.post.did.tick ≡ setting.tick m t.post.did.step.at = tick_in setting m t.post t.before past fc.1 t.node post_in in
     let after = place-time setting (t.post ∷ t.before) past fc.1 post_in in
     record {
-      gap = λ at. core (setting.wall m) (moved (dids (of m h))) (time_in t.acts.brings.message.body) (setting.wall k) (moved (dids (of k past))) (moved (dids (of k h))) t.acts.amount
-          (setting.tick m t.first.step.at) (setting.tick m at) (setting.tick k c.did.step.at) (setting.tick k at) time amount k_moved;
+      gap = λ at. core (offset setting m h) (time_in t.acts.brings.message.body) (offset setting k past) (offset setting k h) t.acts.amount
+          (setting.tick m t.first.step.at) (setting.tick m at) (setting.tick k c.did.step.at) (setting.tick k at) time amount k_now;
       order = (let o = d.begins.after in omega (arith, f_at));
       after = omega (arith, fc.0.order, after);
       ticks = (let o = d.begins.ticks in let e = ap (λ (z : Did). z.tick) d.first_is in omega (arith, e, f_tick, post_tick));
@@ -73,6 +72,9 @@ low-sum b tm tf tk tc t f c v w e o p x y = rw e (omega (arith, ints))
 
 high-sum : (b : ℤ) (tm tf tk tc t f c v w : ℕ) → b ≡ (pos tm -ℤ pos tf) -ℤ (pos tk -ℤ pos tc) → f ≤ c → c ≤ t → tm ≤ tf + (t - f) + v → tc + (t - c) ≤ tk + w → b ≤ℤ pos (c - f + (v + w))
 high-sum b tm tf tk tc t f c v w e o p x y = rw e (omega (arith, ints))
+
+both-sides : (b : ℤ) (n w : ℕ) → (pos n -ℤ pos w) ≤ℤ b → b ≤ℤ pos (n + w) → pos (nat_abs (b -ℤ pos n)) ≤ℤ pos w
+both-sides b n w low high = omega (arith, ints, low, high)
 
 not-ahead : (b : ℤ) (tm tf tk : ℕ) → b ≡ (pos tm -ℤ pos tf) -ℤ (pos tk -ℤ pos tk) → tf ≤ tm → pos 0 ≤ℤ b
 not-ahead b tm tf tk e x = rw e (omega (arith, ints))
@@ -93,10 +95,9 @@ later setting m c past h f s t by =
     let rk = setting.tick k in
     let v = width setting.drift (t - a) in
     let w = width setting.drift (t - b) in
-    record {
-      low = low-sum (behind setting m c h t) (rm t) (rm a) (rk t) (rk b) t a b v w (d.gap t) order by one.1 two.0;
-      high = high-sum (behind setting m c h t) (rm t) (rm a) (rk t) (rk b) t a b v w (d.gap t) order by one.0 two.1;
-    }
+    let low = low-sum (behind setting m c h t) (rm t) (rm a) (rk t) (rk b) t a b v w (d.gap t) order by one.1 two.0 in
+    let high = high-sum (behind setting m c h t) (rm t) (rm a) (rk t) (rk b) t a b v w (d.gap t) order by one.0 two.1 in
+    record { near = both-sides (behind setting m c h t) (b - a) (v + w) low high }
 
 at-once : (setting : Setting) (m : ℕ) (c : Line) (past h : List Line) → Fits setting h → (s : SetBy m c past h) → BehindAtOnce setting m c past h s
 at-once setting m c past h f s =

@@ -59,7 +59,7 @@ abbrev pub still : Bool → Setting
 still strict = record {
   drift = 0;
   tick = λ n t. t;
-  wall = λ n. pos 0;
+  wall = λ n life. pos 0;
   name = λ n. n ∷ [];
   strict = strict;
   net = λ n q. net_of n q.0;
@@ -131,7 +131,7 @@ abbrev pub ActsOk : Bool → Step → List Placed → List Line → Type 0
 ActsOk strict step [] h = Unit {0}
 ActsOk strict step (p ∷ rest) h = ActOk strict step p.port p.act h × ActsOk strict step rest (line_of step step.at p.port (Acts p.act) ∷ h)
 
-pub alive-of : (strict : Bool) (step : Step) (port : Port) (a : Act) (h : List Line) → ActOk strict step port a h → Alive (still strict) (Acts a) (line_of step step.at port (Acts a)).did (up (dids (of step.node h)))
+pub alive-of : (strict : Bool) (step : Step) (port : Port) (a : Act) (h : List Line) → ActOk strict step port a h → Alive (still strict) (Acts a) (line_of step step.at port (Acts a)).did (dids (of step.node h))
 alive-of strict step port Boot h ok = ok
 alive-of strict step port _ h ok = ok.0
 

@@ -80,6 +80,7 @@ pub mod TakingProof
 pub mod ThriceProof
 mod VoteProof
 pub mod WitnessChain
+pub mod WitnessClocks
 pub mod WitnessDates
 pub mod WitnessRivals
 pub mod WitnessRounds

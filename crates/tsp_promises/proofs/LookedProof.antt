@@ -1,9 +1,9 @@
 -- Why a look at a clock bounds how far that clock is ahead later.
-use Rattle.std.proofs.Common.{arith, subst, mul-le-mul_left, ◌≡◌, ℕ, ◌+◌, ◌-◌, ◌*◌, ◌/◌, ◌≤◌, ℤ, pos, negsuc, ◌-ℤ◌, ◌+ℤ◌, ◌≤ℤ◌, nat_abs, List}
+use Rattle.std.proofs.Common.{sym, arith, subst, mul-le-mul_left, ◌≡◌, ℕ, ◌+◌, ◌-◌, ◌*◌, ◌/◌, ◌≤◌, ℤ, pos, ◌-ℤ◌, ◌+ℤ◌, ◌≤ℤ◌, List}
 use Rattle.std.proofs.lemmas.Int.{ints}
-use Rattle.tsp_base.specs.Words.{Line, of, dids, moved, tick_at, width}
-use Rattle.tsp_promises.specs.Looked.{Look, ticks_since, width_by_ticks, IsAhead, Looked}
-use Rattle.tsp_promises.{proofs.Clocks.tick-mono, proofs.MasterMoved.unmoved, specs.Fits.Fits, specs.Setting.Setting}
+use Rattle.tsp_base.specs.Words.{Line, width}
+use Rattle.tsp_promises.specs.Looked.{Look, width_by_ticks, IsAhead, Looked}
+use Rattle.tsp_promises.{proofs.Clocks.tick-mono, proofs.ClockProof.offset, proofs.MasterMoved.offset_kept, specs.Fits.Fits, specs.Setting.Setting}
 
 -- the drift of a span, rounded up
 abbrev part : ℕ → ℕ → ℕ
@@ -42,9 +42,9 @@ apart w v kf kl kt mm mt span e b f l up down kup kdown le = (omega (arith, ints
 
 looked-from : (setting : Setting) (h : List Line) → Fits setting h → (k m t : ℕ) (look : Look k m h t) (b : ℕ) → part setting.drift (t - look.middle) ≤ b → IsAhead setting look b
 looked-from setting h fits k m t look b le =
-    let kb : moved (dids (of k look.before)) ≡ moved (dids (of k h)) = unmoved setting k look.before h fits look.own_before.within look.own_before.since in
-    let ka : moved (dids (of k look.after)) ≡ moved (dids (of k h)) = unmoved setting k look.after h fits look.own_after.within look.own_after.since in
-    let mt : moved (dids (of m look.there)) ≡ moved (dids (of m h)) = unmoved setting m look.there h fits look.other.within look.other.since in
+    let kb = offset_kept setting k look.before h fits look.own_before.within look.own_before.since in
+    let ka = offset_kept setting k look.after h fits look.own_after.within look.own_after.since in
+    let mt = offset_kept setting m look.there h fits look.other.within look.other.since in
     let span : ℕ = t - look.middle in
     let e : ℕ = part setting.drift span in
     let n : look.middle ≤ t = let i = look.begins in let j = look.ends in let q = look.passed in omega arith in
@@ -58,7 +58,7 @@ looked-from setting h fits k m t look b le =
     let kup : setting.tick k t ≤ setting.tick k look.last + span + e = let j = look.ends in omega (arith, late.0, less) in
     let kdown : setting.tick k look.first + span ≤ setting.tick k t + e = omega (arith, mid.1, first) in
     rw kb (rw ka (rw mt (
-    apart (setting.wall k +ℤ moved (dids (of k h))) (setting.wall m +ℤ moved (dids (of m h)))
+    apart (offset setting k h) (offset setting m h)
     (setting.tick k look.first) (setting.tick k look.last) (setting.tick k t)
     (setting.tick m look.middle) (setting.tick m t) span e b
     (omega (arith, first, second)) third mine.0 mine.1 kup kdown le)))
@@ -66,10 +66,10 @@ looked-from setting h fits k m t look b le =
 pub looked : (setting : Setting) (h : List Line) → Fits setting h → Looked setting h
 looked setting h fits k m t look = (
   looked-from setting h fits k m t look (width setting.drift (t - look.middle)) (omega arith),
-  λ short. looked-from setting h fits k m t look (width_by_ticks setting.drift (ticks_since setting look))
-      (by_ticks setting.drift (t - look.middle) (ticks_since setting look) setting.small (reach) short),
+  λ x is short. looked-from setting h fits k m t look (width_by_ticks setting.drift x)
+      (by_ticks setting.drift (t - look.middle) x setting.small (subst (λ y. t - look.middle ≤ y + part setting.drift (t - look.middle)) (sym is) reach) short),
 ) where
-  reach : t - look.middle ≤ ticks_since setting look + part setting.drift (t - look.middle)
+  reach : t - look.middle ≤ (setting.tick k t - setting.tick k look.first) + part setting.drift (t - look.middle)
   reach =
       let n : look.middle ≤ t = let i = look.begins in let j = look.ends in let q = look.passed in omega arith in
       let mid = sharp_over setting k look.middle t n in

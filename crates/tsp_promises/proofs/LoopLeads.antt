@@ -16,7 +16,7 @@ use Rattle.tsp_rules.specs.GateRows.{other_ports, hops_in, same_name, PassOver, 
 use Rattle.tsp_rules.specs.NodeRows.{NodePast, on_port, spread, nothing_at_all, on, ◌and_then◌, reading_all, for_ports}
 use Rattle.tsp_rules.proofs.Asides.{now}
 use Rattle.tsp_rules.proofs.{CalmBuilt.calm_unmoving, GuardFacts.awake_is, GuardFacts.master_is, NodeRowLemmas.spread_append}
-use Rattle.tsp_base.specs.Words.{Past, Leads, MessageValue, Received, role, grown, nothing, puts, ◌followed_by◌, others, deadline, acting, armed, taken}
+use Rattle.tsp_base.specs.Words.{Past, Leads, MessageValue, Received, role, grown, nothing, puts, ◌followed_by◌, others, deadline, acting, armed}
 use Rattle.tsp_base.proofs.LeadsLemmas.{Leads_then, Leads_either, Leads_nothing, Leads_puts, Leads_from, Leads_to}
 
 -- the LOOPs after a round's last probe keep what is known of their port

@@ -3,11 +3,12 @@
 use Rattle.std.proofs.Common.{ap, arith, subst, inl, inr, ◌∙◌, ◌≡◌, ℕ, ◌+◌, ◌<◌, ◌≤◌, List, ◌∷◌, sym, subst₂, ◌==◌, ◌||◌, ◌⊎◌, Bool, ℤ, pos, ◌+ℤ◌, refl}
 use Rattle.std.proofs.{lemmas.Bool.cases_lt, lemmas.Int.ints}
 use Rattle.tsp_rules.specs.Values.{Post, Datagram, Place, QUIET, Close, Correct, Port}
-use Rattle.tsp_base.specs.Words.{Acts, Did, Line, of, dids, all_corrects, boot_tick, moved, tick_of, ticket, Within, Undisturbed, tick_at, Seen, Here, view, plain, seen_as, is_shared, lives, Setup}
+use Rattle.tsp_base.specs.Words.{Acts, Did, Line, of, dids, all_corrects, boot_tick, moved, tick_of, ticket, Within, Undisturbed, Seen, Here, view, plain, seen_as, is_shared, lives, Setup}
 use Rattle.tsp_base.proofs.{PlaceLemmas.Within-through, Views.plain_view}
 use Rattle.tsp_promises.proofs.OwnFitsProof.{own_tick, own_fits, place-time, fits_at, deed_fits, tick_in, locate, fits_in}
 use Rattle.tsp_promises.proofs.{SendPlaces.Closes, SendPlaces.after-close, SendPlaces.right_after, SinceProof.since, Clocks.near}
 use Rattle.tsp_promises.proofs.HistoryPlaces.{line_on, of-own, Within-of}
+use Rattle.tsp_promises.proofs.ClockProof.{offset, offset_more, offset_same}
 use Rattle.tsp_promises.specs.{Agreed.RightAfter, Agreed.UnchangedBut, Setting.Setting, Setting.setup_of, CorrectionFits.FollowedBy}
 use Rattle.tsp_promises.specs.{CorrectFits.WhyCorrect, Since.Since, Since.OneLife, Fits.Fits, Fits.node_of}
 
@@ -54,13 +55,25 @@ first_after setting k c r past rolder to datagram f c_node r_node deed place res
 pub unmoved : (setting : Setting) (n : ℕ) (s h : List Line) → Fits setting h → Within s h → Undisturbed (dids (of n s)) (dids (of n h)) → moved (dids (of n s)) ≡ moved (dids (of n h))
 unmoved setting n s h f w u = (kept_by (dids (of n s)) (dids (of n h)) (since setting (of n s) (of n h) (own_fits setting n h f) (Within-of n s h w)) u).moved
 
+-- so what its clock is besides its ticks stays
+pub offset_kept : (setting : Setting) (n : ℕ) (s h : List Line) → Fits setting h → Within s h → Undisturbed (dids (of n s)) (dids (of n h)) →
+    offset setting n s ≡ offset setting n h
+offset_kept setting n s h f w u = offset_same setting n s h u.lives (unmoved setting n s h f w u)
+
 -- a Close changes no clock
 pub record CloseKeeps (close : Did) (before : List Did) : Type 0 where
+  pub lives : lives (close ∷ before) ≡ lives before
   pub moved_is : moved (close ∷ before) ≡ moved before
   pub corrects : all_corrects (close ∷ before) ≡ all_corrects before
 
 pub close-keeps : (close : Did) (before : List Did) (count : ℕ) (lo size mean : ℤ) → close.deed ≡ Acts (Close count lo size mean) → CloseKeeps close before
-close-keeps close before count lo size mean e = record { moved_is = rw e refl; corrects = rw e refl }
+close-keeps close before count lo size mean e = record { lives = rw e refl; moved_is = rw e refl; corrects = rw e refl }
+
+-- a node lives on through its Close
+pub close_life : (m : ℕ) (close : Line) (cpast h : List Line) (count : ℕ) (lo size mean : ℤ) → close.did.deed ≡ Acts (Close count lo size mean) → node_of close ≡ m →
+    lives (dids (of m (close ∷ cpast))) ≡ lives (dids (of m h)) → lives (dids (of m cpast)) ≡ lives (dids (of m h))
+close_life m close cpast h count lo size mean deed node life =
+    sym (ap (λ w. lives (dids w)) (of-own m close cpast node) ∙ (close-keeps close.did (dids (of m cpast)) count lo size mean deed).lives) ∙ life
 
 -- a Correct changes it by its amount
 pub record CorrectMoves (next : Did) (before : List Did) (amount : ℤ) : Type 0 where
@@ -70,6 +83,20 @@ pub record CorrectMoves (next : Did) (before : List Did) (amount : ℤ) : Type 0
 
 pub correct-moves : (next : Did) (before : List Did) (amount : ℤ) (stepped : Bool) (shown : ℤ) → next.deed ≡ Acts (Correct amount stepped shown) → CorrectMoves next before amount
 correct-moves next before amount stepped shown e = record { moved_is = rw e refl; corrects = rw e refl; lives = rw e refl }
+
+-- so does the clock besides its ticks
+pub offset_corrected : (setting : Setting) (c : Line) (past : List Line) (amount : ℤ) (stepped : Bool) (shown : ℤ) → c.did.deed ≡ Acts (Correct amount stepped shown) →
+    offset setting (node_of c) (c ∷ past) ≡ offset setting (node_of c) past +ℤ amount
+offset_corrected setting c past amount stepped shown e =
+    let k = node_of c in
+    let own : dids (of k (c ∷ past)) ≡ c.did ∷ dids (of k past) = ap dids (of-own k c past refl) in
+    let moves = correct-moves c.did (dids (of k past)) amount stepped shown e in
+    offset_more setting k past (c ∷ past) amount (sym (ap lives own ∙ moves.lives)) (ap moved own ∙ moves.moved_is)
+
+-- and so does m's, where it has moved by the mean since before its Close
+pub offset_meant : (setting : Setting) (m : ℕ) (close : Line) (cpast h : List Line) (count : ℕ) (lo size mean : ℤ) → close.did.deed ≡ Acts (Close count lo size mean) → node_of close ≡ m →
+    lives (dids (of m (close ∷ cpast))) ≡ lives (dids (of m h)) → moved (dids (of m h)) ≡ moved (dids (of m cpast)) +ℤ mean → offset setting m h ≡ offset setting m cpast +ℤ mean
+offset_meant setting m close cpast h count lo size mean deed node life more = offset_more setting m cpast h mean (close_life m close cpast h count lo size mean deed node life) more
 
 pub same-mean : (count c : ℕ) (lo l size s mean amount : ℤ) → Acts (Close count lo size mean) ≡ Acts (Close c l s amount) → amount ≡ mean
 same-mean count c lo l size s mean amount e = cc

@@ -2,7 +2,7 @@
 use Rattle.std.proofs.Common.{sym, ap, arith, subst, subst₂, inl, inr, ◌∙◌, ◌≡◌, true, ℤ, pos, ◌+ℤ◌, ◌-ℤ◌, ◌≤ℤ◌, nat_abs, ℕ, zero, suc, ◌+◌, ◌-◌, ◌/◌, ◌≤◌, ◌⊎◌, List, ◌∷◌, refl}
 use Rattle.std.proofs.lemmas.Int.{ints}
 use Rattle.tsp_rules.specs.Values.{Post, Sample, Datagram, Stamp, PeerId, Place, Peer, Port, Request, Reply, LIFE}
-use Rattle.tsp_base.specs.Words.{Came, Acts, Did, Line, Seen, Here, of, dids, view, plain, all_corrects, base, boot_tick, lives, moved, target, up, word, wall, ticket, Within, half_down, half_up, sample_diff, sample_err, ReplyValue, Undisturbed, peer_of, posted, tick_at}
+use Rattle.tsp_base.specs.Words.{Came, Acts, Did, Line, Seen, Here, of, dids, view, plain, all_corrects, base, boot_tick, lives, moved, target, up, word, wall, ticket, Within, half_down, half_up, sample_diff, sample_err, ReplyValue, Undisturbed, peer_of, posted}
 use Rattle.tsp_base.proofs.{PlaceLemmas.Within-through, PlaceLemmas.Within-tail, Views.plain_view}
 use Rattle.tsp_promises.specs.Premises.{Honest, HonestAt, Life, OwnWords, OwnWordsAt, TakenWithinAt}
 use Rattle.tsp_promises.proofs.OwnFitsProof.{Located, locate, fits_in, tick_in, deed_fits, own_fits, fits_at, place-time}
@@ -44,11 +44,11 @@ pub record Reading (setting : Setting) (l : Line) (world : List Line) (k : ℕ) 
 record Still (old mid now : List Did) : Type 0 where
   pub all_mid : all_corrects mid ≡ all_corrects now
   pub lives_mid : lives mid ≡ lives now
+  pub lives_old : lives old ≡ lives now
   pub moved_mid : moved mid ≡ moved now
   pub moved_old : moved old ≡ moved now
   pub wall_old : wall old ≡ wall now
   pub boot_old : boot_tick old ≡ boot_tick now
-  pub word_old : word old ≡ word now
 
 still : (first old mid now : List Did) → Since first old → Since old mid → Since mid now → Since old now → Undisturbed first now → Still old mid now
 still first old mid now a b c d u =
@@ -59,11 +59,11 @@ still first old mid now a b c d u =
     record {
       all_mid = all_mid;
       lives_mid = two.lives;
+      lives_old = one.lives;
       moved_mid = two.still all_mid;
       moved_old = one.still all_old;
       wall_old = one.wall;
       boot_old = one.boot;
-      word_old = one.word;
     }
 
 -- the two clocks at the reading, and the two targets of the exchange
@@ -102,7 +102,9 @@ reading-t setting l r t world older tw p k counter number diff err w f s l_up r_
     let wall_t : wall (dids (of n tw)) ≡ wall (dids (of n world)) = sym (ap wall t_own ∙ rw asks.deed refl) ∙ st.wall_old in
     let boot_t : boot_tick (dids (of n tw)) ≡ boot_tick (dids (of n world)) = sym (ap boot_tick t_own ∙ rw asks.deed refl) ∙ st.boot_old in
     let t_up : up (dids (of n tw)) ≡ true = asks-up setting n t tw p w counter asks ft.0 in
-    let base_t : base (dids (of n tw)) ≡ setting.wall n = base_is setting n tw ft.1 t_up in
+    let lives_t : lives (dids (of n tw)) ≡ lives (dids (of n world)) = sym (ap lives t_own ∙ rw asks.deed refl) ∙ st.lives_old in
+    let base_t : base (dids (of n tw)) ≡ setting.wall n (lives (dids (of n (r ∷ older)))) =
+    base_is setting n tw ft.1 t_up ∙ ap (setting.wall n) (lives_t ∙ sym st.lives_mid) in
     let older_is : plain s.older ≡ dids (of n tw) = ap plain (sym seen_t) ∙ plain_view l.port (of n tw) in
     let a_is : target (plain s.older) s.post.tick ≡ target (dids (of n tw)) t.did.tick = subst₂ (λ x y. target x y.tick ≡ target (dids (of n tw)) t.did.tick) (sym older_is) t_is refl in
     let d_is : target (plain (view l.port (of n world))) l.did.tick ≡ target (dids (of n world)) l.did.tick = ap (λ x. target x l.did.tick) now_is in
@@ -121,7 +123,7 @@ reading-t setting l r t world older tw p k counter number diff err w f s l_up r_
       node = r_node;
       takes = takes;
       number = g.ticket_is ∙ ap ticket (plain_view r.port (of k older));
-      error = exchange (setting.wall n) (wall (dids (of n tw))) (wall (dids (of n world))) (moved (dids (of n tw))) (moved (dids (of n (r ∷ older)))) (moved (dids (of n world))) s.reply.reading diff err (clock setting k (r ∷ older)) (clock setting n (r ∷ older))
+      error = exchange (setting.wall n (lives (dids (of n (r ∷ older))))) (wall (dids (of n tw))) (wall (dids (of n world))) (moved (dids (of n tw))) (moved (dids (of n (r ∷ older)))) (moved (dids (of n world))) s.reply.reading diff err (clock setting k (r ∷ older)) (clock setting n (r ∷ older))
           (target (plain s.older) s.post.tick) (target (plain (view l.port (of n world))) l.did.tick) (boot_tick (dids (of n tw))) (boot_tick (dids (of n world))) t.did.tick (setting.tick n r.did.step.at) l.did.tick
           base_t wall_t boot_t st.moved_mid moved_t (omega arith) (omega (arith, f.0.tick)) clock_k refl a_is d_is s.diff_is s.err_is;
       undisturbed = record { corrects = st.all_mid; lives = st.lives_mid };
@@ -205,7 +207,7 @@ reading_at setting l world p counter number diff err f h why is s =
     ] in
     let q_node : node_of q.post ≡ n = number-same (node_of q.post) n q.node in
     let net : setting.net n q.post.port ≡ setting.net n l.port = subst (λ k. setting.net k q.post.port ≡ setting.net n l.port) {x = node_of q.post} q_node (◌∙◌ {a = setting.net (node_of q.post) q.post.port} q.net r.net) in
-    let l_up : up (dids (of n world)) ≡ true = subst (λ k. Alive setting k l.did (up (dids (of n world)))) is f.0.alive in
+    let l_up : up (dids (of n world)) ≡ true = subst (λ k. Alive setting k l.did (dids (of n world))) is f.0.alive in
     subst (λ k. Reading setting l world k diff err s.start s.idle s.reply) {x = node_of r.post} (ap (λ (z : PeerId). z.0) r.node)
     (reading-q setting l r.post q.post world r.older q.older p counter number diff err f s l_up r.place r.deed r.takes g q.place q.deed q_node (setting.apart n q.post.port l.port net) near)
 

@@ -7,7 +7,7 @@ use Rattle.tsp_promises.{proofs.RoundPlaces.some-is, proofs.SendPlaces.post_fits
 use Rattle.tsp_promises.proofs.TakingProof.{amount-adj, begun-by, corrects-adj, begun_facts, used-by}
 use Rattle.tsp_promises.proofs.{EstimatesProof.ended_near, OnceTakenProof.heard_as, OnceTakenProof.correct_fits}
 use Rattle.tsp_promises.proofs.{EverywhereLemmas.Everywhere-from, HistoryPlaces.of-own, MasterMoved.closed-here, MasterMoved.mean-is, MasterMoved.same-mean}
-use Rattle.std.proofs.Common.{sym, ap, arith, subst, inl, inr, ◌∙◌, ◌≡◌, ◌==◌, ◌||◌, ◌≤◌, ◌<◌, ◌≤ℤ◌, ℕ, ◌-◌, ◌*◌, ℤ, pos, ◌+ℤ◌, ◌-ℤ◌, nat_abs, Bool, true, false, List, ◌∷◌, Some, refl, ◌+◌, ◌/◌, negsuc, neg_ℤ, if◌then◌else◌, nat_lt, Option, None}
+use Rattle.std.proofs.Common.{sym, ap, arith, subst, inl, inr, ◌∙◌, ◌≡◌, ◌==◌, ◌||◌, ◌≤◌, ◌≤ℤ◌, ℕ, ◌-◌, ◌*◌, ℤ, pos, ◌+ℤ◌, ◌-ℤ◌, nat_abs, Bool, true, false, List, ◌∷◌, Some, refl, ◌+◌, ◌/◌, negsuc, neg_ℤ, if◌then◌else◌, nat_lt, Option, None}
 use Rattle.std.proofs.{lemmas.Bool.ltb-true, lemmas.Int.ints}
 use Rattle.tsp_rules.specs.Values.{Correct, Message, Good, AdjTime, Place, MAXADJ, SLEW, SPAN}
 use Rattle.tsp_base.specs.Words.{Acts, Did, Line, of, dids, view, seen_as, is_shared, plain, MessageValue, Received, time_of, eased, last_correct, rest}

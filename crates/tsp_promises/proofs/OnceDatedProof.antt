@@ -1,7 +1,7 @@
 -- No two Corrects take posts of one date that is passed on, and so of no send.
 use Rattle.std.proofs.Common.{sym, ap, arith, subst, subst₂, inl, inr, eq-eqb, eqb-true, true≢false, ◌∙◌, ◌≡◌, ◌≢◌, ◌==◌, ◌≤◌, Bool, true, false, ℕ, ◌+◌, ℤ, List, ◌∷◌, refl}
 use Rattle.tsp_rules.specs.Values.{Post, Correct, Message, Kind, Date, DateReq, SetDate, SetDateReq, PeerId, Peer, Port, LIFE, QUIET, REUSE}
-use Rattle.tsp_base.specs.Words.{Acts, Did, Line, Seen, Here, of, dids, view, is_shared, MessageValue, boot_tick, lives, Within, acting, is_correction, is_date_request, is_numbered, is_set_date_request, sets_date, Setup, Receives, peer_of, tick_at}
+use Rattle.tsp_base.specs.Words.{Acts, Did, Line, Seen, Here, of, dids, view, is_shared, MessageValue, boot_tick, lives, Within, acting, is_correction, is_date_request, is_numbered, is_set_date_request, sets_date, Setup, Receives, peer_of}
 use Rattle.tsp_base.proofs.{PlaceLemmas.Within-through, PlaceLemmas.Within-tail, PlaceLemmas.Within-comparable, ViewPlaces.sees-own}
 use Rattle.tsp_base.proofs.Views.{plain_view}
 use Rattle.tsp_promises.proofs.OwnFitsProof.{fits_in, tick_in, deed_fits, own_fits, own_fits_at, fits_at, place-time, seen_same}

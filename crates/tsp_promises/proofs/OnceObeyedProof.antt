@@ -39,7 +39,7 @@ round-leads setting n q world amount f r =
     ap role r.is ∙ (rw r.deed (ap role (sym l.before) ∙ leads))
 
 pub correct-up : (setting : Setting) (l : Line) (world : List Line) (amount : ℤ) (stepped : Bool) (shown : ℤ) → LineFits setting l world → l.did.deed ≡ Acts (Correct amount stepped shown) → up (dids (of (node_of l) world)) ≡ true
-correct-up setting l world amount stepped shown f e = subst (λ k. Alive setting k l.did (up (dids (of (node_of l) world)))) e f.alive
+correct-up setting l world amount stepped shown f e = subst (λ k. Alive setting k l.did (dids (of (node_of l) world))) e f.alive
 
 obeys-by : (setting : Setting) (l : Line) (world : List Line) (q : PeerId) (amount : ℤ) (stepped : Bool) (shown : ℤ) → Fits setting (l ∷ world) → Honest (l ∷ world) → l.did.deed ≡ Acts (Correct amount stepped shown) →
     role (view l.port (of (node_of l) world)) ≡ Follow q → WhyCorrect (setup_of setting (node_of l) l.port) l.did (view l.port (of (node_of l) world)) amount → Obeys setting l world amount q

@@ -3,7 +3,7 @@
 use Rattle.std.proofs.Common.{sym, ap, arith, subst, inl, inr, ◌∙◌, ◌≡◌, ℕ, List, [], ◌∷◌, length, refl, ◌==◌, ◌||◌, true, false, eqb-true, Bool, ◌≤◌}
 use Rattle.std.proofs.Math.Bool.{or-true}
 use Rattle.tsp_rules.specs.Values.{Port, LIFE}
-use Rattle.tsp_base.specs.Words.{Did, Line, Here, of, dids, view, plain, Within, Seen, is_shared, tick_at, Deed, Begins, Acts, Step, time_of, tick_of, up, seen_as}
+use Rattle.tsp_base.specs.Words.{Did, Line, Here, of, dids, view, plain, Within, Seen, is_shared, Deed, Begins, Acts, Step, time_of, tick_of, seen_as}
 use Rattle.tsp_base.proofs.PlaceLemmas.{Within-length, Within-comparable}
 use Rattle.tsp_base.proofs.{ViewPlaces.on_port, ViewPlaces.sees-own, ViewPlaces.Within-view, Views.plain_view}
 use Rattle.tsp_promises.proofs.HistoryPlaces.{not-behind, own_in, own_same, line_on, lift, of-own}
@@ -30,7 +30,7 @@ own-line-fits setting n l world same f time tick = record {
   time = omega (arith, f.order);
   tick = omega (arith, tick-mono setting n (time_of (dids world)) l.did.step.at f.order, tick_is setting n l world same f);
   step = own-step l.did.deed l.did.step n world same f.step;
-  alive = subst (λ k. Alive setting l.did.deed l.did (up (dids (of k world)))) same f.alive;
+  alive = subst (λ k. Alive setting l.did.deed l.did (dids (of k world))) same f.alive;
   deeds = λ q s. subst (λ k. DeedFits (setup_of setting (node_of l) q) l.did.deed l.did (view q (of k world))) same (f.deeds q s);
 }
 

@@ -1,5 +1,5 @@
 -- A counter with a constant rate keeps the drift.
-use Rattle.std.proofs.Common.{arith, mul-le-mul_left, ◌≡◌, ℕ, ◌+◌, ◌*◌, ◌≤◌, ◌/◌, ℤ, pos, negsuc, nat_abs}
+use Rattle.std.proofs.Common.{arith, mul-le-mul_left, ℕ, ◌+◌, ◌*◌, ◌≤◌, ℤ, pos, negsuc, nat_abs}
 use Rattle.tsp_base.specs.Words.{tick_at}
 use Rattle.tsp_promises.specs.Setting.{KeepsTime}
 

@@ -5,7 +5,7 @@ use Rattle.std.proofs.Common.{◌∙◌, ◌&&◌, cond, subst₂, ◌%◌, ◌�
 use Rattle.std.proofs.lemmas.Bool.{cases_lt, and_parts}
 use Rattle.tsp_rules.specs.Values.{Boot, Correct, GAP, Post, Become, Acked, Gave, Message, PeerId, Peer, Port, QUIET}
 use Rattle.tsp_rules.proofs.GuardFacts.{same_peer}
-use Rattle.tsp_base.specs.Words.{Deed, Acts, Did, Line, of, dids, all_corrects, last_correct, time_of, Within, tick_at, Seen, Here, Elsewhere, acting}
+use Rattle.tsp_base.specs.Words.{Deed, Acts, Did, Line, of, dids, all_corrects, last_correct, time_of, Within, Seen, Here, Elsewhere, acting}
 use Rattle.tsp_base.specs.Words.{is_correction, is_numbered, open_to, open_to_after, last_to, last_to_after, is_acknowledged, is_acknowledged_after}
 use Rattle.tsp_base.specs.Words.{corrects_by, message_at, message_of, view, MessageValue, boot_tick, tick_of, peer_of, begun_to}
 use Rattle.tsp_base.proofs.PlaceLemmas.{Within-none, Within-tail, Within-through, Within-comparable}

@@ -2,7 +2,7 @@
 use Rattle.std.proofs.Common.{arith, subst, sym, inl, inr, eqb-true, true≢false, ◌∙◌, ◌≡◌, ◌==◌, ◌≤◌, ◌⊎◌, ℕ, ◌+◌, ◌-◌, ◌*◌, ◌/◌, ℤ, pos, negsuc, ◌+ℤ◌, ◌-ℤ◌, nat_abs, Bool, true, false, List, [], ◌∷◌, refl}
 use Rattle.std.proofs.lemmas.Int.{ints}
 use Rattle.tsp_rules.specs.Values.{Boot, Correct, SLEW}
-use Rattle.tsp_base.specs.Words.{Deed, Begins, Acts, Did, Line, of, dids, boot_after, boot_tick, eased, last_correct, last_correct_after, lives, lives_after, moved, moved_after, rest, rest_after, shown, target, tick_of, time_of, wall, wall_after, Within, tick_at, width}
+use Rattle.tsp_base.specs.Words.{Deed, Begins, Acts, Did, Line, of, dids, boot_after, boot_tick, eased, last_correct, last_correct_after, lives, lives_after, moved, moved_after, rest, rest_after, shown, target, tick_of, time_of, wall, wall_after, Within, width}
 use Rattle.tsp_promises.specs.{Fits.Fits, Fits.node_of, OwnFits.OwnFits, Setting.Setting, ClockAt.shown_at}
 use Rattle.tsp_promises.specs.Steady.{Advances, Meets, MeetsBy, NoneStepped, RunsOn, RunsOverTime, Steady, SteadyAt}
 use Rattle.tsp_promises.proofs.{Clocks.tick-mono, Clocks.ticks_over, EverywhereLemmas.Everywhere-from, OwnFitsProof.tick_in}

@@ -1,7 +1,7 @@
 -- Rivals that take the QUITs of one resolution lead no more. Lines of one step, and where steps have ended.
 use Rattle.std.proofs.Common.{sym, ap, arith, subst, inl, inr, eqb-true, ◌∙◌, ◌≡◌, ◌==◌, ◌≤◌, Bool, true, false, ℕ, List, [], ◌∷◌, refl, eq-eqb, ◌||◌, ◌<◌, ◌+◌}
 use Rattle.tsp_rules.specs.Values.{Act, Port, Boot, Post, Become, Ring, Quit, ResolveAlarm, Message, PeerId, Peer, Role, Follow, Master, ELECT_MIN, LIFE}
-use Rattle.tsp_base.specs.Words.{Begins, Acts, Deed, Did, Line, Step, of, dids, view, time_of, Within, steps, steps_after, Seen, Here, plain, seen_as, is_shared, boot_tick, tick_of, is_among, role, role_after, begun_to, peer_of, MessageValue, tick_at}
+use Rattle.tsp_base.specs.Words.{Begins, Acts, Deed, Did, Line, Step, of, dids, view, time_of, Within, steps, steps_after, Seen, Here, plain, seen_as, is_shared, boot_tick, tick_of, is_among, role, role_after, begun_to, peer_of, MessageValue}
 use Rattle.tsp_base.proofs.PlaceLemmas.{Within-comparable, Within-none, Within-tail, Within-through}
 use Rattle.tsp_base.proofs.{ViewPlaces.sees-own, ViewPlaces.Within-dids, Views.plain_view}
 use Rattle.tsp_promises.proofs.OwnFitsProof.{mark_fits, own_fits, fits_at, of-tick, place-time, fits_in}

@@ -1,7 +1,7 @@
 -- What goes to strangers answers what was taken from one.
 use Rattle.std.proofs.Common.{sym, ap, subst, inl, inr, true≢false, ◌∙◌, ◌≡◌, true, false, if◌then◌else◌, List, [], ◌∷◌, Option, None, Some, refl}
 use Rattle.tsp_rules.specs.Values.{Took, Post, Datagram, Message, Stamp, Good, Kind, Ack, DateAck, PeerId, Place, Peer, Stranger, Request, Reply}
-use Rattle.tsp_base.specs.Words.{Begins, Acts, Deed, Did, Seen, Here, Elsewhere, MessageValue, Received, kept_name, message_in, role, taken, taken_after, Setup, ReplyValue, TakesFrom}
+use Rattle.tsp_base.specs.Words.{Begins, Acts, Deed, Did, Seen, Here, Elsewhere, MessageValue, Received, kept_name, message_in, role, taken, taken_after, Setup, TakesFrom}
 use Rattle.tsp_promises.specs.{AckFits.AckFits, Answered.AnswersWith, Answered.acknowledges, Answered.is_answer, DateFits.DateAckFits}
 use Rattle.tsp_promises.specs.DeedFits.{DeedFits, MessageFits, NamedFits, PostFits, StrangerFits, answer_name, asks_name}
 use Rattle.tsp_promises.specs.{PortFits.PortFits, StepFacts.is_answered, StepFacts.is_answered_after}

@@ -2,7 +2,7 @@
 -- a Close used, where it takes the Close's ADJTIME.
 use Rattle.std.proofs.Common.{sym, ap, subst, subst₂, inl, ◌∙◌, ◌≡◌, ◌≤◌, ◌≤ℤ◌, ℕ, pos, ◌-ℤ◌, nat_abs, List, ◌∷◌, Some, refl, arith, inr, ◌⊎◌, ◌+◌, ℤ, None, Bool, true}
 use Rattle.tsp_rules.specs.Values.{Post, Sample, Datagram, PeerId, Place, Port, Message, AdjTime, Peer, CLOSE, SLACK, Close, Correct, Kind}
-use Rattle.tsp_base.specs.Words.{Came, Acts, Did, Line, Seen, Here, of, dids, view, plain, moved, ticket, Within, Sampled, best, started, ReplyValue, Undisturbed, peer_of, posted, MessageValue, taken, tick_at, target, is_correction, time_in}
+use Rattle.tsp_base.specs.Words.{Came, Acts, Did, Line, Seen, Here, of, dids, view, plain, lives, moved, ticket, Within, Sampled, best, started, ReplyValue, Undisturbed, peer_of, posted, MessageValue, taken, target, is_correction, time_in}
 use Rattle.tsp_base.proofs.{PlaceLemmas.Within-tail, PlaceLemmas.Within-through, Views.plain_view}
 use Rattle.tsp_promises.proofs.RoundPlaces.{BestAt, best_at, started_at, same-start, some-is}
 use Rattle.tsp_promises.proofs.OwnFitsProof.{own_fits, fits_at, Given, given_at, place-time, locate, tick_in}
@@ -13,7 +13,7 @@ use Rattle.tsp_promises.specs.{Fits.Fits, Fits.node_of, OneError.FromReading, On
 use Rattle.tsp_promises.specs.{Agreed.FromRound, ClockAt.clock, CorrectFits.amount_of, Setting.Setting, StepFacts.closed}
 use Rattle.tsp_promises.proofs.{SendPlaces.SendPlace, SendPlaces.post_fits, SendPlaces.send_place, SendProof.numbered, SinceProof.since}
 use Rattle.tsp_promises.proofs.{Clocks.near, MasterMoved.Kept, MasterMoved.kept_from, MasterMoved.first_after}
-use Rattle.tsp_promises.proofs.HistoryPlaces.{Within-of, line_on}
+use Rattle.tsp_promises.proofs.{ClockProof.offset, ClockProof.offset_same, HistoryPlaces.Within-of, HistoryPlaces.line_on}
 
 -- from the round's best sample to its Close the node is left alone
 kept-to-close : (setting : Setting) (m : ℕ) (q : Port) (cpast before : List Line) (p : PeerId) (sample : Sampled) (start : Did) (idle : List Seen) → Fits setting cpast →
@@ -36,7 +36,7 @@ pub record ReadAt (setting : Setting) (m k : ℕ) (cpast : List Line) (sample : 
   pub node : node_of r ≡ k
   pub number : sample.ticket ≡ ticket (dids (of k older))
   pub error : pos (nat_abs (sample.diff -ℤ (clock setting k (r ∷ older) -ℤ clock setting m (r ∷ older)))) ≤ℤ sample.err
-  pub moved_m : moved (dids (of m (r ∷ older))) ≡ moved (dids (of m cpast))
+  pub same_m : offset setting m (r ∷ older) ≡ offset setting m cpast
   pub after : start.step.at ≤ r.did.step.at
 
 -- with the Reading of the Sample's line
@@ -50,7 +50,8 @@ read-with setting m k l r before cpast older sample start s i reply l_node kept 
       node = subst (λ z. node_of z ≡ k) post_is x.node;
       number = number ∙ subst (λ z. reply.ticket ≡ ticket (dids (of k z))) older_is x.number;
       error = subst₂ (λ z n. pos (nat_abs (sample.diff -ℤ (clock setting k z -ℤ clock setting n z))) ≤ℤ sample.err) same l_node x.error;
-      moved_m = subst₂ (λ z n. moved (dids (of n z)) ≡ moved (dids (of n before))) same l_node x.moved_is ∙ kept.moved;
+      same_m = offset_same setting m (r ∷ older) cpast (subst₂ (λ z n. lives (dids (of n z)) ≡ lives (dids (of n before))) same l_node x.undisturbed.lives ∙ kept.undisturbed.lives)
+          (subst₂ (λ z n. moved (dids (of n z)) ≡ moved (dids (of n before))) same l_node x.moved_is ∙ kept.moved);
       after = subst₂ (λ z y. z.step.at ≤ y.did.step.at) start_is post_is x.after;
     }
 
@@ -219,9 +220,8 @@ pub record Met (setting : Setting) (m k : ℕ) (cpast : List Line) (mean : ℤ) 
   pub amount_is : amount ≡ mean -ℤ diff
   pub deed : c.did.deed ≡ Acts (Correct amount stepped shown)
   pub error : pos (nat_abs (diff -ℤ (clock setting k (r ∷ rolder) -ℤ clock setting m (r ∷ rolder)))) ≤ℤ err
-  pub moved_m : moved (dids (of m (r ∷ rolder))) ≡ moved (dids (of m cpast))
-  pub moved_k : moved (dids (of k (r ∷ rolder))) ≡ moved (dids (of k past))
-  pub kept_k : Undisturbed (dids (of k (r ∷ rolder))) (dids (of k past))
+  pub same_m : offset setting m (r ∷ rolder) ≡ offset setting m cpast
+  pub same_k : offset setting k (r ∷ rolder) ≡ offset setting k past
   pub reads : Within (r ∷ rolder) past
 
 -- the amount of a Correct that takes an ADJTIME is its time
@@ -260,9 +260,8 @@ whole setting m close cpast c past r rolder err g x =
         amount_is = amount-adj c past x.post x.acts.amount x.acts.brings.message t.acting kind ∙ u.value kind;
         deed = x.acts.correct;
         error = subst (λ e. pos (nat_abs (x.sample.diff -ℤ (clock setting k (r ∷ rolder) -ℤ clock setting m (r ∷ rolder)))) ≤ℤ e) x.err_is d.read.error;
-        moved_m = d.read.moved_m;
-        moved_k = d.kept.moved;
-        kept_k = d.kept.undisturbed;
+        same_m = d.read.same_m;
+        same_k = offset_same setting k (r ∷ rolder) past d.kept.undisturbed.lives d.kept.moved;
         reads = d.reads;
       };
       count = u.count;

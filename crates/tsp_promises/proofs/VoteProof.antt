@@ -2,7 +2,7 @@
 use Rattle.std.proofs.Common.{sym, ap, arith, subst, subst₂, inl, inr, ◌∙◌, ◌≡◌, ◌≤◌, ◌<◌, ◌⊎◌, ℕ, ◌+◌, ◌%◌, true, false, List, [], ◌∷◌, Option, Some, refl}
 use Rattle.tsp_rules.specs.Values.{Post, Back, Backer, Message, Accept, Election, PeerId, Peer, Port, LAST, LIFE}
 use Rattle.tsp_base.specs.Words.{Deed, Begins, Step, Acts, Did, Line, Seen, Here, of, dids, view, is_shared, MessageValue, boot_tick, lives, lives_after, word}
-use Rattle.tsp_base.specs.Words.{Within, acting, stood, stood_after, begun, is_numbered, Receives, peer_of, tick_at, Setup}
+use Rattle.tsp_base.specs.Words.{Within, acting, stood, stood_after, begun, is_numbered, Receives, peer_of, Setup}
 use Rattle.tsp_base.proofs.{PlaceLemmas.Within-all, PlaceLemmas.Within-through, PlaceLemmas.Within-tail, Views.plain_view}
 use Rattle.tsp_promises.specs.Premises.{Few, FewAt, Honest, HonestAt, Life, TakenWithinAt}
 use Rattle.tsp_promises.proofs.ElectionFacts.{Asks, begun_asks, asks_life, one_asking, open_at, boots, boots_view}

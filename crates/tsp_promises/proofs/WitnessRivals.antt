@@ -1,6 +1,6 @@
 -- Elections and answers: rivals that meet, strict elections, a candidate that asks three times, and answers to
 -- strangers.
-use Rattle.std.proofs.Common.{pos, sym, ap, arith, ℕ, ◌≡◌, ◌-◌, true, false, List, [], ◌∷◌, refl}
+use Rattle.std.proofs.Common.{pos, sym, ap, arith, ℕ, ◌≡◌, true, false, List, [], ◌∷◌, refl}
 use Rattle.tsp_rules.specs.Values.{Stamp, Msite, Request, Reply, Post, Become, Ring, Back, Backer, Quit, Acked, Elect, ResolveAlarm, Message, Accept, Ack, Election, QuitKind, Test, Nothing, PeerId, Peer, Stranger, Follow, Candidate}
 use Rattle.tsp_base.specs.Words.{ReplyValue, Turned, Line, MessageValue, of, view, peer_of}
 use Rattle.tsp_promises.proofs.Histories.{line, msg, named_msg, skip, skipped, step_at, still}

@@ -1,6 +1,6 @@
 -- Rounds: what one estimates, one that a Correct ends without an ADJTIME, one more of the same master, and one in
 -- which a peer seems a second off.
-use Rattle.std.proofs.Common.{arith, inl, ℕ, ◌≡◌, ◌≢◌, ◌-◌, nat_le, true, false, ℤ, pos, negsuc, nat_abs, Bool, List, [], ◌∷◌, length, refl}
+use Rattle.std.proofs.Common.{arith, inl, ℕ, ◌≡◌, nat_le, true, false, ℤ, pos, negsuc, nat_abs, Bool, List, [], ◌∷◌, length, refl}
 use Rattle.std.{proofs.lemmas.Bool.leb-true, proofs.lemmas.Int.ints, specs.List.Contains, specs.List.count_by}
 use Rattle.tsp_rules.specs.Values.{Post, Arm, Ring, Close, Correct, Round, CloseAlarm, Message, Stamp, AdjTime, SetTime, TimeBody, Peer, Request, Reply}
 use Rattle.tsp_base.specs.Words.{Came, Turned, Line, of, view, ReplyValue, best, Here, Within, peer_of}

@@ -2,7 +2,7 @@
 -- A reply of an earlier life. And looks at clocks.
 use Rattle.tsp_promises.proofs.Rates.{keeps_time}
 use Rattle.tsp_base.specs.Ticks.{tick_at}
-use Rattle.std.proofs.Common.{sym, arith, subst, inl, ℕ, zero, suc, ◌≡◌, ◌-◌, ◌≤◌, ◌≤ℤ◌, ◌-ℤ◌, nat_abs, ℤ, true, false, pos, negsuc, List, [], ◌∷◌, refl}
+use Rattle.std.proofs.Common.{sym, arith, subst, inl, ℕ, zero, suc, ◌≡◌, ◌≤◌, ◌≤ℤ◌, ◌-ℤ◌, nat_abs, ℤ, true, false, pos, negsuc, List, [], ◌∷◌, refl}
 use Rattle.tsp_rules.specs.Values.{Post, Arm, Ring, Close, Correct, Round, CloseAlarm, Message, Stamp, AdjTime, SetTime, TimeBody, Peer, Request, Reply}
 use Rattle.tsp_base.specs.Words.{Came, Did, Here, Line, ReplyValue, Seen, dids, peer_of, posted}
 use Rattle.tsp_group.specs.Groups.{better, goes_before, group_from}

@@ -4,7 +4,7 @@ use Rattle.std.proofs.Common.{sym, ap, arith, subst, subst₂, inl, inr, true≢
 use Rattle.std.proofs.Common.{refl, ◌||◌, ◌≤◌, ◌+◌, ◌%◌, ◌^◌, ◌⊎◌}
 use Rattle.tsp_rules.specs.Values.{Boot, Post, Stamp, Port, Request, PeerId, Peer, QUIET}
 use Rattle.tsp_base.specs.Words.{Booted, Deed, Begins, Acts, Line, of, dids, lives, lives_after, up, up_after, word, word_after, Within, Did, Seen, view}
-use Rattle.tsp_base.specs.Words.{seen_as, is_shared, asked, asked_after, posted, posted_after, plain, boot_tick, tick_of, tick_at}
+use Rattle.tsp_base.specs.Words.{seen_as, is_shared, asked, asked_after, posted, posted_after, plain, boot_tick, tick_of}
 use Rattle.tsp_base.proofs.PlaceLemmas.{Within-all, Within-through, Within-comparable, Within-tail}
 use Rattle.tsp_base.proofs.Views.{plain_view}
 use Rattle.tsp_promises.proofs.OwnFitsProof.{node_walk, own_fits, own_fits_at, tick_in, view-line, fits_at, place-time, deed_fits}
@@ -27,12 +27,12 @@ pub record BootOf (n : ℕ) (world : List Line) (w count : ℕ) : Type 0 where
 boot-before : (n : ℕ) (l : Line) (world : List Line) (w count : ℕ) → BootOf n world w count → BootOf n (l ∷ world) w count
 boot-before n l world w count b = record { line = b.line; older = b.older; place = inr b.place; node = b.node; deed = b.deed; wall = b.wall; cause = b.cause; lives = b.lives }
 
-boot-deed : (setting : Setting) (n : ℕ) (l : Line) (world : List Line) (deed : Deed) → deed ≡ l.did.deed → node_of l ≡ n → Alive setting deed l.did (up (dids (of n world))) →
+boot-deed : (setting : Setting) (n : ℕ) (l : Line) (world : List Line) (deed : Deed) → deed ≡ l.did.deed → node_of l ≡ n → Alive setting deed l.did (dids (of n world)) →
     (up (dids (of n world)) ≡ true → BootOf n world (word (dids (of n world))) (lives (dids (of n world)))) → up_after deed (up (dids (of n world))) ≡ true →
     BootOf n (l ∷ world) (word_after deed l.did.step.cause (word (dids (of n world)))) (lives_after deed (lives (dids (of n world))))
 boot-deed setting n l world Begins is node a h u = boot-before n l world _ _ (h u)
 boot-deed setting n l world (Acts Boot) is node a h u =
-    let wall = setting.wall l.did.step.node +ℤ pos l.did.tick in
+    let wall = setting.wall l.did.step.node (lives (dids (of n world)) + 1) +ℤ pos l.did.tick in
     record {
       line = l;
       older = world;
@@ -50,7 +50,7 @@ pub boot_of : (setting : Setting) (n : ℕ) (world : List Line) → Fits setting
 boot_of setting n =
     node_walk setting n (λ world own. up (dids own) ≡ true → BootOf n world (word (dids own)) (lives (dids own))) (λ u. absurd (true≢false (sym u)))
     (λ l world f node h u. boot-deed setting n l world l.did.deed refl node
-    (subst (λ k. Alive setting l.did.deed l.did (up (dids (of k world)))) node f.0.alive) h u) (λ l world f h u. boot-before n l world _ _ (h u))
+    (subst (λ k. Alive setting l.did.deed l.did (dids (of k world))) node f.0.alive) h u) (λ l world f h u. boot-before n l world _ _ (h u))
 
 -- where no two boots have one word, no two of one node have
 pub own_words : (world : List Line) → Words world → OwnWords world

@@ -1,8 +1,8 @@
 -- The promise that the clocks that one round corrected agree.
-use Rattle.std.specs.Prelude.{◌≡◌, ◌⊎◌, ◌≤◌, ◌≤ℤ◌, ℕ, ◌+◌, ◌-◌, ◌*◌, ℤ, pos, ◌+ℤ◌, ◌-ℤ◌, nat_abs, Bool, true, List, ◌∷◌, Some, is_some}
+use Rattle.std.specs.Prelude.{◌≡◌, ◌⊎◌, ℕ, ◌+◌, ℤ, pos, ◌+ℤ◌, Bool, true, List, ◌∷◌, Some, is_some}
 use Rattle.tsp_rules.specs.Values.{Act, Post, Correct, Datagram, Message, AdjTime, PeerId, Place, Peer, Port}
-use Rattle.tsp_base.specs.Words.{Came, Acts, Did, Seen, Here, Line, from_act, of, dids, view, MessageValue, all_corrects, lives, Within, acting, Sampled, best, Undisturbed, peer_of, posted, width}
-use Rattle.tsp_promises.specs.{ClockAt.clock_at, Everywhere.Everywhere, Fits.node_of, Once.ActsOn, Once.OfSend, Setting.Setting}
+use Rattle.tsp_base.specs.Words.{Came, Acts, Did, Seen, Here, Line, from_act, of, dids, view, MessageValue, all_corrects, lives, Within, acting, Sampled, best, Undisturbed, peer_of, posted}
+use Rattle.tsp_promises.specs.{ClockAt.ClocksWithin, ClockAt.drifted, Everywhere.Everywhere, Everywhere.Lasting, Fits.node_of, Once.ActsOn, Once.OfSend, Setting.Setting}
 use Rattle.tsp_promises.specs.StepFacts.{closed}
 
 -- the reading of a sample that port q of m has at a place is r: the post of the reply that the Sample's step took
@@ -66,18 +66,25 @@ pub record UnchangedBut (m : ℕ) (close : Line) (cpast h : List Line) : Type 0 
   pub lives : lives (dids (of m (close ∷ cpast))) ≡ lives (dids (of m h))
   pub corrects : (all_corrects (dids (of m (close ∷ cpast))) ≡ all_corrects (dids (of m h))) ⊎ RightAfter m close cpast h
 
--- after the history h, at true time t: two nodes that one Close corrected, and that neither booted nor corrected their
--- clocks since, differ by at most their errors and drift. Drift is twice `width` of the time since each reading
-abbrev pub PeersAgree : Setting → List Line → ℕ → Type 0
-PeersAgree setting h t = (m : ℕ) (close : Line) (cpast : List Line) (c d : Line) (past qast : List Line) (r q : Line) (rolder qolder : List Line) (e f : ℤ) →
+-- after the history h, at true time t: this holds of any two nodes that one Close corrected, and that neither booted nor corrected their
+-- clocks since, and of their errors and drift. Drift is twice `width` of the time since each reading
+abbrev pub OfPeers : (ℕ → ℕ → ℤ → Type 0) → Setting → List Line → ℕ → Type 0
+OfPeers Holds setting h t = (m : ℕ) (close : Line) (cpast : List Line) (c d : Line) (past qast : List Line) (r q : Line) (rolder qolder : List Line) (e f : ℤ) →
     FromRound m close cpast c past r rolder e → FromRound m close cpast d qast q qolder f → Unchanged (node_of c) (c ∷ past) h → Unchanged (node_of d) (d ∷ qast) h →
-    pos (nat_abs (clock_at setting (node_of c) h t -ℤ clock_at setting (node_of d) h t)) ≤ℤ ((e +ℤ f) +ℤ pos (2 * width setting.drift (t - r.did.step.at) + 2 * width setting.drift (t - q.did.step.at)))
+    Holds (node_of c) (node_of d) ((e +ℤ f) +ℤ pos (drifted setting t r + drifted setting t q))
 
--- the same of a node that a Close corrected and the master that closed: they differ by at most the error and drift
-abbrev pub MasterAgrees : Setting → List Line → ℕ → Type 0
-MasterAgrees setting h t = (m : ℕ) (close : Line) (cpast : List Line) (c : Line) (past : List Line) (r : Line) (rolder : List Line) (e : ℤ) →
+-- the same of a node that a Close corrected and the master that closed, and of the error and drift
+abbrev pub OfMaster : (ℕ → ℕ → ℤ → Type 0) → Setting → List Line → ℕ → Type 0
+OfMaster Holds setting h t = (m : ℕ) (close : Line) (cpast : List Line) (c : Line) (past : List Line) (r : Line) (rolder : List Line) (e : ℤ) →
     FromRound m close cpast c past r rolder e → Unchanged (node_of c) (c ∷ past) h → UnchangedBut m close cpast h →
-    pos (nat_abs (clock_at setting (node_of c) h t -ℤ clock_at setting m h t)) ≤ℤ (e +ℤ pos (2 * width setting.drift (t - r.did.step.at)))
+    Holds (node_of c) m (e +ℤ pos (drifted setting t r))
+
+-- the clocks of such nodes differ by at most that
+abbrev pub PeersAgree : Setting → List Line → ℕ → Type 0
+PeersAgree setting h t = OfPeers (ClocksWithin setting h t) setting h t
+
+abbrev pub MasterAgrees : Setting → List Line → ℕ → Type 0
+MasterAgrees setting h t = OfMaster (ClocksWithin setting h t) setting h t
 
 -- both, after the history h at true time t
 pub record ClocksAgree (setting : Setting) (h : List Line) (t : ℕ) : Type 0 where
@@ -98,6 +105,6 @@ pub record AgreedAt (setting : Setting) (l : Line) (world : List Line) : Type 0 
 abbrev pub Agreed : Setting → List Line → Type 0
 Agreed setting = Everywhere (AgreedAt setting)
 
--- and so they do after each line at any later time, as long as nothing more happens
+-- and so they do after each line
 abbrev pub StayAgreed : Setting → List Line → Type 0
-StayAgreed setting = Everywhere (λ l world. (t : ℕ) → l.did.step.at ≤ t → ClocksAgree setting (l ∷ world) t)
+StayAgreed setting = Lasting (ClocksAgree setting)

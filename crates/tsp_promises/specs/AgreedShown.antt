@@ -1,9 +1,9 @@
 -- The promise that what clocks show agrees where the clocks do, and what a wait is good for.
-use Rattle.std.specs.Prelude.{◌≡◌, ◌≤◌, ◌≤ℤ◌, ℕ, ◌+◌, ◌-◌, ◌*◌, ℤ, pos, ◌+ℤ◌, ◌-ℤ◌, nat_abs, true, List, ◌∷◌}
-use Rattle.tsp_promises.specs.{Agreed.FromRound, Agreed.Unchanged, Agreed.UnchangedBut, ClockAt.clock_at, ClockAt.left_at, ClockAt.shown_at}
-use Rattle.tsp_promises.specs.{Everywhere.Everywhere, Fits.node_of, Setting.Setting, Steady.ReadTimes, Steady.Unstepped, Steady.shown_width}
-use Rattle.tsp_promises.specs.Chained.{Hop, Hops, IsChain, bound, hop_bound, last_hop, node_at}
-use Rattle.tsp_base.specs.Words.{Line, of, dids, last_correct, rest, up, tick_at, width}
+use Rattle.std.specs.Prelude.{◌≡◌, ◌≤◌, ◌≤ℤ◌, ℕ, ◌+◌, ◌*◌, ℤ, pos, ◌+ℤ◌, ◌-ℤ◌, nat_abs, true, List, ◌∷◌}
+use Rattle.tsp_promises.specs.{Agreed.OfMaster, Agreed.OfPeers, Chained.OfChain, Chained.OfChains, Chained.OfTree}
+use Rattle.tsp_promises.specs.ClockAt.{ClocksWithin, left_at, shown_at}
+use Rattle.tsp_promises.specs.{Everywhere.Everywhere, Everywhere.Lasting, Setting.Setting, Steady.ReadTimes, Steady.Unstepped, Steady.shown_width}
+use Rattle.tsp_base.specs.Words.{Line, of, dids, last_correct, rest, up}
 
 -- the shown values of k and l differ by at most b and what is still to be slewed on each; so by at most b, once both
 -- show their targets
@@ -22,46 +22,20 @@ pub record ShownBy (setting : Setting) (h : List Line) (t : ℕ) (k l : ℕ) (b 
 -- after the history h, at true time t: wherever the clocks of two nodes that have booted differ by at most b, so do
 -- their shown values
 abbrev pub ShownAsClocks : Setting → List Line → ℕ → Type 0
-ShownAsClocks setting h t = (k l : ℕ) (b : ℤ) → up (dids (of k h)) ≡ true → up (dids (of l h)) ≡ true → pos (nat_abs (clock_at setting k h t -ℤ clock_at setting l h t)) ≤ℤ b → ShownBy setting h t k l b
+ShownAsClocks setting h t = (k l : ℕ) (b : ℤ) → up (dids (of k h)) ≡ true → up (dids (of l h)) ≡ true → ClocksWithin setting h t k l b → ShownBy setting h t k l b
 
--- the shown values of two nodes that one Close corrected, as PeersAgree has it of their clocks
-abbrev pub PeersShown : Setting → List Line → ℕ → Type 0
-PeersShown setting h t = (m : ℕ) (close : Line) (cpast : List Line) (c d : Line) (past qast : List Line) (r q : Line) (rolder qolder : List Line) (e f : ℤ) →
-    FromRound m close cpast c past r rolder e → FromRound m close cpast d qast q qolder f → Unchanged (node_of c) (c ∷ past) h → Unchanged (node_of d) (d ∷ qast) h →
-    ShownWithin setting h t (node_of c) (node_of d) ((e +ℤ f) +ℤ pos (2 * width setting.drift (t - r.did.step.at) + 2 * width setting.drift (t - q.did.step.at)))
-
--- the same of a node that a Close corrected and the master that closed
-abbrev pub MasterShown : Setting → List Line → ℕ → Type 0
-MasterShown setting h t = (m : ℕ) (close : Line) (cpast : List Line) (c : Line) (past : List Line) (r : Line) (rolder : List Line) (e : ℤ) →
-    FromRound m close cpast c past r rolder e → Unchanged (node_of c) (c ∷ past) h → UnchangedBut m close cpast h →
-    ShownWithin setting h t (node_of c) m (e +ℤ pos (2 * width setting.drift (t - r.did.step.at)))
-
--- the same of the last node of a chain and the master of its first Close (ChainAgrees)
-abbrev pub DownShown : Setting → List Line → ℕ → Type 0
-DownShown setting h t = (m : ℕ) (first : Hop) (rest : List Hop) → Hops m first h → IsChain first rest h → UnchangedBut m first.close first.cpast h →
-    ShownWithin setting h t (node_at (last_hop first rest)) m (bound setting t rest +ℤ hop_bound setting t first)
-
--- the same of the last nodes of two chains that begin with one Close (ChainsAgree)
-abbrev pub AcrossShown : Setting → List Line → ℕ → Type 0
-AcrossShown setting h t = (m : ℕ) (a b : Hop) (xs ys : List Hop) → Hops m a h → Hops m b h → a.close ≡ b.close → a.cpast ≡ b.cpast → IsChain a xs h → IsChain b ys h →
-    ShownWithin setting h t (node_at (last_hop a xs)) (node_at (last_hop b ys)) ((bound setting t xs +ℤ hop_bound setting t a) +ℤ (bound setting t ys +ℤ hop_bound setting t b))
-
--- the same of the last nodes of two chains that begin with two Closes of one node (TreeAgrees)
-abbrev pub TreeShown : Setting → List Line → ℕ → Type 0
-TreeShown setting h t = (g : ℕ) (a b : Hop) (xs ys : List Hop) → Hops g a h → Hops g b h → UnchangedBut g a.close a.cpast h → UnchangedBut g b.close b.cpast h → IsChain a xs h → IsChain b ys h →
-    ShownWithin setting h t (node_at (last_hop a xs)) (node_at (last_hop b ys)) ((bound setting t xs +ℤ hop_bound setting t a) +ℤ (bound setting t ys +ℤ hop_bound setting t b))
-
--- all of them, after the history h at true time t
+-- after the history h, at true time t, wherever Agreed and Chained have it of clocks: of two peers, of a peer and its master, down a chain,
+-- across two, and over a tree
 pub record ShownAgree (setting : Setting) (h : List Line) (t : ℕ) : Type 0 where
-  pub peers : PeersShown setting h t
-  pub master : MasterShown setting h t
-  pub down : DownShown setting h t
-  pub across : AcrossShown setting h t
-  pub tree : TreeShown setting h t
+  pub peers : OfPeers (ShownWithin setting h t) setting h t
+  pub master : OfMaster (ShownWithin setting h t) setting h t
+  pub down : OfChain (ShownWithin setting h t) setting h t
+  pub across : OfChains (ShownWithin setting h t) setting h t
+  pub tree : OfTree (ShownWithin setting h t) setting h t
 
--- so it is at each place, and after it at any later time, as long as nothing more happens
+-- so it is at each place and later
 abbrev pub AgreedShown : Setting → List Line → Type 0
-AgreedShown setting = Everywhere (λ l world. (t : ℕ) → l.did.step.at ≤ t → ShownAgree setting (l ∷ world) t)
+AgreedShown setting = Lasting (ShownAgree setting)
 
 -- likewise of any two nodes that have booted, whatever bounds their clocks
 abbrev pub ShownNear : Setting → List Line → Type 0

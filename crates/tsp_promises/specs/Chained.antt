@@ -1,9 +1,9 @@
 -- The promise that clocks along chains of corrected masters agree, as one does that a corrected master corrects with
 -- the first master's.
-use Rattle.std.specs.Prelude.{◌≡◌, ◌≤◌, ◌≤ℤ◌, ℕ, ◌+◌, ◌-◌, ◌*◌, ℤ, pos, ◌+ℤ◌, ◌-ℤ◌, nat_abs, List, [], ◌∷◌}
-use Rattle.tsp_promises.specs.{Agreed.FromRound, Agreed.Unchanged, Agreed.UnchangedBut, ClockAt.clock_at, Everywhere.Everywhere}
+use Rattle.std.specs.Prelude.{◌≡◌, ℕ, ◌+◌, ℤ, pos, ◌+ℤ◌, List, [], ◌∷◌}
+use Rattle.tsp_promises.specs.{Agreed.FromRound, Agreed.Unchanged, Agreed.UnchangedBut, ClockAt.ClocksWithin, ClockAt.drifted, Everywhere.Lasting}
 use Rattle.tsp_promises.specs.{Fits.node_of, Setting.Setting}
-use Rattle.tsp_base.specs.Words.{Line, Within, width}
+use Rattle.tsp_base.specs.Words.{Line, Within}
 
 -- one link of a chain: a Close, the Correct that takes its ADJTIME, the reading on which that rests, and its error in
 -- microseconds
@@ -27,7 +27,7 @@ last_hop first (x ∷ rest) = x
 
 -- how far one link may put its clock off, in microseconds: its error and drift
 abbrev pub hop_bound : Setting → ℕ → Hop → ℤ
-hop_bound setting t x = x.err +ℤ pos (2 * width setting.drift (t - x.reading.did.step.at))
+hop_bound setting t x = x.err +ℤ pos (drifted setting t x.reading)
 
 -- how far these links may put the last clock off, against the first link's
 abbrev pub bound : Setting → ℕ → List Hop → ℤ
@@ -44,22 +44,34 @@ abbrev pub IsChain : Hop → List Hop → List Line → Type 0
 IsChain first [] h = Unit {0}
 IsChain first (x ∷ rest) h = Hops (node_at (last_hop first rest)) x h × Within ((last_hop first rest).correct ∷ (last_hop first rest).past) x.cpast × IsChain first rest h
 
--- down a chain: the clock of its last node and that of m, which is left alone since the first link's Close, differ by
--- at most the sum of the links' bounds
+-- how far the last node of a chain may be off the one whose Close is the first link's
+abbrev pub chain_bound : Setting → ℕ → Hop → List Hop → ℤ
+chain_bound setting t first rest = bound setting t rest +ℤ hop_bound setting t first
+
+-- this holds down each chain: of its last node and m, which is left alone since the first link's Close, and of the sum of the links' bounds
+abbrev pub OfChain : (ℕ → ℕ → ℤ → Type 0) → Setting → List Line → ℕ → Type 0
+OfChain Holds setting h t = (m : ℕ) (first : Hop) (rest : List Hop) → Hops m first h → IsChain first rest h → UnchangedBut m first.close first.cpast h →
+    Holds (node_at (last_hop first rest)) m (chain_bound setting t first rest)
+
+-- across: of the last nodes of two chains that begin with one Close; its master may have changed since
+abbrev pub OfChains : (ℕ → ℕ → ℤ → Type 0) → Setting → List Line → ℕ → Type 0
+OfChains Holds setting h t = (m : ℕ) (a b : Hop) (xs ys : List Hop) → Hops m a h → Hops m b h → a.close ≡ b.close → a.cpast ≡ b.cpast → IsChain a xs h → IsChain b ys h →
+    Holds (node_at (last_hop a xs)) (node_at (last_hop b ys)) (chain_bound setting t a xs +ℤ chain_bound setting t b ys)
+
+-- over a tree: of the last nodes of two chains that begin with two Closes of one node, which is left alone since each of them
+abbrev pub OfTree : (ℕ → ℕ → ℤ → Type 0) → Setting → List Line → ℕ → Type 0
+OfTree Holds setting h t = (g : ℕ) (a b : Hop) (xs ys : List Hop) → Hops g a h → Hops g b h → UnchangedBut g a.close a.cpast h → UnchangedBut g b.close b.cpast h → IsChain a xs h → IsChain b ys h →
+    Holds (node_at (last_hop a xs)) (node_at (last_hop b ys)) (chain_bound setting t a xs +ℤ chain_bound setting t b ys)
+
+-- the clocks of such nodes differ by at most that
 abbrev pub ChainAgrees : Setting → List Line → ℕ → Type 0
-ChainAgrees setting h t = (m : ℕ) (first : Hop) (rest : List Hop) → Hops m first h → IsChain first rest h → UnchangedBut m first.close first.cpast h →
-    pos (nat_abs (clock_at setting (node_at (last_hop first rest)) h t -ℤ clock_at setting m h t)) ≤ℤ (bound setting t rest +ℤ hop_bound setting t first)
+ChainAgrees setting h t = OfChain (ClocksWithin setting h t) setting h t
 
--- across: the clocks of the last nodes of two chains that begin with one Close; its master may have changed since
 abbrev pub ChainsAgree : Setting → List Line → ℕ → Type 0
-ChainsAgree setting h t = (m : ℕ) (a b : Hop) (xs ys : List Hop) → Hops m a h → Hops m b h → a.close ≡ b.close → a.cpast ≡ b.cpast → IsChain a xs h → IsChain b ys h →
-    pos (nat_abs (clock_at setting (node_at (last_hop a xs)) h t -ℤ clock_at setting (node_at (last_hop b ys)) h t)) ≤ℤ ((bound setting t xs +ℤ hop_bound setting t a) +ℤ (bound setting t ys +ℤ hop_bound setting t b))
+ChainsAgree setting h t = OfChains (ClocksWithin setting h t) setting h t
 
--- over a tree: the clocks of the last nodes of two chains that begin with two Closes of one node, which is left alone
--- since each of them
 abbrev pub TreeAgrees : Setting → List Line → ℕ → Type 0
-TreeAgrees setting h t = (g : ℕ) (a b : Hop) (xs ys : List Hop) → Hops g a h → Hops g b h → UnchangedBut g a.close a.cpast h → UnchangedBut g b.close b.cpast h → IsChain a xs h → IsChain b ys h →
-    pos (nat_abs (clock_at setting (node_at (last_hop a xs)) h t -ℤ clock_at setting (node_at (last_hop b ys)) h t)) ≤ℤ ((bound setting t xs +ℤ hop_bound setting t a) +ℤ (bound setting t ys +ℤ hop_bound setting t b))
+TreeAgrees setting h t = OfTree (ClocksWithin setting h t) setting h t
 
 -- after the history h, at true time t: down a chain, across two of one Close, and over a tree
 pub record ChainedAt (setting : Setting) (h : List Line) (t : ℕ) : Type 0 where
@@ -67,9 +79,9 @@ pub record ChainedAt (setting : Setting) (h : List Line) (t : ℕ) : Type 0 wher
   pub across : ChainsAgree setting h t
   pub tree : TreeAgrees setting h t
 
--- so it is at each place, and after it at any later time, as long as nothing more happens
+-- so it is at each place and later
 abbrev pub Chained : Setting → List Line → Type 0
-Chained setting = Everywhere (λ l world. (t : ℕ) → l.did.step.at ≤ t → ChainedAt setting (l ∷ world) t)
+Chained setting = Lasting (ChainedAt setting)
 
 -- after the history h, at true time t: the Correct c of a node k takes an ADJTIME of a Close of g, and the Correct d of
 -- g, before that Close, one of a Close of m. As long as k, g and m are left alone since, m but for the Correct right
@@ -79,9 +91,8 @@ RelayAgrees setting h t =
     (g m : ℕ) (close shut : Line) (cpast spast : List Line) (c d : Line) (past qast : List Line) (r q : Line) (rolder qolder : List Line) (e f : ℤ) →
     FromRound g close cpast c past r rolder e → FromRound m shut spast d qast q qolder f → node_of d ≡ g → Within (d ∷ qast) cpast →
     Unchanged (node_of c) (c ∷ past) h → Unchanged (node_of d) (d ∷ qast) h → UnchangedBut m shut spast h →
-    pos (nat_abs (clock_at setting (node_of c) h t -ℤ clock_at setting m h t)) ≤ℤ
-    ((f +ℤ e) +ℤ pos (2 * width setting.drift (t - q.did.step.at) + 2 * width setting.drift (t - r.did.step.at)))
+    ClocksWithin setting h t (node_of c) m ((f +ℤ e) +ℤ pos (drifted setting t q + drifted setting t r))
 
--- so it is at each place, and after it at any later time, as long as nothing more happens
+-- so it is at each place and later
 abbrev pub Relayed : Setting → List Line → Type 0
-Relayed setting = Everywhere (λ l world. (t : ℕ) → l.did.step.at ≤ t → RelayAgrees setting (l ∷ world) t)
+Relayed setting = Lasting (RelayAgrees setting)

@@ -1,8 +1,8 @@
 -- What the estimates of a round say of the clocks.
-use Rattle.std.specs.Prelude.{◌≡◌, ◌≤◌, ◌≤ℤ◌, ℕ, ◌+◌, ◌-◌, ◌*◌, ℤ, pos, ◌+ℤ◌, ◌-ℤ◌, nat_abs, Bool, true, List, ◌∷◌, Some}
+use Rattle.std.specs.Prelude.{◌≡◌, ◌≤ℤ◌, ℕ, ◌+◌, ℤ, pos, ◌+ℤ◌, ◌-ℤ◌, nat_abs, Bool, true, List, ◌∷◌, Some}
 use Rattle.tsp_rules.specs.Values.{Post, Close, Correct, Message, AdjTime, PeerId, Peer}
-use Rattle.tsp_base.specs.Words.{Acts, Here, Line, dids, of, view, MessageValue, Within, acting, Sampled, best, Undisturbed, peer_of, width}
-use Rattle.tsp_promises.specs.{Agreed.ReadingOf, Agreed.Unchanged, Agreed.UnchangedBut, ClockAt.clock_at, Everywhere.Everywhere}
+use Rattle.tsp_base.specs.Words.{Acts, Here, Line, dids, of, view, MessageValue, Within, acting, Sampled, best, Undisturbed, peer_of}
+use Rattle.tsp_promises.specs.{Agreed.ReadingOf, Agreed.Unchanged, Agreed.UnchangedBut, ClockAt.ClocksWithin, ClockAt.clock_at, ClockAt.drifted, Everywhere.Everywhere, Everywhere.Lasting}
 use Rattle.tsp_promises.specs.{Fits.node_of, Setting.Setting, StepFacts.closed}
 
 -- this Close of m, with this mean, begins the ADJTIME that is posted at f
@@ -48,12 +48,12 @@ abbrev pub EstimatesNear : Setting → Line → List Line → Type 0
 EstimatesNear setting close cpast = (m k l count : ℕ) (lo size mean : ℤ) (x y : Sampled) (r q : Line) (rolder qolder : List Line) → close.did.deed ≡ Acts (Close count lo size mean) → node_of close ≡ m →
     Estimate m k close cpast x r rolder cpast → Estimate m l close cpast y q qolder cpast →
     pos (nat_abs (x.diff -ℤ y.diff)) ≤ℤ ((pos (nat_abs (clock_at setting k cpast close.did.step.at -ℤ clock_at setting l cpast close.did.step.at)) +ℤ (x.err +ℤ y.err))
-    +ℤ pos (2 * width setting.drift (close.did.step.at - r.did.step.at) + 2 * width setting.drift (close.did.step.at - q.did.step.at)))
+    +ℤ pos (drifted setting close.did.step.at r + drifted setting close.did.step.at q))
 
 -- after the history h, at true time t: the clocks of the master m and of k differ by at most what this estimate of k
 -- differs from the mean, plus its error and drift
 abbrev pub NearMean : Setting → ℕ → ℕ → ℤ → Sampled → Line → List Line → ℕ → Type 0
-NearMean setting m k mean x r h t = pos (nat_abs (clock_at setting m h t -ℤ clock_at setting k h t)) ≤ℤ ((pos (nat_abs (mean -ℤ x.diff)) +ℤ x.err) +ℤ pos (2 * width setting.drift (t - r.did.step.at)))
+NearMean setting m k mean x r h t = ClocksWithin setting h t m k ((pos (nat_abs (mean -ℤ x.diff)) +ℤ x.err) +ℤ pos (drifted setting t r))
 
 -- so it is where the Close begins an ADJTIME, if k is left alone since its reading, and the master is but for the
 -- Correct right after the Close
@@ -67,8 +67,8 @@ abbrev pub EndedNear : Setting → List Line → ℕ → Type 0
 EndedNear setting h t = (m k : ℕ) (close c : Line) (cpast : List Line) (amount : ℤ) (x : Sampled) (r : Line) (older : List Line) → Unchanged m (c ∷ (close ∷ cpast)) h → (v : Moves m close c amount) →
     Estimate m k close cpast x r older h → NearMean setting m k v.mean x r h t
 
--- the first holds at each place; so do the others, and after that at any later time, as long as nothing more happens
+-- the first holds at each place, and the others later too
 pub record EstimatesHold (setting : Setting) (world : List Line) : Type 0 where
   pub apart : Everywhere (EstimatesNear setting) world
-  pub near : Everywhere (λ l before. (t : ℕ) → l.did.step.at ≤ t → MasterNear setting (l ∷ before) t) world
-  pub ended : Everywhere (λ l before. (t : ℕ) → l.did.step.at ≤ t → EndedNear setting (l ∷ before) t) world
+  pub near : Lasting (MasterNear setting) world
+  pub ended : Lasting (EndedNear setting) world

@@ -1,5 +1,5 @@
 -- The promise of how far a clock is behind its master's after a SETTIME.
-use Rattle.std.specs.Prelude.{◌≡◌, ◌≤◌, ◌≤ℤ◌, ℕ, ◌+◌, ◌-◌, ℤ, pos, ◌-ℤ◌, List, ◌∷◌}
+use Rattle.std.specs.Prelude.{◌≡◌, ◌≤◌, ◌≤ℤ◌, ℕ, ◌+◌, ◌-◌, ℤ, pos, ◌-ℤ◌, nat_abs, List, ◌∷◌}
 use Rattle.tsp_rules.specs.Values.{SetTime, LAST, LIFE}
 use Rattle.tsp_base.specs.Words.{Line, of, dids, plain, Undisturbed, width}
 use Rattle.tsp_promises.specs.{Agreed.Unchanged, ClockAt.clock_at, Everywhere.Everywhere, Fits.node_of, OneError.Taking, Setting.Setting}
@@ -23,8 +23,7 @@ behind setting m c h t = clock_at setting m h t -ℤ clock_at setting (node_of c
 -- from the Correct on: the clock is behind by the time that the SETTIME was on its way, its repeats counted, give or
 -- take drift
 pub record BehindBy (setting : Setting) (m : ℕ) (c : Line) (past h : List Line) (s : SetBy m c past h) (t : ℕ) : Type 0 where
-  pub low : (pos (on_way m c past h s) -ℤ pos (width setting.drift (t - s.taking.first.step.at) + width setting.drift (t - c.did.step.at))) ≤ℤ behind setting m c h t
-  pub high : behind setting m c h t ≤ℤ pos (on_way m c past h s + (width setting.drift (t - s.taking.first.step.at) + width setting.drift (t - c.did.step.at)))
+  pub near : pos (nat_abs (behind setting m c h t -ℤ pos (on_way m c past h s))) ≤ℤ pos (width setting.drift (t - s.taking.first.step.at) + width setting.drift (t - c.did.step.at))
 
 -- right at the Correct it isn't ahead, and is behind by at most that
 pub record BehindAtOnce (setting : Setting) (m : ℕ) (c : Line) (past h : List Line) (s : SetBy m c past h) : Type 0 where

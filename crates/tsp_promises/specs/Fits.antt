@@ -1,7 +1,7 @@
 -- Histories that fit: each line has what a schedule gives it, and does what it owes to the lines before it.
-use Rattle.std.specs.Prelude.{◌≡◌, ◌≤◌, ◌<◌, ℕ, ◌^◌, ◌==◌, ◌||◌, pos, ◌+ℤ◌, Bool, true, List, [], ◌∷◌}
+use Rattle.std.specs.Prelude.{◌≡◌, ◌≤◌, ◌<◌, ℕ, ◌+◌, ◌^◌, ◌==◌, ◌||◌, pos, ◌+ℤ◌, true, List, [], ◌∷◌}
 use Rattle.tsp_rules.specs.Values.{Boot, Took, Post, Datagram, Taken, Good, Place, Peer, Port}
-use Rattle.tsp_base.specs.Words.{Cause, Booted, Turned, Came, Handed, Step, Deed, Begins, Acts, Did, Line, of, dids, view, is_shared, time_of, up, Within, peer_of, posted}
+use Rattle.tsp_base.specs.Words.{Cause, Booted, Turned, Came, Handed, Step, Deed, Begins, Acts, Did, Line, of, dids, lives, view, is_shared, time_of, up, Within, peer_of, posted}
 use Rattle.tsp_promises.specs.{DeedFits.DeedFits, Everywhere.Everywhere, Setting.Setting, Setting.setup_of, StepFacts.StepEnds}
 
 -- the node of a line
@@ -18,12 +18,13 @@ SameStep Begins step world = Unit {0}
 SameStep (Acts a) step [] = ⊥
 SameStep (Acts a) step (last ∷ before) = last.step ≡ step
 
--- a boot is in a step that a boot causes, which has the node's wall clock then, in microseconds; all other acts are
--- those of a node that has booted
-abbrev pub Alive : Setting → Deed → Did → Bool → Type 0
-Alive setting Begins here is_up = Unit {0}
-Alive setting (Acts Boot) here is_up = (word : ℕ) × (here.step.cause ≡ Booted word (setting.wall here.step.node +ℤ pos here.tick))
-Alive setting (Acts a) here is_up = is_up ≡ true
+-- a boot is in a step that a boot causes, which has the node's wall clock then, in microseconds, of the life that begins; all other
+-- acts are those of a node that has booted
+abbrev pub Alive : Setting → Deed → Did → List Did → Type 0
+Alive setting Begins here before = Unit {0}
+Alive setting (Acts Boot) here before =
+    (word : ℕ) × (here.step.cause ≡ Booted word (setting.wall here.step.node (lives before + 1) +ℤ pos here.tick))
+Alive setting (Acts a) here before = up before ≡ true
 
 -- the datagram number k, counted from 0 over all nodes, was posted to this line's node, on the network of its port, by
 -- the sender and with the content that the line says
@@ -53,7 +54,7 @@ pub record LineFits (setting : Setting) (l : Line) (world : List Line) : Type 0 
   pub tick : l.did.tick ≡ setting.tick (node_of l) l.did.step.at
   pub few : posted (dids world) < 2 ^ 64
   pub step : SameStep l.did.deed l.did.step (dids world)
-  pub alive : Alive setting l.did.deed l.did (up (dids (of (node_of l) world)))
+  pub alive : Alive setting l.did.deed l.did (dids (of (node_of l) world))
   pub took : (from : Place) (taken : Taken) → l.did.deed ≡ Acts (Took from taken) → TookFits l.did.step.cause setting l world from taken
   pub deeds : (q : Port) → Sees q l → DeedFits (setup_of setting (node_of l) q) l.did.deed l.did (view q (of (node_of l) world))
 

@@ -1,6 +1,6 @@
 -- The promise behind the interval that programs read: where a master's clock may be, some time after a look at it.
 use Rattle.std.specs.Prelude.{◌≡◌, ℕ, ◌+◌, ◌-◌, ◌*◌, ◌≤◌, ℤ, pos, ◌-ℤ◌, ◌+ℤ◌, ◌≤ℤ◌, List, []}
-use Rattle.tsp_base.specs.Words.{Line, of, dids, lives, Within, tick_at, width}
+use Rattle.tsp_base.specs.Words.{Line, of, dids, lives, Within, width}
 use Rattle.tsp_promises.specs.{Agreed.Unchanged, ClockAt.clock_at, Fits.Fits, Kept.Example, Setting.Setting}
 
 -- node k has looked at the clock of node m: m's clock was read at a true time between those of two readings of k's own, and from each
@@ -20,31 +20,29 @@ pub record Look (k m : ℕ) (h : List Line) (t : ℕ) : Type 0 where
   pub other : Unchanged m there h
   pub own_after : Unchanged k after h
 
--- m's reading less k's later one, and less k's earlier one: between these, m's clock was ahead of k's
+-- how far, at most, a clock's advance over so many ticks of another one differs from the true time, at this drift
+abbrev pub width_by_ticks : ℕ → ℕ → ℕ
+width_by_ticks drift x = width drift (x + width drift x)
+
+-- at t, m's clock is ahead of k's by no less than m's reading less k's later one, and by no more than m's reading less k's earlier one,
+-- give or take twice a width
+abbrev pub IsAhead : Setting → {k m : ℕ} {h : List Line} {t : ℕ} → Look k m h t → ℕ → Type 0
+IsAhead setting {k} {m} {h} {t} look w =
+    (((clock_at setting m look.there look.middle -ℤ clock_at setting k look.after look.last) -ℤ pos (2 * w)) ≤ℤ (clock_at setting m h t -ℤ clock_at setting k h t)) ×
+    ((clock_at setting m h t -ℤ clock_at setting k h t) ≤ℤ ((clock_at setting m look.there look.middle -ℤ clock_at setting k look.before look.first) +ℤ pos (2 * w)))
+
+-- each look bounds how far m's clock is ahead: by the width of the true time since m's clock was read, and, for 100 s of k's own ticks since
+-- its first reading, by what k can reckon from these ticks alone
+abbrev pub Looked : Setting → List Line → Type 0
+Looked setting h = (k m t : ℕ) (look : Look k m h t) → IsAhead setting look (width setting.drift (t - look.middle)) ×
+    ((x : ℕ) → x ≡ setting.tick k t - setting.tick k look.first → x ≤ 100000000 → IsAhead setting look (width_by_ticks setting.drift x))
+
+-- m's reading less k's later one, and less k's earlier one
 abbrev pub low : Setting → {k m : ℕ} {h : List Line} {t : ℕ} → Look k m h t → ℤ
 low setting {k} {m} look = clock_at setting m look.there look.middle -ℤ clock_at setting k look.after look.last
 
 abbrev pub high : Setting → {k m : ℕ} {h : List Line} {t : ℕ} → Look k m h t → ℤ
 high setting {k} {m} look = clock_at setting m look.there look.middle -ℤ clock_at setting k look.before look.first
-
--- k's ticks since its first reading
-abbrev pub ticks_since : Setting → {k m : ℕ} {h : List Line} {t : ℕ} → Look k m h t → ℕ
-ticks_since setting {k} {m} {h} {t} look = setting.tick k t - setting.tick k look.first
-
--- how far, at most, a clock's advance over so many ticks of another one differs from the true time, at this drift
-abbrev pub width_by_ticks : ℕ → ℕ → ℕ
-width_by_ticks drift x = width drift (x + width drift x)
-
--- at t, m's clock is ahead of k's by no less than low less twice a width, and by no more than high and twice a width
-abbrev pub IsAhead : Setting → {k m : ℕ} {h : List Line} {t : ℕ} → Look k m h t → ℕ → Type 0
-IsAhead setting {k} {m} {h} {t} look w =
-    ((low setting look -ℤ pos (2 * w)) ≤ℤ (clock_at setting m h t -ℤ clock_at setting k h t)) ×
-    ((clock_at setting m h t -ℤ clock_at setting k h t) ≤ℤ (high setting look +ℤ pos (2 * w)))
-
--- each look bounds how far m's clock is ahead of k's: by the width of the true time since m's clock was read, and, for
--- 100 s by k's own ticks, by what k can reckon from these ticks alone
-abbrev pub Looked : Setting → List Line → Type 0
-Looked setting h = (k m t : ℕ) (look : Look k m h t) → IsAhead setting look (width setting.drift (t - look.middle)) × (ticks_since setting look ≤ 100000000 → IsAhead setting look (width_by_ticks setting.drift (ticks_since setting look)))
 
 -- clocks that nobody has booted, which run as far apart as their drift allows: 16 s after a look at each of them by the
 -- other, each side of the bound is reached except for the microsecond by which each of the two widths is above the drift

@@ -1,12 +1,12 @@
 -- The promise of a round that a Correct ends: whatever a minority of its estimates says, that Correct, and those that take
 -- the ADJTIMEs of the round, move no clock of the majority by much.
-use Rattle.std.specs.Prelude.{◌≡◌, ◌≤◌, ◌<◌, ◌≤ℤ◌, ℕ, ◌+◌, ◌-◌, ◌*◌, ℤ, pos, ◌+ℤ◌, ◌-ℤ◌, nat_abs, Bool, true, false, List, ◌∷◌, length, Some}
+use Rattle.std.specs.Prelude.{◌≡◌, ◌≤◌, ◌<◌, ℕ, ◌+◌, ◌*◌, ℤ, pos, ◌+ℤ◌, ◌-ℤ◌, nat_abs, Bool, true, false, List, ◌∷◌, length, Some}
 use Rattle.std.specs.List.{Contains, count_by}
 use Rattle.tsp_rules.specs.Values.{AdjTime, PeerId, Port, SLEW, SPAN}
-use Rattle.tsp_base.specs.Words.{Here, Line, dids, of, view, rest_at, shown, target, Within, Sampled, best, peer_of, time_in, width}
+use Rattle.tsp_base.specs.Words.{Here, Line, dids, of, view, rest_at, shown, target, Within, Sampled, best, peer_of, time_in}
 use Rattle.tsp_group.specs.Groups.{Agree}
-use Rattle.tsp_promises.specs.{Agreed.Unchanged, ClockAt.clock_at, Estimates.CloseBegins, Estimates.Estimate, Estimates.Moves, Fits.node_of}
-use Rattle.tsp_promises.specs.{Everywhere.Everywhere, OneError.Taking, RoundFits.estimates_at, Setting.Setting, Setting.setup_of}
+use Rattle.tsp_promises.specs.{Agreed.Unchanged, ClockAt.ClocksWithin, ClockAt.drifted, Estimates.CloseBegins, Estimates.Estimate, Estimates.Moves, Fits.node_of}
+use Rattle.tsp_promises.specs.{Everywhere.Everywhere, Everywhere.Lasting, OneError.Taking, RoundFits.estimates_at, Setting.Setting, Setting.setup_of}
 use Rattle.tsp_promises.specs.StepFacts.{closed}
 
 -- the estimates that port q of m has after this history, in microseconds: 0 for its own clock, and the diff of the best
@@ -93,8 +93,8 @@ Moderate setting = Everywhere (ModerateAt setting)
 abbrev pub WithMajority : Setting → List Line → ℕ → Type 0
 WithMajority setting h t = (m k : ℕ) (close c : Line) (cpast : List Line) (amount : ℤ) (x : Sampled) (r : Line) (older : List Line) → Unchanged m (c ∷ (close ∷ cpast)) h → Moves m close c amount →
     Estimate m k close cpast x r older h → Agrees setting m close cpast x.diff →
-    pos (nat_abs (clock_at setting m h t -ℤ clock_at setting k h t)) ≤ℤ ((pos (2 * SPAN) +ℤ x.err) +ℤ pos (2 * width setting.drift (t - r.did.step.at)))
+    ClocksWithin setting h t m k ((pos (2 * SPAN) +ℤ x.err) +ℤ pos (drifted setting t r))
 
--- so it is at each place, and after it at any later time, as long as nothing more happens
+-- so it is at each place and later
 abbrev pub ModerateClocks : Setting → List Line → Type 0
-ModerateClocks setting = Everywhere (λ l before. (t : ℕ) → l.did.step.at ≤ t → WithMajority setting (l ∷ before) t)
+ModerateClocks setting = Lasting (WithMajority setting)

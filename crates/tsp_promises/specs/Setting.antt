@@ -9,20 +9,20 @@ pub data Network : Type 0 where
   Named : (k : ℕ) → Network
   Alone : (n : ℕ) → (q : ℕ) → Network
 
--- a counter keeps this drift (parts in a million): it never falls, and over x microseconds of true time it advances by x, give or take the
--- drift, rounded up
+-- a counter keeps this drift (parts in a million): it never falls, and over each span of true time (microseconds) it advances by that span,
+-- give or take the drift of it, rounded up
 pub record KeepsTime (drift : ℕ) (tick : ℕ → ℕ) : Type 0 where
   pub rises : (s x : ℕ) → tick s ≤ tick (s + x)
   pub fast : (s x : ℕ) → tick (s + x) ≤ tick s + x + (drift * x + 999999) / 1000000
   pub slow : (s x : ℕ) → tick s + x ≤ tick (s + x) + (drift * x + 999999) / 1000000
 
--- the greatest drift, at most 1,000, and each node's rate, both in parts in a million; its wall clock at tick 0, in
--- microseconds; its name; the network of each of its ports, and who is on it; and whether elections are strict, so that
--- a candidate needs a majority
+-- the greatest drift, at most 1,000 parts in a million; each node's tick at each microsecond of true time; its wall clock at tick 0, in
+-- microseconds, in each of its lives, of which the first has the number 1; its name; the network of each of its ports, and who is on it;
+-- and whether elections are strict, so that a candidate needs a majority
 pub record Setting : Type 0 where
   pub drift : ℕ
   pub tick : ℕ → ℕ → ℕ
-  pub wall : ℕ → ℤ
+  pub wall : ℕ → ℕ → ℤ
   pub name : ℕ → List ℕ
   pub strict : Bool
   pub net : ℕ → Port → Network

@@ -1,8 +1,8 @@
 -- The promise that a round's bound outlasts later Corrects, if those are taken back, until either node boots.
-use Rattle.std.specs.Prelude.{◌≡◌, ◌≤◌, ◌≤ℤ◌, ℕ, ◌+◌, ◌-◌, ◌*◌, ℤ, pos, ◌+ℤ◌, ◌-ℤ◌, nat_abs, List, ◌∷◌}
+use Rattle.std.specs.Prelude.{◌≡◌, ◌≤ℤ◌, ℕ, ◌+◌, ℤ, pos, ◌+ℤ◌, ◌-ℤ◌, nat_abs, List, ◌∷◌}
 use Rattle.tsp_rules.specs.Values.{Close}
-use Rattle.tsp_base.specs.Words.{Acts, Line, of, dids, lives, moved, Within, width}
-use Rattle.tsp_promises.specs.{Agreed.FromRound, ClockAt.clock_at, Everywhere.Everywhere, Fits.node_of, Setting.Setting}
+use Rattle.tsp_base.specs.Words.{Acts, Line, of, dids, lives, moved, Within}
+use Rattle.tsp_promises.specs.{Agreed.FromRound, ClockAt.ClocksWithin, ClockAt.clock_at, ClockAt.drifted, Everywhere.Lasting, Fits.node_of, Setting.Setting}
 
 -- by how much the Corrects of node n have moved its clock since the place s, in one life
 abbrev pub moved_since : ℕ → List Line → List Line → ℤ
@@ -23,9 +23,8 @@ pub record SinceClose (m : ℕ) (close : Line) (cpast : List Line) (mean : ℤ) 
 -- Close, but not the mean. Then the two clocks differ by at most the error and drift (taken_back); the clocks
 -- themselves differ by at most that and the amounts that were taken back (now)
 pub record StillBound (setting : Setting) (m : ℕ) (cpast : List Line) (mean : ℤ) (c : Line) (past : List Line) (r : Line) (err : ℤ) (h : List Line) (t : ℕ) : Type 0 where
-  pub taken_back : pos (nat_abs ((clock_at setting (node_of c) h t -ℤ moved_since (node_of c) (c ∷ past) h) -ℤ (clock_at setting m h t -ℤ (moved_since m cpast h -ℤ mean)))) ≤ℤ (err +ℤ pos (2 * width setting.drift (t - r.did.step.at)))
-  pub now : pos (nat_abs (clock_at setting (node_of c) h t -ℤ clock_at setting m h t)) ≤ℤ
-      (((err +ℤ pos (2 * width setting.drift (t - r.did.step.at))) +ℤ pos (nat_abs (moved_since (node_of c) (c ∷ past) h))) +ℤ pos (nat_abs (moved_since m cpast h -ℤ mean)))
+  pub taken_back : pos (nat_abs ((clock_at setting (node_of c) h t -ℤ moved_since (node_of c) (c ∷ past) h) -ℤ (clock_at setting m h t -ℤ (moved_since m cpast h -ℤ mean)))) ≤ℤ (err +ℤ pos (drifted setting t r))
+  pub now : ClocksWithin setting h t (node_of c) m (((err +ℤ pos (drifted setting t r)) +ℤ pos (nat_abs (moved_since (node_of c) (c ∷ past) h))) +ℤ pos (nat_abs (moved_since m cpast h -ℤ mean)))
 
 abbrev pub BoundAt : Setting → List Line → ℕ → Type 0
 BoundAt setting h t = (m : ℕ) (close : Line) (cpast : List Line) (mean : ℤ) (c : Line) (past : List Line) (r : Line) (older : List Line) (err : ℤ) →
@@ -41,9 +40,8 @@ pub record SinceCorrect (m : ℕ) (close : Line) (cpast : List Line) (c : Line) 
 -- and drift
 pub record PeersStill (setting : Setting) (c : Line) (past : List Line) (r : Line) (e : ℤ) (d : Line) (qast : List Line) (q : Line) (f : ℤ) (h : List Line) (t : ℕ) : Type 0 where
   pub taken_back : pos (nat_abs ((clock_at setting (node_of c) h t -ℤ moved_since (node_of c) (c ∷ past) h) -ℤ (clock_at setting (node_of d) h t -ℤ moved_since (node_of d) (d ∷ qast) h))) ≤ℤ
-      ((e +ℤ f) +ℤ pos (2 * width setting.drift (t - r.did.step.at) + 2 * width setting.drift (t - q.did.step.at)))
-  pub now : pos (nat_abs (clock_at setting (node_of c) h t -ℤ clock_at setting (node_of d) h t)) ≤ℤ
-      ((((e +ℤ f) +ℤ pos (2 * width setting.drift (t - r.did.step.at) + 2 * width setting.drift (t - q.did.step.at))) +ℤ pos (nat_abs (moved_since (node_of c) (c ∷ past) h))) +ℤ pos (nat_abs (moved_since (node_of d) (d ∷ qast) h)))
+      ((e +ℤ f) +ℤ pos (drifted setting t r + drifted setting t q))
+  pub now : ClocksWithin setting h t (node_of c) (node_of d) ((((e +ℤ f) +ℤ pos (drifted setting t r + drifted setting t q)) +ℤ pos (nat_abs (moved_since (node_of c) (c ∷ past) h))) +ℤ pos (nat_abs (moved_since (node_of d) (d ∷ qast) h)))
 
 -- two nodes that one Close corrected, whatever became of their master
 abbrev pub PeersBound : Setting → List Line → ℕ → Type 0
@@ -55,6 +53,6 @@ pub record BoundsLast (setting : Setting) (h : List Line) (t : ℕ) : Type 0 whe
   pub master : BoundAt setting h t
   pub peers : PeersBound setting h t
 
--- so it is at each place, and after it at any later time
+-- so it is at each place and later
 abbrev pub Throughout : Setting → List Line → Type 0
-Throughout setting = Everywhere (λ l world. (t : ℕ) → l.did.step.at ≤ t → BoundsLast setting (l ∷ world) t)
+Throughout setting = Lasting (BoundsLast setting)

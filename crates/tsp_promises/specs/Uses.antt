@@ -1,6 +1,6 @@
--- That the promises of answers, roles, sends, dates, LOOPs and words aren't empty. Each history here fits and keeps the
--- premises (Kept), if nothing else is said.
-use Rattle.std.specs.Prelude.{◌≡◌, ◌≢◌, ℕ, ◌+◌, ℤ, Bool, true, List, ◌∷◌, Some, length, ◌<◌}
+-- That the promises of answers, roles, sends, dates, LOOPs and words aren't empty, and that clocks needn't be constant. Each history
+-- here fits and keeps the premises (Kept), if nothing else is said.
+use Rattle.std.specs.Prelude.{◌≡◌, ◌≢◌, ℕ, ◌+◌, ℤ, pos, ◌+ℤ◌, ◌-ℤ◌, Bool, true, List, ◌∷◌, Some, length, ◌<◌, ◌≤◌}
 use Rattle.tsp_rules.specs.Values.{Boot, Post, Correct, Acked, Message, PeerId, Peer, Took, Become, Ring, Back, Quit, ResolveAlarm, Datagram, Stamp, Good, SetDateReq, Place, Port, Stranger, Loose, Master, Request, Reply, QUIET, TRIES}
 use Rattle.tsp_base.specs.Words.{Acts, Booted, Did, Seen, Here, Line, dids, of, view, MessageValue, lives, Within, open_to, peer_of, Begins, boot_tick, steps, role, is_numbered, sets_date, heard, ReplyValue}
 use Rattle.tsp_promises.specs.{Kept.Example, Kept.Spot, Premises.Honest, Premises.Life, Premises.Few, Premises.NamesApart, Premises.Words}
@@ -219,3 +219,31 @@ pub record MeasuresWrongly : Type 0 where
   pub honest : Honest world
   pub repeats : Repeats world
   pub wrong : ¬ Measured setting world
+
+-- a history in which clocks aren't constant: before a round measures a node and corrects it, the node's counter gains 3,200
+-- microseconds on true time in 40 s, and loses them again in the next 40 s. Later the node boots again, with a wall clock that
+-- somebody set an hour ahead
+pub record WanderUse : Type 0 where
+  pub history : Example
+  pub later : Spot history.world
+  pub earlier : Spot later.before
+  pub boots : later.line.did.deed ≡ Acts Boot
+  pub booted : earlier.line.did.deed ≡ Acts Boot
+  pub node : node_of earlier.line ≡ node_of later.line
+  pub word : ℕ
+  pub word_once : ℕ
+  pub wall : ℤ
+  pub wall_once : ℤ
+  pub caused : later.line.did.step.cause ≡ Booted word wall
+  pub caused_once : earlier.line.did.step.cause ≡ Booted word_once wall_once
+  pub was_set : wall -ℤ pos later.line.did.tick ≡ (wall_once -ℤ pos earlier.line.did.tick) +ℤ pos 3600000000
+  pub m : ℕ
+  pub round : Round m later.before
+  pub corrected : node_of round.hop.correct ≡ node_of later.line
+  -- when the counter begins to gain, when it turns, and when it is right again
+  pub start : ℕ
+  pub turn : ℕ
+  pub end : ℕ
+  pub gained : history.setting.tick (node_of later.line) turn ≡ history.setting.tick (node_of later.line) start + 40003200
+  pub lost : history.setting.tick (node_of later.line) end ≡ history.setting.tick (node_of later.line) turn + 39996800
+  pub measured : end ≤ round.hop.reading.did.step.at

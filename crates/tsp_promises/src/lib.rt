@@ -54,6 +54,8 @@
 //! - A history that fits keeps every promise (`safe`, and a theorem for each).
 //! - The promises are neither empty nor always true (`ordinary_use`, `rivals_meet`, `dates_use`, `loops_use`,
 //!   `promises_can_be_broken`, `dates_can_be_broken`, `loops_can_be_broken`).
+//! - No clock needs to be constant: a counter may be any that keeps the drift, as one of a constant rate does
+//!   (`ticks_keep_width`), and each life of a node may have another wall clock (`wander_use`).
 //! - In a history that fits a master alone sets the date, and what is acknowledged was set (`dated`), LOOPs
 //!   come along chains of at most eleven posts, and a master gives up its lead for a LOOP only if that is its
 //!   own node's (`looped`).

@@ -316,11 +316,18 @@ pub fn one_winner()
 {}
 
 ghost use Rattle.tsp_base.specs.Ticks.{tick_at, width};
+ghost use Rattle.tsp_promises.specs.Setting.{KeepsTime};
 /// Over a span of true time a tick counter advances by that span, give or take its `width`: the
 /// drift of that span, rounded up, and 1. Times are microseconds, rate and drift parts in a
-/// million.
+/// million. Any counter that keeps the drift does so, and one that runs at a constant rate within
+/// the drift keeps it.
 pub fn ticks_keep_width()
-    ensures { (rate : ℤ) (drift start span : ℕ) → nat_abs rate ≤ drift → drift ≤ 1000
+    ensures any { (drift : ℕ) (tick : ℕ → ℕ) (start span : ℕ) → KeepsTime drift tick
+        → (tick (start + span) ≤ tick start + span + width drift span)
+        × (tick start + span ≤ tick (start + span) + width drift span) }
+    ensures keeps { (rate : ℤ) (drift : ℕ) → nat_abs rate ≤ drift → drift ≤ 1000
+        → KeepsTime drift (tick_at rate) }
+    ensures constant { (rate : ℤ) (drift start span : ℕ) → nat_abs rate ≤ drift → drift ≤ 1000
         → (tick_at rate (start + span) ≤ tick_at rate start + span + width drift span)
         × (tick_at rate start + span ≤ tick_at rate (start + span) + width drift span) }
 {}
@@ -466,6 +473,15 @@ ghost use Rattle.tsp_promises.specs.Uses.{LateReply};
 #[tactic(auto, using(crate::proofs::WitnessWords::late_reply))]
 pub fn late_reply()
     ensures { LateReply }
+{}
+
+ghost use Rattle.tsp_promises.specs.Uses.{WanderUse};
+/// Nothing asks that clocks are constant: a history that fits sees a counter gain on true time and
+/// lose it again before a round, and its node boot again with a wall clock that was set an hour
+/// ahead.
+#[tactic(auto, using(crate::proofs::WitnessClocks::wander_use))]
+pub fn wander_use()
+    ensures { WanderUse }
 {}
 
 ghost use Rattle.tsp_promises.specs.Broken.{AllBreak};

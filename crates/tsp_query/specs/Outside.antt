@@ -1,8 +1,25 @@
 -- What is known of the outside of a command: of a link, a ticker and a sink.
-use Rattle.std.specs.Prelude.{◌≡◌, ◌⊎◌, ◌<◌, ℕ, ℤ, List, ◌++◌, length, Option, Some}
+use Rattle.std.specs.Prelude.{◌≡◌, ◌⊎◌, ◌<◌, ℕ, ℤ, Bool, List, ◌++◌, length, Option, Some}
 use Rattle.tsp_io.specs.{Counts.one_more, Links.Arrival, Links.Binding, Links.Tried, Streams.Grows, declared.link.Link.Ghosts as LinkOf}
+use Rattle.tsp_io.specs.{Boards.Mark, declared.origin.Origin.Origin}
 use Rattle.tsp_io.specs.declared.{sink.Sink.Ghosts as SinkOf, ticker.Ticker.Ghosts as TickerOf}
 use Rattle.tsp_query.specs.Ends.{Outside, KnowsExactly}
+
+-- a ticker's board: whether there is one, from where programs count its ticks, how long after a reading a moment is, and
+-- what was written; each of the last three is None if it isn't told
+pub record Paged : Type 0 where
+  pub boarded : Bool
+  pub origin : Option (Option Origin)
+  pub delay : Option ℕ
+  pub marks : Option (List Mark)
+
+abbrev pub paged : {T : Type 0} → TickerOf T → T → Paged
+paged tickers ticker = record {
+  boarded = tickers.boarded ticker;
+  origin = tickers.origin_is ticker;
+  delay = tickers.delay_is ticker;
+  marks = tickers.marks ticker;
+}
 
 -- what they hold, each part None if it isn't told
 pub record Observed : Type 0 where
@@ -17,6 +34,7 @@ pub record Observed : Type 0 where
   pub binds : Option (List Binding)
   pub waits : Option (List ℕ)
   pub left_at_wall : Option (Option (List ℕ))
+  pub page : Paged
 
 -- what a sink, a link and a ticker hold at a moment
 abbrev pub observed : {K L T : Type 0} → SinkOf K → LinkOf L → TickerOf T → K → L → T → Observed
@@ -32,6 +50,7 @@ observed sinks links tickers sink link ticker = record {
   binds = links.binds link;
   waits = links.waits link;
   left_at_wall = tickers.left_at_wall ticker;
+  page = paged tickers ticker;
 }
 
 -- all of it is told: of the link and the ticker this outside, this wall clock (microseconds since 1970), this word, and

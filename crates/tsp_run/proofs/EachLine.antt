@@ -5,8 +5,8 @@ use Rattle.tsp_rules.specs.{GateRows.GotOn, GateRows.NodeTurn, GateRows.answers_
 use Rattle.tsp_base.specs.Words.{HeaderValue, Acts, Begins, Booted, Came, Cause, Deed, Handed, Line, Step, Turned, first_port, joined, line_of, stepped}
 use Rattle.tsp_promises.specs.Everywhere.{Everywhere}
 use Rattle.tsp_codec.specs.Taken.{taken_of}
-use Rattle.tsp_run.specs.Run.{boot_step, joins, run, step_tick}
-use Rattle.tsp_run.proofs.Happens.{acts_by, steps-are, takes-or, taking, taking_row, taking_step}
+use Rattle.tsp_run.specs.{Clocked.Clocks, Clocked.boot_by, Clocked.run_by, Clocked.tick_by, Run.joins}
+use Rattle.tsp_run.proofs.HappensBy.{acts_by, steps-are, takes-or, taking, taking_row, taking_step}
 
 -- every line of a step has a property, whatever it does and whatever was before
 abbrev pub AllLines : (Line → List Line → Type 0) → Step → ℕ → Type 0
@@ -26,26 +26,33 @@ IsCause (Turn at node) cause = cause ≡ Turned
 IsCause (Take at k) cause = cause ≡ Came k
 IsCause (Bytes at node port from octets) cause = cause ≡ Handed
 
-module _ (P : Line → List Line → Type 0) (header : HeaderValue) (before : List Event) (e : Everywhere P (run header before)) where
-  by-row : (row : NodeRow) (step : Step) → AllLines P step (step_tick header step) → Everywhere P (stepped step (step_tick header step) (acts_by header (run header before) row step) (run header before))
-  by-row row step all = each-stepped P step (step_tick header step) (acts_by header (run header before) row step) (run header before) all e
+module _ (P : Line → List Line → Type 0) (clocks : Clocks) (header : HeaderValue) (before : List Event) (e : Everywhere P (run_by clocks header before)) where
+  by-row : (row : NodeRow) (step : Step) → AllLines P step (tick_by clocks step) →
+      Everywhere P (stepped step (tick_by clocks step) (acts_by clocks header (run_by clocks header before) row step) (run_by clocks header before))
+  by-row row step all = each-stepped P step (tick_by clocks step) (acts_by clocks header (run_by clocks header before) row step)
+      (run_by clocks header before) all e
 
   -- a property of every line with an event's cause holds everywhere after it, if it did before
-  pub each_event : (event : Event) → ((step : Step) (x : ℕ) → IsCause event step.cause → AllLines P step x) → Everywhere P (run header (event ∷ before))
+  pub each_event : (event : Event) → ((step : Step) (x : ℕ) → IsCause event step.cause → AllLines P step x) →
+      Everywhere P (run_by clocks header (event ∷ before))
   each_event (BootAt at node word) all =
-      let step = boot_step header at node word in
-      subst (λ h. Everywhere P (stepped h.step h.tick h.acts (run header before))) (sym (steps-are header (run header before) boots_all step)) (by-row boots_all step (all step _ (_, refl)))
+      let step = boot_by clocks (run_by clocks header before) at node word in
+      subst (λ h. Everywhere P (stepped h.step h.tick h.acts (run_by clocks header before)))
+      (sym (steps-are clocks header (run_by clocks header before) boots_all step)) (by-row boots_all step (all step _ (_, refl)))
   each_event (Turn at node) all =
       let step : Step = record { at = at; node = node; cause = Turned } in
       let row = answers_all NodeTurn in
-      subst (λ h. Everywhere P (stepped h.step h.tick h.acts (run header before))) (sym (steps-are header (run header before) row step)) (by-row row step (all step _ refl))
+      subst (λ h. Everywhere P (stepped h.step h.tick h.acts (run_by clocks header before)))
+      (sym (steps-are clocks header (run_by clocks header before) row step)) (by-row row step (all step _ refl))
   each_event (Bytes at node port from octets) all =
       let step : Step = record { at = at; node = node; cause = Handed } in
       let row = answers_all (GotOn port from (taken_of octets)) in
-      subst (λ h. Everywhere P (stepped h.step h.tick h.acts (run header before))) (sym (steps-are header (run header before) row step)) (by-row row step (all step _ refl))
-  each_event (Take at k) all = elim (takes-or header (run header before) at k) [
+      subst (λ h. Everywhere P (stepped h.step h.tick h.acts (run_by clocks header before)))
+      (sym (steps-are clocks header (run_by clocks header before) row step)) (by-row row step (all step _ refl))
+  each_event (Take at k) all = elim (takes-or clocks header (run_by clocks header before) at k) [
     | inl a ↦
         let step = taking_step at k a.to in
-        subst (λ o. Everywhere P (joins o (run header before))) (sym (taking header (run header before) at k a)) (by-row (taking_row a.post a.to) step (all step _ refl))
-    | inr nothing ↦ subst (λ o. Everywhere P (joins o (run header before))) (sym nothing.1) e
+        subst (λ o. Everywhere P (joins o (run_by clocks header before))) (sym (taking clocks header (run_by clocks header before) at k a))
+        (by-row (taking_row a.post a.to) step (all step _ refl))
+    | inr nothing ↦ subst (λ o. Everywhere P (joins o (run_by clocks header before))) (sym nothing.1) e
   ]

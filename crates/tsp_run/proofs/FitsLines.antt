@@ -5,7 +5,7 @@ use Rattle.tsp_promises.proofs.{StepChecks.Empty, StepChecks.far-deed, StepCheck
 use Rattle.tsp_promises.specs.{DeedFits.ActFits, StepFacts.StepEnds}
 use Rattle.tsp_promises.specs.{PortFits.PortFits, Setting.Setting, Setting.setup_of, Fits.Alive, Fits.TookFits, Fits.LineFits, Fits.Fits}
 use Rattle.tsp_rules.specs.Values.{Act, Boot, Took, Post, Placed, Taken, Place, Port}
-use Rattle.tsp_base.specs.Words.{first_port, joined, line_of, Cause, Came, Step, Deed, Begins, Acts, Did, Line, Seen, of, view, seen_as, is_shared, dids, time_of, up, up_after, Within, Setup, posted, posted_after, tick_at}
+use Rattle.tsp_base.specs.Words.{first_port, joined, line_of, Cause, Came, Step, Deed, Begins, Acts, Did, Line, Seen, of, view, seen_as, is_shared, dids, time_of, Within, Setup, posted, posted_after}
 use Rattle.tsp_base.proofs.{PlaceLemmas.Within-all, PlaceLemmas.Within-through, ViewPlaces.port-same, ViewPlaces.sees-own}
 use Rattle.tsp_run.specs.Networks.{ports_on}
 
@@ -76,10 +76,15 @@ abbrev pub AllTaken : Setting → Step → ℕ → List Line → List Placed →
 AllTaken setting step x history [] = Unit {0}
 AllTaken setting step x history (p ∷ rest) = TakenOk setting step x history p.port p.act × AllTaken setting step x history rest
 
--- each act of a step is of a node that is up, or is its boot
-abbrev pub AllAlive : Setting → Step → ℕ → Bool → List Placed → Type 0
-AllAlive setting step x is_up [] = Unit {0}
-AllAlive setting step x is_up (p ∷ rest) = Alive setting (Acts p.act) (record { step = step; tick = x; deed = Acts p.act }) is_up × AllAlive setting step x (up_after (Acts p.act) is_up) rest
+-- a deed of a step, at its tick
+abbrev pub did_in : Step → ℕ → Deed → Did
+did_in step x deed = record { step = step; tick = x; deed = deed }
+
+-- each act of a step, after these deeds of its node, is of a node that is up, or is its boot
+abbrev pub AllAlive : Setting → Step → ℕ → List Did → List Placed → Type 0
+AllAlive setting step x before [] = Unit {0}
+AllAlive setting step x before (p ∷ rest) =
+    Alive setting (Acts p.act) (did_in step x (Acts p.act)) before × AllAlive setting step x (did_in step x (Acts p.act) ∷ before) rest
 
 taken_more : (setting : Setting) (step : Step) (x : ℕ) (port : Port) (history h : List Line) (from : Place) (t : Taken) → Within history h → (cause : Cause) → step.cause ≡ cause →
     TookFits cause setting (line_of step x port (Acts (Took from t))) history from t → TookFits cause setting (line_of step x port (Acts (Took from t))) h from t
@@ -119,7 +124,8 @@ some_deed a from t e = ap act_in e where
 
 -- one act more
 act_line : (setting : Setting) (step : Step) (x : ℕ) (history : List Line) (port : Port) (d : Deed) (before : List Line) (p : Placed) → x ≡ setting.tick step.node step.at → Within history (line_of step x port d ∷ before) →
-    posted (dids (line_of step x port d ∷ before)) < 2 ^ 64 → Alive setting (Acts p.act) (record { step = step; tick = x; deed = Acts p.act }) (up (dids (of step.node (line_of step x port d ∷ before)))) →
+    posted (dids (line_of step x port d ∷ before)) < 2 ^ 64 →
+    Alive setting (Acts p.act) (did_in step x (Acts p.act)) (dids (of step.node (line_of step x port d ∷ before))) →
     TakenOk setting step x history p.port p.act → (is_shared (Acts p.act) ≡ false → ActFits (setup_of setting step.node p.port) p.act (record { step = step; tick = x; deed = Acts p.act }) (view p.port (of step.node (line_of step x port d ∷ before)))) →
     LineFits setting (line_of step x p.port (Acts p.act)) (line_of step x port d ∷ before)
 act_line setting step x history port d before p tick w few alive took fits = record {
@@ -149,19 +155,20 @@ posted-joined step x (p ∷ rest) h =
 -- all acts of a step
 pub acts_fit : (ports : ℕ) (setting : Setting) (step : Step) (x : ℕ) (history : List Line) (acts : List Placed) (port : Port) (d : Deed) (before : List Line) → x ≡ setting.tick step.node step.at →
     ActsOn ports acts → Within history (line_of step x port d ∷ before) → posted (dids (joined step x acts (line_of step x port d ∷ before))) < 2 ^ 64 →
-    AllAlive setting step x (up (dids (of step.node (line_of step x port d ∷ before)))) acts → AllTaken setting step x history acts →
+    AllAlive setting step x (dids (of step.node (line_of step x port d ∷ before))) acts → AllTaken setting step x history acts →
     ((q : Port) → q.0 < ports → PortFits (setup_of setting step.node q) (view q (of step.node (joined step x acts (line_of step x port d ∷ before))))) → Fits setting (line_of step x port d ∷ before) →
     Fits setting (joined step x acts (line_of step x port d ∷ before))
 acts_fit ports setting step x history [] port d before tick on w few alive took fits f = f
 acts_fit ports setting step x history (p ∷ rest) port d before tick on w few alive took fits f =
     let h = line_of step x port d ∷ before in
-    let up_is : up (dids (of step.node (line_of step x p.port (Acts p.act) ∷ h))) ≡ up_after (Acts p.act) (up (dids (of step.node h))) = ap (λ l. up (dids l)) (one_line step x p.port (Acts p.act) h) in
+    let own_is : dids (of step.node (line_of step x p.port (Acts p.act) ∷ h)) ≡ did_in step x (Acts p.act) ∷ dids (of step.node h) =
+    ap dids (one_line step x p.port (Acts p.act) h) in
     let own = λ (e : is_shared (Acts p.act) ≡ false).
     owes_here (setup_of setting step.node p.port) step x p h (fits_before (setup_of setting step.node p.port) p.port step x rest (line_of step x p.port (Acts p.act) ∷ h) (fits p.port (on.0 e))) in
     let kept = posted-joined step x (p ∷ rest) h in
     let line = act_line setting step x history port d before p tick w (omega (arith, few, kept)) alive.0 took.0 own in
     acts_fit ports setting step x history rest p.port (Acts p.act) h tick on.1 (inr w) few
-    (subst (λ b. AllAlive setting step x b rest) (sym up_is) alive.1) took.1 fits
+    (subst (λ ds. AllAlive setting step x ds rest) (sym own_is) alive.1) took.1 fits
     (line, f)
 
 -- the mark of a step

@@ -5,8 +5,10 @@ pub mod CalmPorts
 pub mod EachLine
 pub mod FitsLines
 pub mod Happens
+pub mod HappensBy
 pub mod HeaderLines
 pub mod NetworkLemmas
+pub mod OwnClocks
 pub mod PossibleRun
 pub mod PostPlaces
 pub mod PromptRun

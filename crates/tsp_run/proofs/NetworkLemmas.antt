@@ -185,14 +185,17 @@ length-ports_on n (net ∷ rest) = by_member (has_member n net) (length-ports_on
   by_member false e = omega (arith, e)
 
 -- at most 4
-pub few_ports : (header : HeaderValue) → IsHeader header → (n : ℕ) → length (ports_on n (networks header)) ≤ 4
-few_ports header is n = by_nets header.nets (is.few_ports n) where
+pub few_ports_of : (header : HeaderValue) → ((n : ℕ) → nets_with n header.nets ≤ 4) → (n : ℕ) → length (ports_on n (networks header)) ≤ 4
+few_ports_of header all n = by_nets header.nets (all n) where
   by_nets : (nets : List (List ℕ)) → nets_with n nets ≤ 4 → length (ports_on n (networks_among (length header.nodes) nets)) ≤ 4
   by_nets [] few = by_member (has_member n (numbers_below (length header.nodes))) where
     by_member : (b : Bool) → length (if b then port_on n (numbers_below (length header.nodes)) ∷ [] else []) ≤ 4
     by_member true = omega arith
     by_member false = omega arith
   by_nets (net ∷ rest) few = let e = length-ports_on n (net ∷ rest) in omega (arith, e, few)
+
+pub few_ports : (header : HeaderValue) → IsHeader header → (n : ℕ) → length (ports_on n (networks header)) ≤ 4
+few_ports header is = few_ports_of header is.few_ports
 
 -- no port has more peers than its node wants room for
 pub peers_few : (ports : List PortSetup) (r : ℕ) → length (slice_index_or ports r no_port).peers ≤ room ports

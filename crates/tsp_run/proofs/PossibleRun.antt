@@ -7,9 +7,10 @@ use Rattle.tsp_base.specs.Words.{HeaderValue, IsHeader, Handed, Line, Step, Turn
 use Rattle.tsp_codec.specs.Taken.{taken_of}
 use Rattle.tsp_run.specs.Networks.{networks, ports_on, room}
 use Rattle.tsp_run.{specs.Ranges.IsInRange, proofs.CalmPorts.step_most, proofs.RefusalLemmas.allowed, proofs.RefusalLemmas.allowed-possible}
-use Rattle.tsp_run.{specs.Possible.AcceptedIsPossible, specs.Possible.Happens, specs.Possible.Possible, proofs.RunLemmas.posts_stepped}
+use Rattle.tsp_run.specs.Clocked.{Clocks, PossibleBy, happening_by, run_by}
+use Rattle.tsp_run.{specs.Possible.AcceptedIsPossible, specs.Possible.Happens, proofs.RunLemmas.posts_stepped}
 use Rattle.tsp_run.specs.Refusals.{Valid, most_posts, node_in, refusal, scene}
-use Rattle.tsp_run.specs.Run.{Happening, boot_step, goes_to, happening, joins, posted_by, posts, posts_from, run, step_tick, steps}
+use Rattle.tsp_run.specs.Run.{Happening, boot_step, goes_to, joins, posted_by, posts, posts_from, run, step_tick, steps}
 use Rattle.tsp_run.proofs.Happens.{acts_by, boot_few, got_acts, stepping, steps-are, taken_in, takes-or, taking, taking_row, taking_step, turn_few}
 
 -- how many datagrams were posted after a step
@@ -22,12 +23,15 @@ count-joins None h = omega arith
 count-joins (Some k) h = let same = count-stepped k.step k.tick k.acts h in omega (arith, same)
 
 -- what was possible before the last event
-pub possible_before : (header : HeaderValue) (e : Event) (before : List Event) → Possible header (e ∷ before) → Possible header before
-possible_before header e before p = record {
+pub possible_before : (clocks : Clocks) (header : HeaderValue) (e : Event) (before : List Event) → PossibleBy clocks header (e ∷ before) →
+    PossibleBy clocks header before
+possible_before clocks header e before p = record {
   header_is = p.header_is;
+  keeps = p.keeps;
   ranges = All-tail IsInRange e before p.ranges;
   happens = p.happens.1;
-  few = (let few = p.few in let kept = count-joins (happening header (run header before) e) (run header before) in omega (arith, few, kept));
+  few = (let few = p.few in let kept = count-joins (happening_by clocks header (run_by clocks header before) e) (run_by clocks header before) in
+      omega (arith, few, kept));
 }
 
 -- a step posts at most one datagram an act

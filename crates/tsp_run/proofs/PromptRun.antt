@@ -4,9 +4,10 @@ use Rattle.tsp_rules.specs.Values.{Post, Placed, Datagram, Event, BootAt, Turn, 
 use Rattle.tsp_base.specs.Words.{HeaderValue, Acts, Begins, Came, Deed, Line, Step, dids, first_port, joined, line_of, stepped, Within, posted}
 use Rattle.tsp_promises.specs.Premises.{Life, TakenWithinAt}
 use Rattle.tsp_base.proofs.PlaceLemmas.{Within-none}
-use Rattle.tsp_run.proofs.{Happens.acts_by, Happens.takes-or, Happens.taking, Happens.taking_row, Happens.taking_step, EachLine.each_event}
-use Rattle.tsp_run.specs.{Run.joins, Run.posted_in, Run.posts, Run.run, Run.step_tick, declared.posted.Posted.Posted}
-use Rattle.tsp_run.{specs.Premised.IsPrompt, specs.Premised.Prompt, proofs.NetworkLemmas.some_same, proofs.PostPlaces.length-posts}
+use Rattle.tsp_run.proofs.{HappensBy.acts_by, HappensBy.takes-or, HappensBy.taking, HappensBy.taking_row, HappensBy.taking_step, EachLine.each_event}
+use Rattle.tsp_run.specs.Clocked.{Clocks, IsPromptBy, PromptBy, run_by, tick_by}
+use Rattle.tsp_run.specs.{Run.joins, Run.posted_in, Run.posts, declared.posted.Posted.Posted}
+use Rattle.tsp_run.{proofs.NetworkLemmas.some_same, proofs.PostPlaces.length-posts}
 
 -- entries stay where more follow
 get-front : {A : Type 0} (xs ys : List A) (k : ℕ) (p : A) → slice_get xs k ≡ Some p → slice_get (xs ++ ys) k ≡ Some p
@@ -61,20 +62,27 @@ life-stepped : (step : Step) (x k : ℕ) (q : Posted) (acts : List Placed) (w : 
 life-stepped step x k q acts w cause there early life =
     life-joined step x k q acts (line_of step x first_port Begins ∷ w) cause (get-front (posts w) [] k q there) early (early-line step x k q first_port Begins w cause there early, life)
 
-module _ (header : HeaderValue) (before : List Event) (life : Life (run header before)) where
-  life-event : (e : Event) → IsPrompt header before e → Life (run header (e ∷ before))
-  life-event (BootAt at node word) early = each_event (TakenWithinAt LIFE) header before life (BootAt at node word) (λ step x c port deed h post older to datagram within is came. let cause = c.1 in let no : ⊥ = cc in absurd no)
-  life-event (Turn at node) early = each_event (TakenWithinAt LIFE) header before life (Turn at node) (λ step x c port deed h post older to datagram within is came. let no : ⊥ = cc in absurd no)
-  life-event (Bytes at node port from octets) early = each_event (TakenWithinAt LIFE) header before life (Bytes at node port from octets) (λ step x c port deed h post older to datagram within is came. let no : ⊥ = cc in absurd no)
-  life-event (Take at k) early = elim (takes-or header (run header before) at k) [
+module _ (clocks : Clocks) (header : HeaderValue) (before : List Event) (life : Life (run_by clocks header before)) where
+  life-event : (e : Event) → IsPromptBy clocks header before e → Life (run_by clocks header (e ∷ before))
+  life-event (BootAt at node word) early =
+      each_event (TakenWithinAt LIFE) clocks header before life (BootAt at node word)
+      (λ step x c port deed h post older to datagram within is came. let cause = c.1 in let no : ⊥ = cc in absurd no)
+  life-event (Turn at node) early =
+      each_event (TakenWithinAt LIFE) clocks header before life (Turn at node)
+      (λ step x c port deed h post older to datagram within is came. let no : ⊥ = cc in absurd no)
+  life-event (Bytes at node port from octets) early =
+      each_event (TakenWithinAt LIFE) clocks header before life (Bytes at node port from octets)
+      (λ step x c port deed h post older to datagram within is came. let no : ⊥ = cc in absurd no)
+  life-event (Take at k) early = elim (takes-or clocks header (run_by clocks header before) at k) [
     | inl a ↦
         let step = taking_step at k a.to in
-        subst (λ o. Life (joins o (run header before))) (sym (taking header (run header before) at k a))
-        (life-stepped step (step_tick header step) k a.post (acts_by header (run header before) (taking_row a.post a.to) step) (run header before) refl a.there (early a.post a.there) life)
-    | inr nothing ↦ subst (λ o. Life (joins o (run header before))) (sym nothing.1) life
+        subst (λ o. Life (joins o (run_by clocks header before))) (sym (taking clocks header (run_by clocks header before) at k a))
+        (life-stepped step (tick_by clocks step) k a.post (acts_by clocks header (run_by clocks header before) (taking_row a.post a.to) step)
+        (run_by clocks header before) refl a.there (early a.post a.there) life)
+    | inr nothing ↦ subst (λ o. Life (joins o (run_by clocks header before))) (sym nothing.1) life
   ]
 
 -- so it is with each run
-pub prompt-life : (header : HeaderValue) (events : List Event) → Prompt header events → Life (run header events)
-prompt-life header [] k = tt
-prompt-life header (e ∷ before) k = life-event header before (prompt-life header before k.1) e k.0
+pub prompt-life : (clocks : Clocks) (header : HeaderValue) (events : List Event) → PromptBy clocks header events → Life (run_by clocks header events)
+prompt-life clocks header [] k = tt
+prompt-life clocks header (e ∷ before) k = life-event clocks header before (prompt-life clocks header before k.1) e k.0

@@ -1,27 +1,28 @@
--- The history of every possible schedule fits, and so does that of every accepted one.
+-- The history of possible events fits, by any clocks that keep the drift; so do those of every possible schedule and every accepted one.
 use Rattle.std.proofs.Common.{sym, ap, subst, inr, arith, ◌∙◌, eq-eqb, eqb-true, ◌≡◌, ℕ, ◌+◌, ◌<◌, ◌≤◌, ◌^◌, ◌==◌, pos, ◌+ℤ◌, Bool, true, false, List, [], ◌∷◌, length, Option, None, Some, slice_get, refl}
 use Rattle.std.proofs.lemmas.List.Elements.{All-head}
 use Rattle.tsp_rules.specs.Values.{Took, Post, Placed, Event, BootAt, Turn, Take, Bytes, Peer, Port}
 use Rattle.tsp_rules.specs.GateRows.{NodeGiven, NodeTurn, GotOn, answers_all, boots_all}
 use Rattle.tsp_rules.specs.NodeRows.{NodePast, NodeRow, PortSetup, in_node_step, on_port, port_setup, spread}
-use Rattle.tsp_base.specs.Words.{first_port, joined, line_of, stepped, HeaderValue, IsHeader, Booted, Turned, Came, Handed, Step, Begins, Acts, Line, of, view, dids, time_of, up, posted, peer_of, tick_at}
+use Rattle.tsp_base.specs.Words.{first_port, joined, line_of, stepped, HeaderValue, Booted, Turned, Came, Handed, Step, Begins, Acts, Line, of, view, dids, lives, time_of, up, posted, peer_of}
 use Rattle.tsp_base.proofs.PlaceLemmas.{Within-all}
-use Rattle.tsp_promises.specs.{Fits.Fits, Fits.TookFits, Sound.IsSound, Sound.IsSoundDeed, StepFacts.StepEnds}
+use Rattle.tsp_promises.specs.{Fits.Finished, Fits.Fits, Fits.TookFits, Sound.IsSound, Sound.IsSoundDeed, StepFacts.StepEnds}
 use Rattle.tsp_promises.specs.{PortFits.PortFits, PortFits.setup_in, Setting.Alone, Setting.Named, Setting.Setting, Setting.setup_of}
 use Rattle.tsp_promises.proofs.{NodeLeads.begins_all, NodeLeads.boots_all_lead, GateLeads.GivenOn, GateLeads.answers_all_lead}
 use Rattle.tsp_promises.proofs.{Known.Ended, Known.Fresh, Clocks.tick-mono}
 use Rattle.tsp_promises.proofs.{RunLeads.ends_of, RunLeads.ended_later, RunLeads.ended_seen, RunLeads.nothing-done, GateSteps.AllPorts}
 use Rattle.tsp_codec.specs.{Canon.canon, Taken.taken_of}
 use Rattle.tsp_run.specs.Networks.{networks, network_from, ports_on, address_of, room}
-use Rattle.tsp_run.{specs.Possible.Possible, proofs.RefusalLemmas.CanHappen, proofs.RefusalLemmas.can_happen, proofs.RefusalLemmas.up-down}
-use Rattle.tsp_run.{specs.Ranges.IsInRange, proofs.NetworkLemmas.few_ports, proofs.NetworkLemmas.goes_there, proofs.NetworkLemmas.set_up}
-use Rattle.tsp_run.specs.{Refusals.scene, Refusals.down, Refusals.node_in, Setup.node_line, Setup.past_of, Setup.rests}
-use Rattle.tsp_run.specs.Run.{run, joins, steps, step_tick, boot_step, event_at, last_at, posts, reaches, arrives, arrives_at, goes_to}
-use Rattle.tsp_run.specs.{Setting.PossibleRunsFit, Setting.SetBy, Setting.RunsFit, Setting.named_or, declared.address.Address.Address}
+use Rattle.tsp_run.specs.Clocked.{ClockedRunsFit, Clocks, IsSetUp, PossibleBy, SetByClocks, boot_by, clocks_of, reaches_by, run_by, scene_by, steps_by, tick_by}
+use Rattle.tsp_run.{proofs.RefusalLemmas.CanHappen, proofs.RefusalLemmas.can_happen, proofs.RefusalLemmas.up-down}
+use Rattle.tsp_run.{specs.Ranges.IsInRange, proofs.NetworkLemmas.few_ports_of, proofs.NetworkLemmas.goes_there, proofs.NetworkLemmas.set_up}
+use Rattle.tsp_run.specs.{Refusals.down, Refusals.node_in, Setup.node_line, Setup.past_of, Setup.rests}
+use Rattle.tsp_run.specs.Run.{joins, event_at, last_at, posts, arrives, arrives_at, goes_to}
+use Rattle.tsp_run.specs.{Setting.PossibleRunsFit, Setting.RunsFit, Setting.named_or, declared.address.Address.Address}
 use Rattle.tsp_run.{specs.declared.posted.Posted.Posted, proofs.PostPlaces.length-posts, proofs.PostPlaces.post_at}
 use Rattle.tsp_run.proofs.AnswersFit.{StepOk, turn_ok, got_ok, boot_ok}
-use Rattle.tsp_run.proofs.FitsLines.{ActsOn, AllAlive, ArePlaced, acts_fit, all_end, mark_line, of_placed, posted-joined}
-use Rattle.tsp_run.proofs.{HeaderLines.name-node_line, SoundLemmas.line_sound, SoundLemmas.octets_sound, SoundLemmas.sound_read}
+use Rattle.tsp_run.proofs.FitsLines.{ActsOn, AllAlive, ArePlaced, acts_fit, all_end, did_in, mark_line, of_placed, posted-joined}
+use Rattle.tsp_run.proofs.{OwnClocks.possible_own, OwnClocks.runs_by_own_clocks, OwnClocks.set_own, HeaderLines.name-node_line, SoundLemmas.line_sound, SoundLemmas.octets_sound, SoundLemmas.sound_read}
 use Rattle.tsp_run.proofs.{PossibleRun.accepted-possible, PossibleRun.possible_before, RunLemmas.stepped_own, RunLemmas.stepped_other}
 use Rattle.tsp_run.proofs.SoundAll.{SoundNode, IsSoundInput, sound_answers_all, sound_begins, sound_boots_all}
 
@@ -72,8 +73,9 @@ sound_after header h step x acts nodes after n false e =
     subst (λ l. SoundNode (record (past_of header (rests n) now) { lines = l })) (sym (stepped_other n step x acts h e)) (record { name = s.name; word_fits = s.word_fits; ports = s.ports; lines = s.lines })
 
 -- what a node's port is set up with is what its past says
-setup_is : (header : HeaderValue) (setting : Setting) (step : Step) (h : List Line) (q : Port) → SetBy header setting → q.0 < length (ports_on step.node (networks header)) → setup_in (on_port q (past_of header step h)) ≡ setup_of setting step.node q
-setup_is header setting step h q set has =
+setup_is : (clocks : Clocks) (header : HeaderValue) (setting : Setting) (step : Step) (h : List Line) (q : Port) → SetByClocks clocks header setting →
+    q.0 < length (ports_on step.node (networks header)) → setup_in (on_port q (past_of header step h)) ≡ setup_of setting step.node q
+setup_is clocks header setting step h q set has =
     let nets : List (List ℕ) = networks header in
     let s = set_up step.node q.0 0 0 nets has in
     let found : network_from step.node q.0 0 0 nets ≡ Some s.j =
@@ -90,15 +92,22 @@ own_is : (header : HeaderValue) (step : Step) (h : List Line) (q : Port) → q.0
 own_is header step h q has = ap (λ (k : PortSetup). k.own.0) (set_up step.node q.0 0 0 (networks header) has).setup
 
 -- a step by a row that keeps what is known of each port
-by_row : (header : HeaderValue) (setting : Setting) (t : ℕ) (h : List Line) (step : Step) (row : NodeRow) → SetBy header setting → Ran header setting t h → t ≤ step.at → posted (dids (joins (Some (steps header h row step)) h)) < 2 ^ 64 →
-    (AllPorts (λ r. Fresh) (step_tick header step) (in_node_step step (step_tick header step) (past_of header step h)) →
-    AllPorts (λ r. Ended) (step_tick header step) (spread (step_tick header step) (in_node_step step (step_tick header step) (past_of header step h)) (row (step_tick header step) (in_node_step step (step_tick header step) (past_of header step h))))) →
-    (SoundNode (in_node_step step (step_tick header step) (past_of header step h)) → SoundNode (spread (step_tick header step) (in_node_step step (step_tick header step) (past_of header step h)) (row (step_tick header step) (in_node_step step (step_tick header step) (past_of header step h))))) →
-    StepOk (length (ports_on step.node (networks header))) (room (ports_on step.node (networks header))) setting step (step_tick header step) h (up (dids (of step.node h))) (row (step_tick header step) (in_node_step step (step_tick header step) (past_of header step h))) →
-    Ran header setting step.at (joins (Some (steps header h row step)) h)
-unfolding steps
-by_row header setting t h step row set r later few leads soundly ok =
-    let x : ℕ = step_tick header step in
+by_row : (clocks : Clocks) (header : HeaderValue) (setting : Setting) (t : ℕ) (h : List Line) (step : Step) (row : NodeRow) →
+    SetByClocks clocks header setting → Ran header setting t h → t ≤ step.at → posted (dids (joins (Some (steps_by clocks header h row step)) h)) < 2 ^ 64 →
+    (AllPorts (λ r. Fresh) (tick_by clocks step) (in_node_step step (tick_by clocks step) (past_of header step h)) →
+    AllPorts (λ r. Ended) (tick_by clocks step)
+    (spread (tick_by clocks step) (in_node_step step (tick_by clocks step) (past_of header step h))
+    (row (tick_by clocks step) (in_node_step step (tick_by clocks step) (past_of header step h))))) →
+    (SoundNode (in_node_step step (tick_by clocks step) (past_of header step h)) →
+    SoundNode (spread (tick_by clocks step) (in_node_step step (tick_by clocks step) (past_of header step h))
+    (row (tick_by clocks step) (in_node_step step (tick_by clocks step) (past_of header step h))))) →
+    StepOk (length (ports_on step.node (networks header))) (room (ports_on step.node (networks header))) setting step (tick_by clocks step) h
+    (did_in step (tick_by clocks step) Begins ∷ dids (of step.node h))
+    (row (tick_by clocks step) (in_node_step step (tick_by clocks step) (past_of header step h))) →
+    Ran header setting step.at (joins (Some (steps_by clocks header h row step)) h)
+unfolding steps_by
+by_row clocks header setting t h step row set r later few leads soundly ok =
+    let x : ℕ = tick_by clocks step in
     let nets : List (List ℕ) = networks header in
     let ports : ℕ = length (ports_on step.node nets) in
     let base : NodePast = past_of header step h in
@@ -113,13 +122,17 @@ by_row header setting t h step row set r later few leads soundly ok =
     let after : AllPorts (λ r. Ended) x (spread x past acts) = leads (begins_all step x x base (omega arith) (λ q has. own_is header step h q has) rested) in
     let kept : posted (dids h) ≤ posted (dids (joined step x acts (mark ∷ h))) = posted-joined step x acts (mark ∷ h) in
     let all : posted (dids (joined step x acts (mark ∷ h))) < 2 ^ 64 = few in
-    let line = mark_line ports setting step x h tick_is (of_placed nets step.node h r.placed) (let b = r.time in omega (arith, b, later)) (omega (arith, all, kept)) (λ q has. subst (λ s. StepEnds s (view q (of step.node h))) (setup_is header setting step h q set has) (ends_of (rested q has))) in
+    let line = mark_line ports setting step x h tick_is (of_placed nets step.node h r.placed) (let b = r.time in omega (arith, b, later))
+    (omega (arith, all, kept))
+    (λ q has. subst (λ s. StepEnds s (view q (of step.node h))) (setup_is clocks header setting step h q set has) (ends_of (rested q has))) in
     let own : (step.node == step.node) ≡ true = eq-eqb step.node step.node refl in
-    let up_is : up (dids (of step.node (mark ∷ h))) ≡ up (dids (of step.node h)) = rw own refl in
+    let own_is : dids (of step.node (mark ∷ h)) ≡ mark.did ∷ dids (of step.node h) = rw own refl in
     record {
       fits = acts_fit ports setting step x h acts first_port Begins h tick_is ok.on (inr (Within-all h)) all
-          (subst (λ b. AllAlive setting step x b acts) (sym up_is) ok.alive) ok.taken
-          (λ q has. subst (λ l. PortFits (setup_of setting step.node q) (view q l)) (sym (stepped_own step.node step x acts h own)) (subst (λ k. PortFits k (view q (joined step x acts (mark ∷ of step.node h)))) (setup_is header setting step h q set has) (after q has).0.fits))
+          (subst (λ ds. AllAlive setting step x ds acts) (sym own_is) ok.alive) ok.taken
+          (λ q has. subst (λ l. PortFits (setup_of setting step.node q) (view q l)) (sym (stepped_own step.node step x acts h own))
+          (subst (λ k. PortFits k (view q (joined step x acts (mark ∷ of step.node h)))) (setup_is clocks header setting step h q set has)
+          (after q has).0.fits))
           (line, r.fits);
       placed = joined-placed nets step x acts (mark ∷ h) ok.on ((λ e. let bad : ⊥ = cc in absurd bad), r.placed);
       time = joined-time step x acts (mark ∷ h) (omega arith);
@@ -127,31 +140,38 @@ by_row header setting t h step row set r later few leads soundly ok =
       sound = λ n. sound_after header h step x acts r.sound (soundly (sound_begins step x base (let s = r.sound step.node in record { name = s.name; word_fits = s.word_fits; ports = s.ports; lines = s.lines }))) n (step.node == n) refl;
     }
 
-up_seen : (header : HeaderValue) (before : List Event) (n : ℕ) → down (scene header before).up (Some n) ≡ None → up (dids (of n (run header before))) ≡ true
-up_seen header before n e = up-down (scene header before) n e
+up_seen : (clocks : Clocks) (header : HeaderValue) (before : List Event) (n : ℕ) → down (scene_by clocks header before).up (Some n) ≡ None →
+    up (dids (of n (run_by clocks header before))) ≡ true
+up_seen clocks header before n e = up-down (scene_by clocks header before) n e
 
-module _ {header : HeaderValue} {setting : Setting} (is : IsHeader header) (set : SetBy header setting) where
-  by_answers : (before : List Event) (step : Step) (g : NodeGiven) → Ran header setting (last_at before) (run header before) → posted (dids (joins (Some (steps header (run header before) (answers_all g) step)) (run header before))) < 2 ^ 64 →
-      (scene header before).last ≤ step.at → up (dids (of step.node (run header before))) ≡ true → GivenOn g (past_of header step (run header before)) → IsSoundInput g →
-      StepOk (length (ports_on step.node (networks header))) (room (ports_on step.node (networks header))) setting step (step_tick header step) (run header before) true (answers_all g (step_tick header step) (in_node_step step (step_tick header step) (past_of header step (run header before)))) →
-      Ran header setting step.at (joins (Some (steps header (run header before) (answers_all g) step)) (run header before))
-  by_answers before step g r few later is_up given sound ok =
-      let x : ℕ = step_tick header step in
-      let past : NodePast = in_node_step step x (past_of header step (run header before)) in
-      by_row header setting (last_at before) (run header before) step (answers_all g) set r later few
-      (λ fresh. (answers_all_lead g).run x past (given-in g given, fresh)) ((sound_answers_all g sound).run x past)
-      (subst (λ b. StepOk (length (ports_on step.node (networks header))) (room (ports_on step.node (networks header))) setting step x (run header before) b (answers_all g x past)) (sym is_up) ok)
+module _ {clocks : Clocks} {header : HeaderValue} {setting : Setting} (is : IsSetUp header) (set : SetByClocks clocks header setting) where
+  by_answers : (before : List Event) (step : Step) (g : NodeGiven) → Ran header setting (last_at before) (run_by clocks header before) →
+      posted (dids (joins (Some (steps_by clocks header (run_by clocks header before) (answers_all g) step)) (run_by clocks header before))) < 2 ^ 64 →
+      (scene_by clocks header before).last ≤ step.at → GivenOn g (past_of header step (run_by clocks header before)) → IsSoundInput g →
+      StepOk (length (ports_on step.node (networks header))) (room (ports_on step.node (networks header))) setting step (tick_by clocks step)
+      (run_by clocks header before) (did_in step (tick_by clocks step) Begins ∷ dids (of step.node (run_by clocks header before)))
+      (answers_all g (tick_by clocks step) (in_node_step step (tick_by clocks step) (past_of header step (run_by clocks header before)))) →
+      Ran header setting step.at (joins (Some (steps_by clocks header (run_by clocks header before) (answers_all g) step)) (run_by clocks header before))
+  by_answers before step g r few later given sound ok =
+      let x : ℕ = tick_by clocks step in
+      let past : NodePast = in_node_step step x (past_of header step (run_by clocks header before)) in
+      by_row clocks header setting (last_at before) (run_by clocks header before) step (answers_all g) set r later few
+      (λ fresh. (answers_all_lead g).run x past (given-in g given, fresh)) ((sound_answers_all g sound).run x past) ok
     where
-      given-in : (g : NodeGiven) → GivenOn g (past_of header step (run header before)) → GivenOn g (in_node_step step (step_tick header step) (past_of header step (run header before)))
+      given-in : (g : NodeGiven) → GivenOn g (past_of header step (run_by clocks header before)) →
+          GivenOn g (in_node_step step (tick_by clocks step) (past_of header step (run_by clocks header before)))
       given-in NodeTurn h = tt
       given-in (GotOn q from t) h = h
 
   -- what reaches a node was posted to it, on the network of its port
-  came : (before : List Event) (at k : ℕ) (p : Posted) (a : Address) → IsSound p.datagram → slice_get (posts (run header before)) k ≡ Some p → address_of (networks header) p.from p.port p.to ≡ Some a →
-      TookFits (Came k) setting (line_of (record { at = at; node = a.node; cause = Came k }) (step_tick header (record { at = at; node = a.node; cause = Came k })) a.port (Acts (Took (Peer (peer_of p.from)) (taken_of (canon p.datagram))))) (run header before)
+  came : (before : List Event) (at k : ℕ) (p : Posted) (a : Address) → IsSound p.datagram → slice_get (posts (run_by clocks header before)) k ≡ Some p →
+      address_of (networks header) p.from p.port p.to ≡ Some a →
+      TookFits (Came k) setting (line_of (record { at = at; node = a.node; cause = Came k })
+      (tick_by clocks (record { at = at; node = a.node; cause = Came k })) a.port
+      (Acts (Took (Peer (peer_of p.from)) (taken_of (canon p.datagram))))) (run_by clocks header before)
       (Peer (peer_of p.from)) (taken_of (canon p.datagram))
   came before at k p a sound there goes =
-      let o = post_at (run header before) k p there in
+      let o = post_at (run_by clocks header before) k p there in
       let g = goes_there (networks header) p.from p.port p.to a goes in
       record {
         post = o.post;
@@ -166,59 +186,81 @@ module _ {header : HeaderValue} {setting : Setting} (is : IsHeader header) (set 
       }
 
   -- what was posted has its parts in their ranges
-  pub post_sound : (before : List Event) (t k : ℕ) (p : Posted) → Ran header setting t (run header before) → slice_get (posts (run header before)) k ≡ Some p → IsSound p.datagram
+  pub post_sound : (before : List Event) (t k : ℕ) (p : Posted) → Ran header setting t (run_by clocks header before) →
+      slice_get (posts (run_by clocks header before)) k ≡ Some p → IsSound p.datagram
   post_sound before t k p r there =
-      let a = post_at (run header before) k p there in
-      subst (λ d. IsSoundDeed d) a.deed (line_sound (run header before) a.post a.older a.place (r.sound a.post.did.step.node).lines)
+      let a = post_at (run_by clocks header before) k p there in
+      subst (λ d. IsSoundDeed d) a.deed (line_sound (run_by clocks header before) a.post a.older a.place (r.sound a.post.did.step.node).lines)
 
   four : (n : ℕ) → length (ports_on n (networks header)) ≤ 4
-  four n = few_ports header is n
+  four n = few_ports_of header is.few_ports n
 
-  nobody-acts : (before : List Event) (at k : ℕ) → Ran header setting (last_at before) (run header before) → CanHappen (scene header before) (Take at k) → Ran header setting at (run header before)
+  nobody-acts : (before : List Event) (at k : ℕ) → Ran header setting (last_at before) (run_by clocks header before) →
+      CanHappen (scene_by clocks header before) (Take at k) → Ran header setting at (run_by clocks header before)
   nobody-acts before at k r can = record {
     fits = r.fits;
     placed = r.placed;
     time = (let b = r.time in let c = can.time in omega (arith, b, c));
-    nodes = λ n q has. ended_later (setting.tick n (last_at before)) (setting.tick n at) (on_port q (past_of header (rests n) (run header before))) (tick-mono setting n (last_at before) at can.time) (r.nodes n q has);
+    nodes = λ n q has. ended_later (setting.tick n (last_at before)) (setting.tick n at)
+        (on_port q (past_of header (rests n) (run_by clocks header before))) (tick-mono setting n (last_at before) at can.time) (r.nodes n q has);
     sound = r.sound;
   }
 
-  taken_step : (before : List Event) (at k : ℕ) (o : Option Posted) → Ran header setting (last_at before) (run header before) → CanHappen (scene header before) (Take at k) → slice_get (posts (run header before)) k ≡ o →
-      posted (dids (joins (reaches header (run header before) at k (arrives (networks header) o)) (run header before))) < 2 ^ 64 → Ran header setting at (joins (reaches header (run header before) at k (arrives (networks header) o)) (run header before))
+  taken_step : (before : List Event) (at k : ℕ) (o : Option Posted) → Ran header setting (last_at before) (run_by clocks header before) →
+      CanHappen (scene_by clocks header before) (Take at k) → slice_get (posts (run_by clocks header before)) k ≡ o →
+      posted (dids (joins (reaches_by clocks header (run_by clocks header before) at k (arrives (networks header) o))
+      (run_by clocks header before))) < 2 ^ 64 →
+      Ran header setting at (joins (reaches_by clocks header (run_by clocks header before) at k (arrives (networks header) o))
+      (run_by clocks header before))
   taken_step before at k None r can there few = nobody-acts before at k r can
   taken_step before at k (Some p) r can there few = arrived (address_of (networks header) p.from p.port p.to) refl few where
-    arrived : (o : Option Address) → address_of (networks header) p.from p.port p.to ≡ o → posted (dids (joins (reaches header (run header before) at k (arrives_at p o)) (run header before))) < 2 ^ 64 →
-        Ran header setting at (joins (reaches header (run header before) at k (arrives_at p o)) (run header before))
+    arrived : (o : Option Address) → address_of (networks header) p.from p.port p.to ≡ o →
+        posted (dids (joins (reaches_by clocks header (run_by clocks header before) at k (arrives_at p o)) (run_by clocks header before))) < 2 ^ 64 →
+        Ran header setting at (joins (reaches_by clocks header (run_by clocks header before) at k (arrives_at p o)) (run_by clocks header before))
     arrived None e few = nobody-acts before at k r can
     arrived (Some a) e few =
         let sound = post_sound before (last_at before) k p r there in
         let step : Step = record { at = at; node = a.node; cause = Came k } in
-        let goes : node_in (goes_to (networks header) (slice_get (posts (run header before)) k)) ≡ Some a.node = ap (λ q. node_in (goes_to (networks header) q)) there ∙ ap (λ q. node_in q) e in
-        let is_up : up (dids (of a.node (run header before))) ≡ true = up_seen header before a.node (ap (λ q. down (scene header before).up q) (sym goes) ∙ can.up) in
+        let goes : node_in (goes_to (networks header) (slice_get (posts (run_by clocks header before)) k)) ≡ Some a.node =
+        ap (λ q. node_in (goes_to (networks header) q)) there ∙ ap (λ q. node_in q) e in
+        let is_up : up (dids (of a.node (run_by clocks header before))) ≡ true =
+        up_seen clocks header before a.node (ap (λ q. down (scene_by clocks header before).up q) (sym goes) ∙ can.up) in
         let has = (goes_there (networks header) p.from p.port p.to a e).has in
-        by_answers before step (GotOn a.port (Peer (peer_of p.from)) (taken_of (canon p.datagram))) r few can.time is_up has
+        by_answers before step (GotOn a.port (Peer (peer_of p.from)) (taken_of (canon p.datagram))) r few can.time has
         (rw (sound_read p.datagram sound) sound)
-        (got_ok setting step (step_tick header step) (run header before) (in_node_step step (step_tick header step) (past_of header step (run header before))) a.port (Peer (peer_of p.from)) (taken_of (canon p.datagram)) (four a.node) has (came before at k p a sound there e))
+        (got_ok setting step (tick_by clocks step) (run_by clocks header before)
+        (did_in step (tick_by clocks step) Begins ∷ dids (of a.node (run_by clocks header before)))
+        (in_node_step step (tick_by clocks step) (past_of header step (run_by clocks header before))) a.port (Peer (peer_of p.from))
+        (taken_of (canon p.datagram)) (four a.node) has is_up (came before at k p a sound there e))
 
-  event_ran : (before : List Event) (e : Event) → Ran header setting (last_at before) (run header before) → IsInRange e → CanHappen (scene header before) e → posted (dids (run header (e ∷ before))) < 2 ^ 64 → Ran header setting (event_at e) (run header (e ∷ before))
+  event_ran : (before : List Event) (e : Event) → Ran header setting (last_at before) (run_by clocks header before) → IsInRange e →
+      CanHappen (scene_by clocks header before) e → posted (dids (run_by clocks header (e ∷ before))) < 2 ^ 64 →
+      Ran header setting (event_at e) (run_by clocks header (e ∷ before))
   event_ran before (BootAt at node word) r range can few =
-      let step : Step = boot_step header at node word in
-      let x : ℕ = step_tick header step in
-      let past : NodePast = in_node_step step x (past_of header step (run header before)) in
-      by_row header setting (last_at before) (run header before) step boots_all set r can.time few
+      let step : Step = boot_by clocks (run_by clocks header before) at node word in
+      let x : ℕ = tick_by clocks step in
+      let past : NodePast = in_node_step step x (past_of header step (run_by clocks header before)) in
+      by_row clocks header setting (last_at before) (run_by clocks header before) step boots_all set r can.time few
       (boots_all_lead.run x past) (sound_boots_all x past word _ refl range)
-      (boot_ok setting step x (run header before) (up (dids (of node (run header before)))) past word (four node) (ap (λ w. Booted word (w +ℤ pos (tick_at (node_line header node).rate at))) (sym (set.wall_is node))))
+      (boot_ok setting step x (run_by clocks header before) (did_in step x Begins ∷ dids (of node (run_by clocks header before))) past word (four node)
+      (ap (λ w. Booted word (w +ℤ pos (clocks.tick node at))) (sym (set.wall_is node (lives (dids (of node (run_by clocks header before))) + 1)))))
   event_ran before (Turn at node) r range can few =
       let step : Step = record { at = at; node = node; cause = Turned } in
-      by_answers before step NodeTurn r few can.time (up_seen header before node can.up) tt tt (turn_ok setting step (step_tick header step) (run header before) (in_node_step step (step_tick header step) (past_of header step (run header before))) (four node))
-  event_ran before (Take at k) r range can few = taken_step before at k (slice_get (posts (run header before)) k) r can refl few
+      by_answers before step NodeTurn r few can.time tt tt
+      (turn_ok setting step (tick_by clocks step) (run_by clocks header before)
+      (did_in step (tick_by clocks step) Begins ∷ dids (of node (run_by clocks header before)))
+      (in_node_step step (tick_by clocks step) (past_of header step (run_by clocks header before))) (four node) (up_seen clocks header before node can.up))
+  event_ran before (Take at k) r range can few = taken_step before at k (slice_get (posts (run_by clocks header before)) k) r can refl few
   event_ran before (Bytes at node port from octets) r range can few =
       let step : Step = record { at = at; node = node; cause = Handed } in
       let has = can.node.1 in
-      by_answers before step (GotOn port from (taken_of octets)) r few can.time (up_seen header before node can.up) has (octets_sound octets range)
-      (got_ok setting step (step_tick header step) (run header before) (in_node_step step (step_tick header step) (past_of header step (run header before))) port from (taken_of octets) (four node) has tt)
+      by_answers before step (GotOn port from (taken_of octets)) r few can.time has (octets_sound octets range)
+      (got_ok setting step (tick_by clocks step) (run_by clocks header before)
+      (did_in step (tick_by clocks step) Begins ∷ dids (of node (run_by clocks header before)))
+      (in_node_step step (tick_by clocks step) (past_of header step (run_by clocks header before))) port from (taken_of octets) (four node) has
+      (up_seen clocks header before node can.up) tt)
 
-  pub ran : (events : List Event) → Possible header events → Ran header setting (last_at events) (run header events)
+  pub ran : (events : List Event) → PossibleBy clocks header events → Ran header setting (last_at events) (run_by clocks header events)
   ran [] p = record {
     fits = tt;
     placed = tt;
@@ -228,18 +270,27 @@ module _ {header : HeaderValue} {setting : Setting} (is : IsHeader header) (set 
   }
   ran (e ∷ before) p =
       let few = p.few in
-      let same = length-posts (run header (e ∷ before)) in
-      event_ran before e (ran before (possible_before header e before p)) (All-head IsInRange e before p.ranges) (can_happen (scene header before) e p.happens.0) (omega (arith, few, same))
+      let same = length-posts (run_by clocks header (e ∷ before)) in
+      event_ran before e (ran before (possible_before clocks header e before p)) (All-head IsInRange e before p.ranges)
+      (can_happen (scene_by clocks header before) e p.happens.0) (omega (arith, few, same))
 
--- the history of every possible schedule fits, and ends where a step ends
-pub possible-runs-fit : PossibleRunsFit
-possible-runs-fit header setting events set p =
+-- the history of possible events fits, by any clocks that keep the drift, and ends where a step ends
+pub clocked_runs_fit : ClockedRunsFit
+clocked_runs_fit clocks header setting events set p =
     let r = ran p.header_is set events p in (
       r.fits,
-      λ n q. all_end (setup_of setting n q) (length (ports_on n (networks header))) q (of n (run header events)) (of_placed (networks header) n (run header events) r.placed)
-          (λ has. subst (λ k. StepEnds k (view q (of n (run header events)))) (setup_is header setting (rests n) (run header events) q set has) (ends_of (r.nodes n q has))),
+      λ n q. all_end (setup_of setting n q) (length (ports_on n (networks header))) q (of n (run_by clocks header events))
+          (of_placed (networks header) n (run_by clocks header events) r.placed)
+          (λ has. subst (λ k. StepEnds k (view q (of n (run_by clocks header events))))
+          (setup_is clocks header setting (rests n) (run_by clocks header events) q set has) (ends_of (r.nodes n q has))),
     )
 
--- so does that of every accepted one
+-- so does that of every possible schedule
+pub possible-runs-fit : PossibleRunsFit
+possible-runs-fit header setting events set p =
+    subst (λ h. Fits setting h × Finished setting h) (runs_by_own_clocks header events)
+    (clocked_runs_fit (clocks_of header) header setting events (set_own header setting set) (possible_own header events p))
+
+-- and that of every accepted one
 pub runs-fit : RunsFit
 runs-fit header setting events set a = possible-runs-fit header setting events set (accepted-possible header events a)

@@ -1,20 +1,21 @@
--- The premises of the promises hold of a possible schedule's run if they hold of its text.
+-- The premises of the promises hold of a run if their counterparts hold of its events.
 use Rattle.std.proofs.Common.{ap, sym, subst, inl, inr, true≢false, ◌∙◌, ◌≡◌, ◌≢◌, ℕ, ℤ, Bool, true, false, List, [], ◌∷◌, Some, refl, eqb-true, ◌<◌, ◌==◌, if◌then◌else◌, length, None, slice_get, ◌++◌, Option}
 use Rattle.tsp_run.specs.Premised.{PossibleRunsKeepPremises, RunsKeepPremises, AllBootOtherwise, Apart, BootsOtherwise, IsApart, NamesDiffer, IsSealed, Sealed}
-use Rattle.tsp_run.specs.Run.{run, Happening, boot_step, joins, step_tick, goes_to, happening}
-use Rattle.tsp_run.specs.{Possible.Possible, Networks.networks, Refusals.down, Refusals.impossible, Refusals.node_in, Refusals.scene}
-use Rattle.tsp_run.{specs.Setting.SetBy, proofs.CalmPorts.AreCalm}
-use Rattle.tsp_run.proofs.{SettingLemmas.each-is-set, RunFits.possible-runs-fit, PromptRun.prompt-life, SealedRun.sealed-honest}
+use Rattle.tsp_run.specs.Clocked.{ClockedRunsKeepPremises, Clocks, IsSetUp, PossibleBy, SetByClocks, boot_by, clocks_of, happening_by, run_by, scene_by, tick_by}
+use Rattle.tsp_run.{specs.Run.Happening, specs.Run.goes_to, specs.Run.joins, proofs.CalmPorts.AreCalm}
+use Rattle.tsp_run.specs.{Networks.networks, Refusals.down, Refusals.impossible, Refusals.node_in}
+use Rattle.tsp_run.proofs.{SettingLemmas.clocks_are_set, OwnClocks.kept_own, OwnClocks.possible_own}
+use Rattle.tsp_run.proofs.{RunFits.clocked_runs_fit, PromptRun.prompt-life, SealedRun.sealed-honest}
 use Rattle.tsp_run.proofs.{ShortRun.own-few, ShortRun.short-few, EachLine.IsCause, EachLine.each_event, EachLine.each-stepped}
 use Rattle.tsp_run.proofs.{PossibleRun.accepted-possible, PossibleRun.possible_before, RefusalLemmas.can_happen, RefusalLemmas.up-down}
-use Rattle.tsp_run.proofs.Happens.{boot_acts, steps-are, acts_by, takes-or, taking, taking_row, taking_step, got_acts}
+use Rattle.tsp_run.proofs.HappensBy.{boot_acts, steps-are, acts_by, takes-or, taking, taking_row, taking_step, got_acts}
 use Rattle.tsp_promises.{proofs.WordsProof.own_words, specs.Everywhere.Everywhere, proofs.EverywhereLemmas.Everywhere-at}
 use Rattle.tsp_promises.specs.{Fits.node_of, Setting.Setting}
 use Rattle.tsp_promises.specs.Premises.{Words, WordsAt, NamesApart, Honest, HonestAt}
 use Rattle.tsp_rules.specs.Values.{Act, Boot, Placed, Event, BootAt, Turn, Take, Bytes, Took, Peer}
 use Rattle.tsp_rules.proofs.FewActs.{is_calm_act}
 use Rattle.tsp_rules.specs.{GateRows.boots_all, GateRows.GotOn, GateRows.NodeTurn, GateRows.answers_all, NodeRows.NodeRow}
-use Rattle.tsp_base.specs.Words.{HeaderValue, IsHeader, Acts, Begins, Booted, Cause, Line, Step, first_port, joined, line_of, stepped, Handed, Turned, dids, of, up, Within}
+use Rattle.tsp_base.specs.Words.{HeaderValue, Acts, Begins, Booted, Cause, Line, Step, first_port, joined, line_of, stepped, Handed, Turned, dids, of, up, Within}
 use Rattle.tsp_codec.specs.Taken.{taken_of}
 
 -- where a run is honest, or its words differ, its text is so
@@ -45,23 +46,30 @@ in-joins s (Some k) h w = in-joined s k.step k.tick k.acts (line_of k.step k.tic
 through-joins : (o : Option Happening) (h whole : List Line) → ((s : List Line) → Within s (joins o h) → Within s whole) → (s : List Line) → Within s h → Within s whole
 through-joins o h whole k s w = k s (in-joins s o h w)
 
-module _ {header : HeaderValue} (is : IsHeader header) (before : List Event) where
-  sealed-event : (e : Event) → impossible (scene header before) e ≡ None → Honest (run header (e ∷ before)) → IsSealed e
+module _ (clocks : Clocks) {header : HeaderValue} (is : IsSetUp header) (before : List Event) where
+  sealed-event : (e : Event) → impossible (scene_by clocks header before) e ≡ None → Honest (run_by clocks header (e ∷ before)) → IsSealed e
   sealed-event (Bytes at node port (Peer p) octets) none honest =
       let step : Step = record { at = at; node = node; cause = Handed } in
-      let h = run header before in
-      let has = (can_happen (scene header before) (Bytes at node port (Peer p) octets) none).node.1 in
-      let once = got_acts is h step port (Peer p) (taken_of octets) has in
+      let h = run_by clocks header before in
+      let has = (can_happen (scene_by clocks header before) (Bytes at node port (Peer p) octets) none).node.1 in
+      let once = got_acts clocks is h step port (Peer p) (taken_of octets) has in
       let row = answers_all (GotOn port (Peer p) (taken_of octets)) in
-      let all : Honest (stepped step (step_tick header step) (acts_by header h row step) h) = subst (λ (k : Happening). Honest (joins (Some k) h)) (steps-are header h row step) honest in
-      let took = of-act HonestAt step (step_tick header step) once.before (record { port = port; act = Took (Peer p) (taken_of octets) }) once.after (line_of step (step_tick header step) first_port Begins ∷ h)
-      (subst (λ acts. Honest (joined step (step_tick header step) acts (line_of step (step_tick header step) first_port Begins ∷ h))) once.is all) in
+      let all : Honest (stepped step (tick_by clocks step) (acts_by clocks header h row step) h) =
+      subst (λ (k : Happening). Honest (joins (Some k) h)) (steps-are clocks header h row step) honest in
+      let took = of-act HonestAt step (tick_by clocks step) once.before (record { port = port; act = Took (Peer p) (taken_of octets) }) once.after
+      (line_of step (tick_by clocks step) first_port Begins ∷ h)
+      (subst (λ acts. Honest (joined step (tick_by clocks step) acts (line_of step (tick_by clocks step) first_port Begins ∷ h))) once.is all) in
       took.1 refl p (taken_of octets) refl
   sealed-event _ none honest = tt
 
-pub honest-sealed : (header : HeaderValue) (events : List Event) → Possible header events → Honest (run header events) → Sealed events
-honest-sealed header [] p h = tt
-honest-sealed header (e ∷ before) p h = (sealed-event p.header_is before e p.happens.0 h, honest-sealed header before (possible_before header e before p) (before-joins HonestAt (happening header (run header before) e) (run header before) h))
+pub honest-sealed : (clocks : Clocks) (header : HeaderValue) (events : List Event) → PossibleBy clocks header events →
+    Honest (run_by clocks header events) → Sealed events
+honest-sealed clocks header [] p h = tt
+honest-sealed clocks header (e ∷ before) p h = (
+  sealed-event clocks p.header_is before e p.happens.0 h,
+  honest-sealed clocks header before (possible_before clocks header e before p)
+      (before-joins HonestAt (happening_by clocks header (run_by clocks header before) e) (run_by clocks header before) h),
+)
 
 -- a boot of a history, with this word
 record BootIn (word : ℕ) (h : List Line) : Type 0 where
@@ -73,45 +81,57 @@ record BootIn (word : ℕ) (h : List Line) : Type 0 where
   pub cause : line.did.step.cause ≡ Booted word wall
 
 -- what an event that boots a node leaves
-booted-by : (header : HeaderValue) → IsHeader header → (at node word : ℕ) (h : List Line) → BootIn word (joins (happening header h (BootAt at node word)) h)
-booted-by header is at node word h =
-    let step = boot_step header at node word in
-    let x = step_tick header step in
-    let b = boot_acts is h step in
+booted-by : (clocks : Clocks) (header : HeaderValue) → IsSetUp header → (at node word : ℕ) (h : List Line) →
+    BootIn word (joins (happening_by clocks header h (BootAt at node word)) h)
+booted-by clocks header is at node word h =
+    let step = boot_by clocks h at node word in
+    let x = tick_by clocks step in
+    let b = boot_acts clocks is h step in
     let mark = line_of step x first_port Begins in
     let boot = line_of step x first_port (Acts Boot) in
-    subst (λ (k : Happening). BootIn word (joins (Some k) h)) (sym (steps-are header h boots_all step))
+    subst (λ (k : Happening). BootIn word (joins (Some k) h)) (sym (steps-are clocks header h boots_all step))
     (subst (λ acts. BootIn word (stepped step x acts h)) (sym b.is)
     (record { line = boot; older = mark ∷ h; place = in-joined (boot ∷ (mark ∷ h)) step x b.rest (boot ∷ (mark ∷ h)) (inl refl); boots = refl; wall = _; cause = refl }))
 
 -- no boot of these events has the word of a boot before which their run stands
-all-otherwise : (header : HeaderValue) → IsHeader header → (events : List Event) (word : ℕ) (whole : List Line) → ((s : List Line) → Within s (run header events) → Within s whole) → ((v : ℕ) → BootIn v whole → v ≢ word) → AllBootOtherwise word events
-all-otherwise header is [] word whole k other = tt
-all-otherwise header is (e ∷ before) word whole k other = (of-event e k, all-otherwise header is before word whole (through-joins (happening header (run header before) e) (run header before) whole k) other) where
-  of-event : (e : Event) → ((s : List Line) → Within s (run header (e ∷ before)) → Within s whole) → BootsOtherwise word e
+all-otherwise : (clocks : Clocks) (header : HeaderValue) → IsSetUp header → (events : List Event) (word : ℕ) (whole : List Line) →
+    ((s : List Line) → Within s (run_by clocks header events) → Within s whole) → ((v : ℕ) → BootIn v whole → v ≢ word) → AllBootOtherwise word events
+all-otherwise clocks header is [] word whole k other = tt
+all-otherwise clocks header is (e ∷ before) word whole k other = (
+  of-event e k,
+  all-otherwise clocks header is before word whole
+      (through-joins (happening_by clocks header (run_by clocks header before) e) (run_by clocks header before) whole k) other,
+) where
+  of-event : (e : Event) → ((s : List Line) → Within s (run_by clocks header (e ∷ before)) → Within s whole) → BootsOtherwise word e
   of-event (BootAt at node w) k =
-      let b = booted-by header is at node w (run header before) in
+      let b = booted-by clocks header is at node w (run_by clocks header before) in
       other w (record { line = b.line; older = b.older; place = k (b.line ∷ b.older) b.place; boots = b.boots; wall = b.wall; cause = b.cause })
   of-event _ k = tt
 
-module _ {header : HeaderValue} (is : IsHeader header) (before : List Event) where
-  apart-event : (e : Event) → Words (run header (e ∷ before)) → IsApart e before
+module _ (clocks : Clocks) {header : HeaderValue} (is : IsSetUp header) (before : List Event) where
+  apart-event : (e : Event) → Words (run_by clocks header (e ∷ before)) → IsApart e before
   apart-event (BootAt at node word) words =
-      let step = boot_step header at node word in
-      let x = step_tick header step in
-      let h = run header before in
-      let b = boot_acts is h step in
+      let step = boot_by clocks (run_by clocks header before) at node word in
+      let x = tick_by clocks step in
+      let h = run_by clocks header before in
+      let b = boot_acts clocks is h step in
       let mark = line_of step x first_port Begins in
       let boot = line_of step x first_port (Acts Boot) in
       let all : Words (joined step x b.rest (boot ∷ (mark ∷ h))) =
-      subst (λ acts. Words (stepped step x acts h)) b.is (subst (λ (k : Happening). Words (joins (Some k) h)) (steps-are header h boots_all step) words) in
+      subst (λ acts. Words (stepped step x acts h)) b.is
+      (subst (λ (k : Happening). Words (joins (Some k) h)) (steps-are clocks header h boots_all step) words) in
       let here : WordsAt boot (mark ∷ h) = (before-joined WordsAt step x b.rest (boot ∷ (mark ∷ h)) all).0 in
-      all-otherwise header is before word h (λ s w. w) (λ v o. here o.line o.older v word _ o.wall (inr o.place) refl o.boots refl o.cause)
+      all-otherwise clocks header is before word h (λ s w. w) (λ v o. here o.line o.older v word _ o.wall (inr o.place) refl o.boots refl o.cause)
   apart-event _ words = tt
 
-pub words-apart : (header : HeaderValue) (events : List Event) → Possible header events → Words (run header events) → Apart events
-words-apart header [] p w = tt
-words-apart header (e ∷ before) p w = (apart-event p.header_is before e w, words-apart header before (possible_before header e before p) (before-joins WordsAt (happening header (run header before) e) (run header before) w))
+pub words-apart : (clocks : Clocks) (header : HeaderValue) (events : List Event) → PossibleBy clocks header events →
+    Words (run_by clocks header events) → Apart events
+words-apart clocks header [] p w = tt
+words-apart clocks header (e ∷ before) p w = (
+  apart-event clocks p.header_is before e w,
+  words-apart clocks header before (possible_before clocks header e before p)
+      (before-joins WordsAt (happening_by clocks header (run_by clocks header before) e) (run_by clocks header before) w),
+)
 
 -- where the names of a header's nodes differ, so do those of the nodes of its runs
 
@@ -127,48 +147,64 @@ is-known count n (l ∷ before) all u = by_node (l.did.step.node == n) refl u (�
   by_node true same v older = subst (λ m. m < count) (eqb-true l.did.step.node n same) all.0
   by_node false other v older = older v
 
-module _ (header : HeaderValue) (before : List Event) (below : Everywhere (IsBelow (length header.nodes)) (run header before)) where
-  by-row : (row : NodeRow) (step : Step) → step.node < length header.nodes → Everywhere (IsBelow (length header.nodes)) (stepped step (step_tick header step) (acts_by header (run header before) row step) (run header before))
-  by-row row step known = each-stepped (IsBelow (length header.nodes)) step (step_tick header step) (acts_by header (run header before) row step) (run header before) (λ port deed h. known) below
+module _ (clocks : Clocks) (header : HeaderValue) (before : List Event) (below : Everywhere (IsBelow (length header.nodes)) (run_by clocks header before)) where
+  by-row : (row : NodeRow) (step : Step) → step.node < length header.nodes →
+      Everywhere (IsBelow (length header.nodes))
+      (stepped step (tick_by clocks step) (acts_by clocks header (run_by clocks header before) row step) (run_by clocks header before))
+  by-row row step known = each-stepped (IsBelow (length header.nodes)) step (tick_by clocks step)
+      (acts_by clocks header (run_by clocks header before) row step) (run_by clocks header before) (λ port deed h. known) below
 
-  below-event : (e : Event) → impossible (scene header before) e ≡ None → Everywhere (IsBelow (length header.nodes)) (run header (e ∷ before))
+  below-event : (e : Event) → impossible (scene_by clocks header before) e ≡ None →
+      Everywhere (IsBelow (length header.nodes)) (run_by clocks header (e ∷ before))
   below-event (BootAt at node word) none =
-      let step = boot_step header at node word in
-      subst (λ h. Everywhere (IsBelow (length header.nodes)) (stepped h.step h.tick h.acts (run header before))) (sym (steps-are header (run header before) boots_all step))
-      (by-row boots_all step (can_happen (scene header before) (BootAt at node word) none).node)
+      let step = boot_by clocks (run_by clocks header before) at node word in
+      subst (λ h. Everywhere (IsBelow (length header.nodes)) (stepped h.step h.tick h.acts (run_by clocks header before)))
+      (sym (steps-are clocks header (run_by clocks header before) boots_all step))
+      (by-row boots_all step (can_happen (scene_by clocks header before) (BootAt at node word) none).node)
   below-event (Turn at node) none =
       let step : Step = record { at = at; node = node; cause = Turned } in
       let row = answers_all NodeTurn in
-      subst (λ h. Everywhere (IsBelow (length header.nodes)) (stepped h.step h.tick h.acts (run header before))) (sym (steps-are header (run header before) row step))
-      (by-row row step (can_happen (scene header before) (Turn at node) none).node)
+      subst (λ h. Everywhere (IsBelow (length header.nodes)) (stepped h.step h.tick h.acts (run_by clocks header before)))
+      (sym (steps-are clocks header (run_by clocks header before) row step))
+      (by-row row step (can_happen (scene_by clocks header before) (Turn at node) none).node)
   below-event (Bytes at node port from octets) none =
       let step : Step = record { at = at; node = node; cause = Handed } in
       let row = answers_all (GotOn port from (taken_of octets)) in
-      subst (λ h. Everywhere (IsBelow (length header.nodes)) (stepped h.step h.tick h.acts (run header before))) (sym (steps-are header (run header before) row step))
-      (by-row row step (can_happen (scene header before) (Bytes at node port from octets) none).node.0)
-  below-event (Take at k) none = elim (takes-or header (run header before) at k) [
+      subst (λ h. Everywhere (IsBelow (length header.nodes)) (stepped h.step h.tick h.acts (run_by clocks header before)))
+      (sym (steps-are clocks header (run_by clocks header before) row step))
+      (by-row row step (can_happen (scene_by clocks header before) (Bytes at node port from octets) none).node.0)
+  below-event (Take at k) none = elim (takes-or clocks header (run_by clocks header before) at k) [
     | inl a ↦
-        let s = scene header before in
+        let s = scene_by clocks header before in
         let goes : goes_to s.networks (slice_get s.posts k) ≡ Some a.to = ap (λ o. goes_to (networks header) o) a.there ∙ a.goes in
         let wakes : s.up a.to.node ≡ true = up-down s a.to.node (subst (λ o. down s.up (node_in o) ≡ None) goes (can_happen s (Take at k) none).up) in
-        subst (λ o. Everywhere (IsBelow (length header.nodes)) (joins o (run header before))) (sym (taking header (run header before) at k a))
-        (by-row (taking_row a.post a.to) (taking_step at k a.to) (is-known (length header.nodes) a.to.node (run header before) below wakes))
-    | inr nothing ↦ subst (λ o. Everywhere (IsBelow (length header.nodes)) (joins o (run header before))) (sym nothing.1) below
+        subst (λ o. Everywhere (IsBelow (length header.nodes)) (joins o (run_by clocks header before)))
+        (sym (taking clocks header (run_by clocks header before) at k a))
+        (by-row (taking_row a.post a.to) (taking_step at k a.to) (is-known (length header.nodes) a.to.node (run_by clocks header before) below wakes))
+    | inr nothing ↦ subst (λ o. Everywhere (IsBelow (length header.nodes)) (joins o (run_by clocks header before))) (sym nothing.1) below
   ]
 
 -- every line of a run is of a node of its header
-all-below : (header : HeaderValue) (events : List Event) → Possible header events → Everywhere (IsBelow (length header.nodes)) (run header events)
-all-below header [] p = tt
-all-below header (e ∷ before) p = below-event header before (all-below header before (possible_before header e before p)) e p.happens.0
+all-below : (clocks : Clocks) (header : HeaderValue) (events : List Event) → PossibleBy clocks header events →
+    Everywhere (IsBelow (length header.nodes)) (run_by clocks header events)
+all-below clocks header [] p = tt
+all-below clocks header (e ∷ before) p =
+    below-event clocks header before (all-below clocks header before (possible_before clocks header e before p)) e p.happens.0
 
 -- names that differ among the header's nodes do among a history's
-apart-in : (header : HeaderValue) (setting : Setting) → SetBy header setting → NamesDiffer header → (h : List Line) → Everywhere (IsBelow (length header.nodes)) h → NamesApart setting h
-apart-in header setting set differ [] all = tt
-apart-in header setting set differ (l ∷ before) all =
-    ((λ other older within same. differ (node_of other) (node_of l) (Everywhere-at (IsBelow (length header.nodes)) other older before all.1 within) all.0 (sym (set.name_is (node_of other)) ∙ same ∙ set.name_is (node_of l))), apart-in header setting set differ before all.1)
+apart-in : (clocks : Clocks) (header : HeaderValue) (setting : Setting) → SetByClocks clocks header setting → NamesDiffer header → (h : List Line) →
+    Everywhere (IsBelow (length header.nodes)) h → NamesApart setting h
+apart-in clocks header setting set differ [] all = tt
+apart-in clocks header setting set differ (l ∷ before) all = (
+  (λ other older within same. differ (node_of other) (node_of l) (Everywhere-at (IsBelow (length header.nodes)) other older before all.1 within) all.0
+      (sym (set.name_is (node_of other)) ∙ same ∙ set.name_is (node_of l))),
+  apart-in clocks header setting set differ before all.1,
+)
 
-pub names-apart : (header : HeaderValue) (setting : Setting) (events : List Event) → SetBy header setting → Possible header events → NamesDiffer header → NamesApart setting (run header events)
-names-apart header setting events set p differ = apart-in header setting set differ (run header events) (all-below header events p)
+pub names-apart : (clocks : Clocks) (header : HeaderValue) (setting : Setting) (events : List Event) → SetByClocks clocks header setting →
+    PossibleBy clocks header events → NamesDiffer header → NamesApart setting (run_by clocks header events)
+names-apart clocks header setting events set p differ =
+    apart-in clocks header setting set differ (run_by clocks header events) (all-below clocks header events p)
 
 -- where the words of any two boots of a schedule differ, so do those of its run
 
@@ -185,10 +221,12 @@ other-cause word (BootAt at node w) cause v y f c is same =
 other-cause word _ cause v y f c is same = let no : ⊥ = cc in no
 
 -- where no event boots with this word, no line of the run does
-other-words : (header : HeaderValue) (events : List Event) (word : ℕ) → AllBootOtherwise word events → Everywhere (OtherWord word) (run header events)
-other-words header [] word e = tt
-other-words header (b ∷ before) word e =
-    each_event (OtherWord word) header before (other-words header before word e.1) b (λ step x c port deed h v y is. other-cause word b step.cause v y e.0 c is)
+other-words : (clocks : Clocks) (header : HeaderValue) (events : List Event) (word : ℕ) → AllBootOtherwise word events →
+    Everywhere (OtherWord word) (run_by clocks header events)
+other-words clocks header [] word e = tt
+other-words clocks header (b ∷ before) word e =
+    each_event (OtherWord word) clocks header before (other-words clocks header before word e.1) b
+    (λ step x c port deed h v y is. other-cause word b step.cause v y e.0 c is)
 
 calm-boots : (strange : Bool) (a : Act) → is_calm_act strange true a ≡ true → Acts a ≢ Acts Boot
 calm-boots strange a calm e =
@@ -214,40 +252,53 @@ boot-words step x word wall h cause others other older v w y z within own boot f
       λ (is : v ≡ w). Everywhere-at (OtherWord word) other older h others before v z second (is ∙ sym same)
 ]
 
-module _ {header : HeaderValue} (is : IsHeader header) (before : List Event) (words : Words (run header before)) where
-  words-event : (e : Event) → IsApart e before → Words (run header (e ∷ before))
+module _ (clocks : Clocks) {header : HeaderValue} (is : IsSetUp header) (before : List Event) (words : Words (run_by clocks header before)) where
+  words-event : (e : Event) → IsApart e before → Words (run_by clocks header (e ∷ before))
   words-event (BootAt at node word) f =
-      let step = boot_step header at node word in
-      let x = step_tick header step in
-      let h = run header before in
-      let b = boot_acts is h step in
+      let step = boot_by clocks (run_by clocks header before) at node word in
+      let x = tick_by clocks step in
+      let h = run_by clocks header before in
+      let b = boot_acts clocks is h step in
       let mark : Words (line_of step x first_port Begins ∷ h) = ((λ other older v w y z within own boot first second. let no : ⊥ = cc in absurd no), words) in
-      subst (λ (h : Happening). Words (joins (Some h) (run header before))) (sym (steps-are header h boots_all step))
+      subst (λ (h : Happening). Words (joins (Some h) (run_by clocks header before))) (sym (steps-are clocks header h boots_all step))
       (subst (λ acts. Words (stepped step x acts h)) (sym b.is)
       (words-calm false _ step x b.rest (line_of step x first_port (Acts Boot) ∷ line_of step x first_port Begins ∷ h) b.calm
-      (boot-words step x word _ h refl (other-words header before word f), mark)))
-  words-event (Turn at node) f = each_event WordsAt header before words (Turn at node) (λ step x c port deed h other older v w y z within own boot is that. let no : ⊥ = cc in absurd no)
-  words-event (Take at k) f = each_event WordsAt header before words (Take at k) (λ step x c port deed h other older v w y z within own boot is that. let no : ⊥ = cc in absurd no)
-  words-event (Bytes at node port from octets) f = each_event WordsAt header before words (Bytes at node port from octets) (λ step x c port deed h other older v w y z within own boot is that. let no : ⊥ = cc in absurd no)
+      (boot-words step x word _ h refl (other-words clocks header before word f), mark)))
+  words-event (Turn at node) f =
+      each_event WordsAt clocks header before words (Turn at node)
+      (λ step x c port deed h other older v w y z within own boot is that. let no : ⊥ = cc in absurd no)
+  words-event (Take at k) f = each_event WordsAt clocks header before words (Take at k)
+      (λ step x c port deed h other older v w y z within own boot is that. let no : ⊥ = cc in absurd no)
+  words-event (Bytes at node port from octets) f =
+      each_event WordsAt clocks header before words (Bytes at node port from octets)
+      (λ step x c port deed h other older v w y z within own boot is that. let no : ⊥ = cc in absurd no)
 
 -- so it is with each run
-pub apart-words : (header : HeaderValue) (events : List Event) → Possible header events → Apart events → Words (run header events)
-apart-words header [] p d = tt
-apart-words header (e ∷ before) p d = words-event p.header_is before (apart-words header before (possible_before header e before p) d.1) e d.0
+pub apart-words : (clocks : Clocks) (header : HeaderValue) (events : List Event) → PossibleBy clocks header events → Apart events →
+    Words (run_by clocks header events)
+apart-words clocks header [] p d = tt
+apart-words clocks header (e ∷ before) p d =
+    words-event clocks p.header_is before (apart-words clocks header before (possible_before clocks header e before p) d.1) e d.0
 
-pub possible_runs_keep_premises : PossibleRunsKeepPremises
-possible_runs_keep_premises header events p = record {
-  honest = λ s. sealed-honest header events p s;
-  only_honest = λ h. honest-sealed header events p h;
-  life = λ early. prompt-life header events early;
-  words = λ w. apart-words header events p w;
-  only_words = λ w. words-apart header events p w;
-  own_words = λ w. own_words (run header events) (apart-words header events p w);
-  few = λ s. short-few (run header events) s;
-  few_own = λ s. let set = each-is-set header p.header_is in own-few set.0 (run header events) (possible-runs-fit header set.0 events set.1 p).0 s;
-  names = λ setting set differ. names-apart header setting events set p differ;
+pub clocked_runs_keep_premises : ClockedRunsKeepPremises
+clocked_runs_keep_premises clocks header events p = record {
+  honest = λ s. sealed-honest clocks header events p s;
+  only_honest = λ h. honest-sealed clocks header events p h;
+  life = λ early. prompt-life clocks header events early;
+  words = λ w. apart-words clocks header events p w;
+  only_words = λ w. words-apart clocks header events p w;
+  own_words = λ w. own_words (run_by clocks header events) (apart-words clocks header events p w);
+  few = λ s. short-few (run_by clocks header events) s;
+  few_own = λ s. let set = clocks_are_set clocks header p.header_is p.keeps in
+      own-few set.0 (run_by clocks header events) (clocked_runs_fit clocks header set.0 events set.1 p).0 s;
+  names = λ setting set differ. names-apart clocks header setting events set p differ;
 }
 
--- so do they of an accepted one's
+-- so they do of a possible schedule's run
+pub possible_runs_keep_premises : PossibleRunsKeepPremises
+possible_runs_keep_premises header events p =
+    kept_own header events (clocked_runs_keep_premises (clocks_of header) header events (possible_own header events p))
+
+-- and of an accepted one's
 pub runs_keep_premises : RunsKeepPremises
 runs_keep_premises header events a = possible_runs_keep_premises header events (accepted-possible header events a)

@@ -1,5 +1,6 @@
--- The history of every possible schedule keeps the promises, and so does that of every accepted one.
-use Rattle.std.proofs.Common.{◌≡◌, ℕ, List, ◌∷◌, Some, slice_get, ap, ◌∙◌, ◌≤◌, ◌<◌, ◌+◌, nat_le, if◌then◌else◌, length, refl}
+-- The history of possible events keeps the promises, by any clocks that keep the drift; so do those of every possible schedule and every
+-- accepted one.
+use Rattle.std.proofs.Common.{subst, sym, ◌≡◌, ℕ, List, ◌∷◌, Some, slice_get, ap, ◌∙◌, ◌≤◌, ◌<◌, ◌+◌, nat_le, if◌then◌else◌, length, refl}
 use Rattle.std.proofs.lemmas.Bool.{le-leb, lt-leb}
 use Rattle.tsp_rules.specs.Values.{Good, Event, LIFE, Datagram, Message, Stamp, Request, Reply}
 use Rattle.tsp_base.specs.Words.{HeaderValue, Line, Seen, of, view, MessageValue, Setup}
@@ -8,12 +9,14 @@ use Rattle.tsp_promises.specs.{Premises.FewAt, Premises.HonestAt, Premises.Taken
 use Rattle.tsp_promises.{specs.Answered.AnswersWith, specs.Answered.StrangersAt, proofs.ConfirmedDate.date_confirmed, proofs.SafeProof.safe}
 use Rattle.tsp_promises.{proofs.OneWinnerProof.one_winner, specs.Setting.Setting, specs.Setting.setup_of, proofs.OnceObeyedProof.sets_at}
 use Rattle.tsp_promises.{specs.Everywhere.Everywhere, proofs.ChainProof.looped_in, proofs.OwnFitsProof.fits_at, specs.DeedFits.answer_name}
-use Rattle.tsp_promises.specs.Fits.{Fits, node_of}
+use Rattle.tsp_promises.{proofs.LookedProof.looked, specs.Fits.Fits, specs.Fits.node_of}
 use Rattle.tsp_codec.specs.{Canon.canon, Canon.written_size, Taken.taken_of}
 use Rattle.tsp_run.specs.{declared.posted.Posted.Posted, AnswerOctets.AnswerOctets, AnswerOctets.AnswerOctetsAt, AnswerOctets.SizeFits}
 use Rattle.tsp_run.specs.{Ranges.Accepted, Run.last_at, Run.posts, Run.run}
-use Rattle.tsp_run.{specs.Setting.PossibleRunsKeepPromises, specs.Setting.RunsKeepPromises, proofs.PossibleRun.accepted-possible}
-use Rattle.tsp_run.proofs.{SettingLemmas.each-is-set, RunFits.possible-runs-fit, RunFits.post_sound, RunFits.ran, SoundLemmas.sound_read}
+use Rattle.tsp_run.specs.Clocked.{ClockedRunsKeepPromises, clocks_of, run_by}
+use Rattle.tsp_run.specs.{Promises.Promises, Setting.PossibleRunsKeepPromises, Setting.RunsKeepPromises}
+use Rattle.tsp_run.proofs.{SettingLemmas.clocks_are_set, OwnClocks.possible_own, OwnClocks.runs_by_own_clocks, OwnClocks.set_own}
+use Rattle.tsp_run.proofs.{PossibleRun.accepted-possible, RunFits.clocked_runs_fit, RunFits.post_sound, RunFits.ran, SoundLemmas.sound_read}
 
 -- the octets that strangers are sent
 short-size : (m : MessageValue) (name : List ℕ) → m.name ≡ name → length name ≤ 63 → written_size (Message m) ≡ 76
@@ -44,23 +47,35 @@ dated setting world f = record {
       date_confirmed setting l s (fits_at setting (l ∷ s) world f w) (Everywhere-within HonestAt (l ∷ s) world honest w) (Everywhere-within (TakenWithinAt LIFE) (l ∷ s) world life w) (Everywhere-within FewAt (l ∷ s) world few w));
 }
 
-pub possible-runs-keep-promises : PossibleRunsKeepPromises
-possible-runs-keep-promises header setting events set p =
-    let f = possible-runs-fit header setting events set p in
-    let all = safe setting (run header events) f.0 f.1 in
+pub clocked_runs_keep_promises : ClockedRunsKeepPromises
+clocked_runs_keep_promises clocks header setting events set p =
+    let h : List Line = run_by clocks header events in
+    let f = clocked_runs_fit clocks header setting events set p in
+    let all = safe setting h f.0 f.1 in
     record {
       safe = all;
-      one_winner = λ strict h l w. one_winner setting (run header events) strict f.0 h l w;
-      dated = dated setting (run header events) f.0;
-      looped = looped_in setting (run header events) f.0;
-      answer_octets = answer_octets setting (run header events) all.answered.strangers;
+      one_winner = λ strict honest life few. one_winner setting h strict f.0 honest life few;
+      dated = dated setting h f.0;
+      looped = looped_in setting h f.0;
+      looked = looked setting h f.0;
+      answer_octets = answer_octets setting h all.answered.strangers;
     }
 
+-- so does that of every possible schedule
+pub possible-runs-keep-promises : PossibleRunsKeepPromises
+possible-runs-keep-promises header setting events set p =
+    subst (Promises setting) (runs_by_own_clocks header events)
+    (clocked_runs_keep_promises (clocks_of header) header setting events (set_own header setting set) (possible_own header events p))
+
+-- and that of every accepted one
 pub runs-keep-promises : RunsKeepPromises
 runs-keep-promises header setting events set a = possible-runs-keep-promises header setting events set (accepted-possible header events a)
 
 -- what the posts of a schedule's run carry is read as it was posted
 pub posted-read : (header : HeaderValue) (events : List Event) → Accepted header events → (k : ℕ) (p : Posted) → slice_get (posts (run header events)) k ≡ Some p → taken_of (canon p.datagram) ≡ Good p.datagram
 posted-read header events s k p there =
-    let set = each-is-set header s.header_is in
-    sound_read p.datagram (post_sound s.header_is set.1 events (last_at events) k p (ran s.header_is set.1 events (accepted-possible header events s)) there)
+    let possible = possible_own header events (accepted-possible header events s) in
+    let set = clocks_are_set (clocks_of header) header possible.header_is possible.keeps in
+    let r = ran possible.header_is set.1 events possible in
+    sound_read p.datagram (post_sound possible.header_is set.1 events (last_at events) k p r
+    (subst (λ h. slice_get (posts h) k ≡ Some p) (sym (runs_by_own_clocks header events)) there))

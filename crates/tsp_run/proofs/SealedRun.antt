@@ -2,14 +2,15 @@
 use Rattle.std.proofs.Common.{sym, subst, true≢false, ◌≡◌, ◌≢◌, ℕ, Bool, true, List, [], ◌∷◌, ◌++◌, None, Some, refl}
 use Rattle.std.proofs.lemmas.List.Elements.{All-tail}
 use Rattle.tsp_rules.specs.Values.{Act, Took, Placed, Taken, Event, BootAt, Turn, Take, Bytes, PeerId, Place, Peer, Stranger, Port}
-use Rattle.tsp_base.specs.Words.{HeaderValue, IsHeader, Acts, Handed, Line, Step, joined, line_of, stepped}
+use Rattle.tsp_base.specs.Words.{HeaderValue, Acts, Handed, Line, Step, joined, line_of, stepped}
 use Rattle.tsp_promises.specs.Premises.{Honest, HonestAt}
 use Rattle.tsp_codec.specs.Taken.{taken_of}
 use Rattle.tsp_rules.{proofs.FewActs.is_calm_act, specs.GateRows.GotOn, specs.GateRows.answers_all, specs.Strangers.is_stranger}
-use Rattle.tsp_run.specs.{Possible.Possible, Premised.IsSealed, Premised.Sealed, Ranges.Accepted, Ranges.IsInRange}
-use Rattle.tsp_run.specs.Run.{Happening, joins, run, step_tick}
-use Rattle.tsp_run.proofs.{CalmPorts.AreCalm, EachLine.each_event, Happens.acts_by, Happens.got_acts, Happens.steps-are}
-use Rattle.tsp_run.{proofs.PossibleRun.possible_before, proofs.RefusalLemmas.can_happen, specs.Refusals.impossible, specs.Refusals.scene}
+use Rattle.tsp_run.specs.Clocked.{Clocks, IsSetUp, PossibleBy, run_by, scene_by, tick_by}
+use Rattle.tsp_run.specs.{Premised.IsSealed, Premised.Sealed, Ranges.Accepted, Ranges.IsInRange}
+use Rattle.tsp_run.specs.Run.{Happening, joins}
+use Rattle.tsp_run.proofs.{CalmPorts.AreCalm, EachLine.each_event, HappensBy.acts_by, HappensBy.got_acts, HappensBy.steps-are}
+use Rattle.tsp_run.{proofs.PossibleRun.possible_before, proofs.RefusalLemmas.can_happen, specs.Refusals.impossible}
 
 -- what was accepted before the last event
 pub accepted_before : (header : HeaderValue) (e : Event) (before : List Event) → Accepted header (e ∷ before) → Accepted header before
@@ -51,22 +52,28 @@ unforged : (at node : ℕ) (port : Port) (from : Place) (octets : List ℕ) → 
 unforged at node port (Peer p) octets e = absurd e
 unforged at node port Stranger octets e = refl
 
-module _ {header : HeaderValue} (is : IsHeader header) (before : List Event) (honest : Honest (run header before)) where
-  honest-event : (e : Event) → impossible (scene header before) e ≡ None → IsSealed e → Honest (run header (e ∷ before))
-  honest-event (BootAt at node word) none f = each_event HonestAt header before honest (BootAt at node word) (λ step x c port deed h handed. let is = c.1 in let no : ⊥ = cc in absurd no)
-  honest-event (Turn at node) none f = each_event HonestAt header before honest (Turn at node) (λ step x c port deed h handed. let no : ⊥ = cc in absurd no)
-  honest-event (Take at k) none f = each_event HonestAt header before honest (Take at k) (λ step x c port deed h handed. let no : ⊥ = cc in absurd no)
+module _ (clocks : Clocks) {header : HeaderValue} (is : IsSetUp header) (before : List Event) (honest : Honest (run_by clocks header before)) where
+  honest-event : (e : Event) → impossible (scene_by clocks header before) e ≡ None → IsSealed e → Honest (run_by clocks header (e ∷ before))
+  honest-event (BootAt at node word) none f =
+      each_event HonestAt clocks header before honest (BootAt at node word) (λ step x c port deed h handed. let is = c.1 in let no : ⊥ = cc in absurd no)
+  honest-event (Turn at node) none f =
+      each_event HonestAt clocks header before honest (Turn at node) (λ step x c port deed h handed. let no : ⊥ = cc in absurd no)
+  honest-event (Take at k) none f = each_event HonestAt clocks header before honest (Take at k) (λ step x c port deed h handed. let no : ⊥ = cc in absurd no)
   honest-event (Bytes at node port from octets) none f =
       let step : Step = record { at = at; node = node; cause = Handed } in
-      let has = (can_happen (scene header before) (Bytes at node port from octets) none).node.1 in
-      let once = got_acts is (run header before) step port from (taken_of octets) has in
+      let has = (can_happen (scene_by clocks header before) (Bytes at node port from octets) none).node.1 in
+      let once = got_acts clocks is (run_by clocks header before) step port from (taken_of octets) has in
       let strange = unforged at node port from octets f in
       let rest : TakeNone (record { port = port; act = Took from (taken_of octets) } ∷ once.after) = ((λ p t. stranger-takes from (taken_of octets) p t strange), take-none-all _ _ once.after once.calm_after) in
-      subst (λ (h : Happening). Honest (joins (Some h) (run header before))) (sym (steps-are header (run header before) (answers_all (GotOn port from (taken_of octets))) step))
-      (honest-stepped step (step_tick header step) (acts_by header (run header before) (answers_all (GotOn port from (taken_of octets))) step) (run header before)
+      subst (λ (h : Happening). Honest (joins (Some h) (run_by clocks header before)))
+      (sym (steps-are clocks header (run_by clocks header before) (answers_all (GotOn port from (taken_of octets))) step))
+      (honest-stepped step (tick_by clocks step)
+      (acts_by clocks header (run_by clocks header before) (answers_all (GotOn port from (taken_of octets))) step) (run_by clocks header before)
       (subst TakeNone (sym once.is) (take-none _ _ once.before _ once.calm_before rest)) honest)
 
 -- so is each run
-pub sealed-honest : (header : HeaderValue) (events : List Event) → Possible header events → Sealed events → Honest (run header events)
-sealed-honest header [] p h = tt
-sealed-honest header (e ∷ before) p h = honest-event p.header_is before (sealed-honest header before (possible_before header e before p) h.1) e p.happens.0 h.0
+pub sealed-honest : (clocks : Clocks) (header : HeaderValue) (events : List Event) → PossibleBy clocks header events → Sealed events →
+    Honest (run_by clocks header events)
+sealed-honest clocks header [] p h = tt
+sealed-honest clocks header (e ∷ before) p h =
+    honest-event clocks p.header_is before (sealed-honest clocks header before (possible_before clocks header e before p) h.1) e p.happens.0 h.0

@@ -1,24 +1,38 @@
--- Every header has a setting.
+-- Clocks that keep a header's drift have a setting, and so every header has one.
 use Rattle.std.specs.Prelude.{refl}
-use Rattle.tsp_run.specs.{Networks.networks, Setting.EachIsSet, Setting.members_of, Setting.network_of, Setup.node_line}
-use Rattle.tsp_base.specs.Words.{tick_at}
 use Rattle.tsp_promises.proofs.Rates.{keeps_time}
-use Rattle.tsp_run.proofs.{HeaderLines.rate-node_line, NetworkLemmas.own_member, NetworkLemmas.ports_apart}
+use Rattle.tsp_run.specs.{Clocked.ClocksAreSet, Clocked.clocks_of, Networks.networks, Setting.EachIsSet, Setting.members_of, Setting.network_of, Setup.node_line}
+use Rattle.tsp_run.proofs.{HeaderLines.rate-node_line, HeaderLines.set_up_of, NetworkLemmas.own_member, NetworkLemmas.ports_apart, OwnClocks.set_back}
 
-pub each-is-set : EachIsSet
-each-is-set header is = (
+pub clocks_are_set : ClocksAreSet
+clocks_are_set clocks header is keeps = (
   record {
     drift = header.drift;
-    tick = λ n. tick_at (node_line header n).rate;
-    wall = λ n. (node_line header n).wall;
+    tick = clocks.tick;
+    wall = clocks.wall;
     name = λ n. (node_line header n).name;
     strict = header.strict;
     net = network_of (networks header);
     members = members_of (networks header);
     small = is.small;
-    ticks = λ n. keeps_time (node_line header n).rate header.drift (rate-node_line header is n) is.small;
+    ticks = keeps;
     apart = ports_apart (networks header);
     own = own_member (networks header);
   },
-  record { tick_is = λ n t. refl; wall_is = λ n. refl; name_is = λ n. refl; drift_is = refl; strict_is = refl; net_is = λ n q. refl; members_are = λ k. refl },
+  record {
+    tick_is = λ n t. refl;
+    wall_is = λ n life. refl;
+    name_is = λ n. refl;
+    drift_is = refl;
+    strict_is = refl;
+    net_is = λ n q. refl;
+    members_are =
+        λ k. refl;
+  },
 )
+
+pub each-is-set : EachIsSet
+each-is-set header is =
+    let s = clocks_are_set (clocks_of header) header (set_up_of header is)
+    (λ n. keeps_time (node_line header n).rate header.drift (rate-node_line header is n) is.small) in
+    (s.0, set_back header s.0 s.1)

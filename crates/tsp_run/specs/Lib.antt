@@ -1,5 +1,6 @@
 pub mod AnswerOctets
 pub mod AnswerOctetsBroken
+pub mod Clocked
 pub mod GatewayRun
 pub mod Networks
 pub mod Possible

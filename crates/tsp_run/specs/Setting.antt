@@ -20,11 +20,11 @@ abbrev pub members_of : List (List ℕ) → Network → List PeerId
 members_of nets (Named k) = peers_on (slice_index_or nets k [])
 members_of nets (Alone n q) = peer_of n ∷ []
 
--- a setting has the drift, rates, wall clocks, names and networks of the header, and its elections are strict if the
--- header says so
+-- a setting has the drift, rates, wall clocks (for all lives), names and networks of the header, and its elections are strict if the header
+-- says so
 pub record SetBy (header : HeaderValue) (setting : Setting) : Type 0 where
   pub tick_is : (n t : ℕ) → setting.tick n t ≡ tick_at (node_line header n).rate t
-  pub wall_is : (n : ℕ) → setting.wall n ≡ (node_line header n).wall
+  pub wall_is : (n life : ℕ) → setting.wall n life ≡ (node_line header n).wall
   pub name_is : (n : ℕ) → setting.name n ≡ (node_line header n).name
   pub drift_is : setting.drift ≡ header.drift
   pub strict_is : setting.strict ≡ header.strict

@@ -1,5 +1,7 @@
 //! Theorems about every schedule. Nothing here runs.
 ghost use Rattle.tsp_run.specs.AnswerOctetsBroken.{AnswerOctetsBreak};
+ghost use Rattle.tsp_run.specs.Clocked.{ClockedRunsFit, ClockedRunsKeepPremises};
+ghost use Rattle.tsp_run.specs.Clocked.{ClockedRunsKeepPromises, ClocksAreSet, RunsByOwnClocks};
 ghost use Rattle.tsp_run.specs.Possible.{AcceptedIsPossible};
 ghost use Rattle.tsp_run.specs.Premised.{PossibleRunsKeepPremises, RunsKeepPremises};
 ghost use Rattle.tsp_run.specs.Setting.{EachIsSet, PossibleRunsFit, PossibleRunsKeepPromises};
@@ -48,6 +50,37 @@ pub fn possible_runs_keep_promises()
 #[tactic(auto, using(crate::proofs::RunPremises::possible_runs_keep_premises))]
 pub fn possible_runs_keep_premises()
     ensures { PossibleRunsKeepPremises }
+{}
+
+/// A run by the clocks of its header is the run of a schedule.
+#[tactic(auto, using(crate::proofs::OwnClocks::runs_by_own_clocks))]
+pub fn runs_by_own_clocks()
+    ensures { RunsByOwnClocks }
+{}
+
+/// The history of possible events fits, by any clocks: each node's counter is any that stays within
+/// the drift, and its wall clock is any in each of its lives.
+pub fn clocked_runs_fit()
+    ensures { ClockedRunsFit }
+{}
+
+/// The history of possible events keeps the promises, by any clocks, each under the premises that
+/// it needs.
+pub fn clocked_runs_keep_promises()
+    ensures { ClockedRunsKeepPromises }
+{}
+
+/// A premise of the promises holds of a run by any clocks if its counterpart holds of its events.
+#[tactic(auto, using(crate::proofs::RunPremises::clocked_runs_keep_premises))]
+pub fn clocked_runs_keep_premises()
+    ensures { ClockedRunsKeepPremises }
+{}
+
+/// Clocks whose counters stay within a header's drift have a setting, so `clocked_runs_fit` and
+/// `clocked_runs_keep_promises` say something of each.
+#[tactic(auto, using(crate::proofs::SettingLemmas::clocks_are_set))]
+pub fn clocks_are_set()
+    ensures { ClocksAreSet }
 {}
 
 /// Every accepted schedule is possible: what isn't refused can happen, and within a replay's limits

@@ -12,9 +12,13 @@
 //! Read `specs/` in this order: `Networks` (who is on which network), `Setup` (a node's past in a
 //! history), `Run` (events to a history, and the lines of its trace), `Refusals` (why an event is
 //! refused), `Possible` (which events can happen, however many they are), `Setting` and `Promises`
-//! (what is promised of the history), and `Premised` (what the promises ask of the schedule's
-//! text). [`laws`] has the theorems: `runs_fit`, `runs_keep_promises` and `runs_keep_premises`, and
-//! the same of possible schedules.
+//! (what is promised of the history), `Premised` (what the promises ask of the schedule's text),
+//! and `Clocked` (runs by any clocks). [`laws`] has the theorems: `runs_fit`, `runs_keep_promises`
+//! and `runs_keep_premises`, and the same of possible schedules and of runs by any clocks.
+//!
+//! In the run of a schedule each node counts at one rate, and its wall clock has one WALL. In a run
+//! *by clocks* each node has any tick function that stays within the drift, and in each of its
+//! lives any wall clock; and there may be as many nodes and networks as one likes.
 //!
 //! # What is proved
 //!
@@ -28,6 +32,11 @@
 //!   happen and fewer than 2^64 datagrams are posted (`possible_runs_fit`,
 //!   `possible_runs_keep_promises`, `possible_runs_keep_premises`). Every accepted schedule is such
 //!   a one (`accepted_is_possible`).
+//! - By any clocks it fits and keeps the promises, and a premise holds of it if its counterpart
+//!   holds of the events (`clocked_runs_fit`, `clocked_runs_keep_promises`,
+//!   `clocked_runs_keep_premises`). Clocks that stay within the drift have a setting
+//!   (`clocks_are_set`). The run of a schedule is the one by its header's clocks
+//!   (`runs_by_own_clocks`), and what is said of it follows from that.
 //! - The worked run on two networks gives its acts (`joins_two_networks`).
 #![tactic(auto)]
 

@@ -1,5 +1,6 @@
 //! The tests, by what they try. `lines` has the treatment that `gathered` uses too.
 mod acts;
+mod boards;
 mod codec;
 mod commands;
 mod conversions;

@@ -5,6 +5,7 @@ use std::cell::Cell;
 use tsp_base::place::{PeerId, Place};
 use tsp_io::addr::Addr;
 use tsp_io::link::{Bound, Link, Recv, Sent};
+use tsp_io::origin::Origin;
 use tsp_io::ticker::Ticker;
 use tsp_query::query::{QueryEnd, clockdiff};
 
@@ -82,6 +83,14 @@ impl<'a> Ticker for SharedTicker<'a> {
 
     ghost last = { λ s. s.last };
 
+    ghost origin_is = { λ _. None };
+
+    ghost delay_is = { λ _. None };
+
+    ghost boarded = { λ _. false };
+
+    ghost marks = { λ _. None };
+
     fn tick(&mut self) -> u64 {
         self.last = self.time.get().max(self.last).min(1 << 61);
         self.last
@@ -94,6 +103,20 @@ impl<'a> Ticker for SharedTicker<'a> {
     fn word(&mut self) -> u64 {
         5
     }
+
+    fn origin(&self) -> Option<Origin> {
+        None
+    }
+
+    fn moment(&self) -> u64 {
+        self.last
+    }
+
+    fn has_board(&self) -> bool {
+        false
+    }
+
+    fn mark(&mut self, _at: u64, _octets: &[u8]) {}
 }
 
 /// A question's trip begins before its send and ends after its receive: here it lasts 300

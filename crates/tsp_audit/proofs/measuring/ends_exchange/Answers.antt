@@ -1,6 +1,5 @@
 use Rattle.std.proofs.Common.{◌≡◌, ◌∙◌, sym, rules, to_z, of_z}
 use Rattle.std.specs.Int.{w64, w128}
-use Rattle.tsp_base.specs.Words.{is_going}
 use Rattle.tsp_history.specs.Histories.{history_of, line_of}
 use Rattle.tsp_audit.proofs.MeasureLemmas.{trip-decides}
 use Rattle.tsp_audit.proofs.measuring.ends_exchange.Goals as goal

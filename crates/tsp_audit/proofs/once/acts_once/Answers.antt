@@ -1,4 +1,4 @@
-use Rattle.std.proofs.Common.{true, rules}
+use Rattle.std.proofs.Common.{rules}
 use Rattle.tsp_promises.specs.Once.{SpacedAt}
 use Rattle.tsp_history.specs.Histories.{history_of, line_of}
 use Rattle.tsp_audit.proofs.ActLemmas.{acts-decide}

@@ -32,5 +32,6 @@ returns-in-Err-clause-err g c =
     let item_is : get_or c.args.acts.now c.loop-placed.placed-index item ≡ item = search rules in
     let line : c.as_slice.result.now ≡ line_of c.args.turn c.args.tick c.loop-placed.number item = c.as_slice.ensures.value ∙ c.line_of.ensures in
     let here = lines_here c.args.turn c.args.tick c.loop-placed.number c.args.acts.now c.loop-placed.placed-index item (search rules) item_is
-    ∙ ap (λ xs. xs ++ act_lines c.args.turn c.args.tick (c.loop-placed.number + length (send_of item.act)) (drop (c.loop-placed.placed-index + 1) c.args.acts.now)) (sym line) in
+    ∙ ap (λ xs. xs ++ act_lines c.args.turn c.args.tick (c.loop-placed.number + length (send_of item.act))
+    (drop (c.loop-placed.placed-index + 1) c.args.acts.now)) (sym line) in
     tells_until c.in-Err.end _ told.0 c.as_slice.result.now _ _ _ _ told.1 (told.2 ∙ ap (λ xs. told.0 ++ xs) here) c.in-Err.ensures.err

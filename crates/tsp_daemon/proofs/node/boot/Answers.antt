@@ -5,7 +5,8 @@ use Rattle.tsp_daemon.proofs.node.boot.Goals as goal
 
 pub unreachable-requires : goal.unreachable-requires
 unreachable-requires c =
-    let ports : AreGatePorts c.in-Ok.config.ports = subst (λ (v : GateConfigValue). AreGatePorts v.ports) (sym c.in-Ok.ensures) (ArePorts-setups_from 0 c.args.words.now.ports c.requires.serve.ports.one.few) in
+    let ports : AreGatePorts c.in-Ok.config.ports = subst (λ (v : GateConfigValue). AreGatePorts v.ports) (sym c.in-Ok.ensures)
+    (ArePorts-setups_from 0 c.args.words.now.ports c.requires.serve.ports.one.few) in
     (rw c.in-Err-Peers.field-0-is at c.in-Err-Peers.ensures.err) ports
 
 pub boot-requires-clause-ports : goal.boot-requires-clause-ports
@@ -16,4 +17,5 @@ boot-requires-clause-ports c =
 
 pub returns-in-Ok-boot-clause-room : goal.returns-in-Ok-boot-clause-room
 returns-in-Ok-boot-clause-room c =
-    room_is c.args.words.now _ (c.in-Ok-boot.ensures.ok.2 ∙ ap (λ (v : GateConfigValue). peers_of_ports v.ports) c.in-Ok.ensures) c.requires.serve.ports.one.few c.requires.serve.ports.one.four
+    room_is c.args.words.now _ (c.in-Ok-boot.ensures.ok.2 ∙ ap (λ (v : GateConfigValue). peers_of_ports v.ports) c.in-Ok.ensures) c.requires.serve.ports.one.few
+    c.requires.serve.ports.one.four

@@ -5,13 +5,16 @@ use Rattle.tsp_daemon.{proofs.NodeLemmas.peers_more, proofs.NodeLemmas.setups_mo
 use Rattle.tsp_daemon.proofs.node.config_of.Goals as goal
 
 pub overflow_cast-count : goal.overflow_cast-count
-overflow_cast-count c = let few = peers_more c.loop-port.done c.args.words.now.ports c.loop-port.port c.get.result.now c.get.ensures c.loop-port.invariant.few in omega (arith, few)
+overflow_cast-count c = let few = peers_more c.loop-port.done c.args.words.now.ports c.loop-port.port c.get.result.now c.get.ensures c.loop-port.invariant.few
+    in omega (arith, few)
 
 pub join-requires : goal.join-requires
-join-requires c = let few = peers_more c.loop-port.done c.args.words.now.ports c.loop-port.port c.get.result.now c.get.ensures c.loop-port.invariant.few in omega (arith, few)
+join-requires c = let few = peers_more c.loop-port.done c.args.words.now.ports c.loop-port.port c.get.result.now c.get.ensures c.loop-port.invariant.few in
+    omega (arith, few)
 
 pub overflow_add-done : goal.overflow_add-done
-overflow_add-done c = let few = peers_more c.loop-port.done c.args.words.now.ports c.loop-port.port c.get.result.now c.get.ensures c.loop-port.invariant.few in omega (arith, few)
+overflow_add-done c = let few = peers_more c.loop-port.done c.args.words.now.ports c.loop-port.port c.get.result.now c.get.ensures c.loop-port.invariant.few in
+    omega (arith, few)
 
 pub loop-port-preserved : goal.loop-port-preserved
 loop-port-preserved c =

@@ -6,7 +6,8 @@ use Rattle.tsp_daemon.proofs.sends.send_all.Given as goal
 
 abbrev pub invariant-loop-placed : goal.invariant-loop-placed
 invariant-loop-placed g l = record {
-  tried : (done : List Tried) × TriesAll done (g.L.Link.tried l.initial.link) (g.L.Link.tried l.link) × (sends_of l.acts ≡ done ++ sends_of (drop l.placed-index l.acts));
+  tried : (done : List Tried) × TriesAll done (g.L.Link.tried l.initial.link) (g.L.Link.tried l.link) ×
+      (sends_of l.acts ≡ done ++ sends_of (drop l.placed-index l.acts));
   arrivals : g.L.Link.arrivals l.link ≡ g.L.Link.arrivals l.initial.link;
   calls : g.L.Link.calls l.link ≡ g.L.Link.calls l.initial.link;
   stranger : g.L.Link.stranger l.link ≡ g.L.Link.stranger l.initial.link;

@@ -3,9 +3,10 @@ use Rattle.tsp_rules.specs.Values.{PeerId}
 use Rattle.tsp_gateway.specs.Rooms.{ports_in, room_of_ports}
 use Rattle.tsp_query.proofs.FaultLemmas.{Counts-from, Counts-same}
 use Rattle.tsp_daemon.specs.declared.end.ServeEnd.TheVariants.{LinkFault, WriteFault}
-use Rattle.tsp_daemon.proofs.SessionLemmas.{rises_more, serves_until, turns_more}
-use Rattle.tsp_daemon.proofs.TurnLemmas.{le_on, posts_more, went_on, done_unlinked, done_unwritten, end_as, same_end}
-use Rattle.tsp_daemon.{proofs.WaitLemmas.one_more_noted, proofs.WaitLemmas.until_noted, specs.Sessions.after_turns}
+use Rattle.tsp_daemon.proofs.SessionLemmas.{at_on, rises_more, serves_until, turns_more}
+use Rattle.tsp_daemon.proofs.TurnLemmas.{le_is, le_on, le_same, le_self, posts_more, went_on, done_unlinked, done_unwritten, end_as, same_end}
+use Rattle.tsp_daemon.{proofs.WaitLemmas.none_noted, proofs.WaitLemmas.one_more_noted, proofs.WaitLemmas.until_noted, specs.Sessions.after_turns}
+use Rattle.tsp_daemon.proofs.PageLemmas.{first_marked, one_more_marked, until_marked}
 use Rattle.tsp_daemon.proofs.serve.serve.Goals as goal
 
 pub returns-in-Err : goal.returns-in-Err
@@ -13,15 +14,30 @@ returns-in-Err g c = record {
   serves = λ s at.
       let i = c.loop.counter in
       let ends = c.in-Err.ensures.turns (after_turns i s) (c.loop.invariant.at s at) in
-      let noted = until_noted i s _ _ _ _ _ _ _ _ _ c.in-Err.end ends (c.loop.invariant.waits s at) (c.in-Err.ensures.waits (after_turns i s) (c.loop.invariant.at s at)) in
-      (i, noted.0, serves_until c.args.turns i s _ _ _ _ _ _ c.in-Err.end (search arith) ends, c.loop.invariant.rises s at, noted.1, noted.2);
+      let noted = until_noted i s _ _ _ _ _ _ _ _ _ c.in-Err.end ends (c.loop.invariant.waits s at)
+      (c.in-Err.ensures.waits (after_turns i s) (c.loop.invariant.at s at)) in (
+        i,
+        noted.0,
+        serves_until c.args.turns i s _ _ _ _ _ _ c.in-Err.end (search arith) ends,
+        c.loop.invariant.rises s at,
+        noted.1,
+        noted.2,
+        λ origin delay from told. until_marked delay i s _ _ _ _ _ _ c.in-Err.end (c.loop.invariant.marks s origin delay at from told)
+            (c.in-Err.ensures.marks (after_turns i s) delay (c.loop.invariant.at s at) (c.loop.invariant.board.delay ∙ told)),
+      );
+  board = record {
+    boarded = c.turn.ensures.board.boarded ∙ c.loop.invariant.board.boarded;
+    origin = c.turn.ensures.board.origin ∙ c.loop.invariant.board.origin;
+    delay = c.turn.ensures.board.delay ∙ c.loop.invariant.board.delay;
+  };
   keeps = record {
     binds = c.turn.ensures.keeps.binds ∙ c.loop.invariant.binds;
     walled = c.turn.ensures.keeps.walled ∙ c.loop.invariant.walled;
     last = le_on _ _ _ c.loop.invariant.last c.turn.ensures.keeps.last;
   };
   link = Counts-from _ _ _ _ _ c.loop.invariant.faults (λ e. end_as c.in-Err.end LinkFault e) (λ e. same_end c.in-Err.end LinkFault e) c.in-Err.ensures.link;
-  write = Counts-from _ _ _ _ _ c.loop.invariant.writes (λ e. end_as c.in-Err.end WriteFault e) (λ e. same_end c.in-Err.end WriteFault e) c.in-Err.ensures.write;
+  write = Counts-from _ _ _ _ _ c.loop.invariant.writes (λ e. end_as c.in-Err.end WriteFault e) (λ e. same_end c.in-Err.end WriteFault e)
+      c.in-Err.ensures.write;
   sends = le_on _ _ _ c.loop.invariant.send_faults c.turn.ensures.sends;
 }
 
@@ -31,8 +47,18 @@ loop-preserved g c =
     let same : room_of_ports (ports_in c.loop.gateway) ≡ room = ap (λ (ps : List (List PeerId)). room_of_ports ps) c.loop.invariant.ports in
     record {
       at = λ s at. turns_more c.loop.counter s _ _ _ _ _ _ _ _ (c.in_default.ensures.turns (after_turns c.loop.counter s) (c.loop.invariant.at s at));
-      rises = λ s at. rises_more c.loop.counter s _ _ _ _ _ _ _ _ _ _ _ _ _ _ _ _ (c.loop.invariant.rises s at) (c.loop.invariant.at s at) (c.in_default.ensures.turns (after_turns c.loop.counter s) (c.loop.invariant.at s at)) c.turn.ensures.keeps.last;
-      waits = λ s at. one_more_noted s c.loop.counter _ _ _ (c.loop.invariant.waits s at) (c.in_default.ensures.waits (after_turns c.loop.counter s) (c.loop.invariant.at s at));
+      rises = λ s at. rises_more c.loop.counter s _ _ _ _ _ _ _ _ _ _ _ _ _ _ _ _ (c.loop.invariant.rises s at) (c.loop.invariant.at s at)
+          (c.in_default.ensures.turns (after_turns c.loop.counter s) (c.loop.invariant.at s at)) c.turn.ensures.keeps.last;
+      waits = λ s at. one_more_noted s c.loop.counter _ _ _ (c.loop.invariant.waits s at) (c.in_default.ensures.waits (after_turns c.loop.counter s)
+          (c.loop.invariant.at s at));
+      marks = λ s origin delay at from told.
+          let turned = c.in_default.ensures.marks (after_turns c.loop.counter s) delay (c.loop.invariant.at s at) (c.loop.invariant.board.delay ∙ told) in
+          one_more_marked delay c.loop.counter s _ _ _ _ _ _ (c.loop.invariant.marks s origin delay at from told) turned.0 turned.1;
+      board = record {
+        boarded = c.turn.ensures.board.boarded ∙ c.loop.invariant.board.boarded;
+        origin = c.turn.ensures.board.origin ∙ c.loop.invariant.board.origin;
+        delay = c.turn.ensures.board.delay ∙ c.loop.invariant.board.delay;
+      };
       binds = c.turn.ensures.keeps.binds ∙ c.loop.invariant.binds;
       walled = c.turn.ensures.keeps.walled ∙ c.loop.invariant.walled;
       lives = c.in_default.ensures.lives;
@@ -50,10 +76,40 @@ pub returns : goal.returns
 returns g c = record {
   serves = λ s at.
       let all : c.loop.counter ≡ c.args.turns = search arith in
-      let end = c.loop.invariant.at s at in
-      (c.loop.counter, c.loop.counter, (all, end.tells, end.written_is), c.loop.invariant.rises s at, refl, c.loop.invariant.waits s at);
+      let end = c.loop.invariant.at s at in (
+        c.loop.counter,
+        c.loop.counter,
+        (all, end.tells, end.written_is),
+        c.loop.invariant.rises s at,
+        refl,
+        c.loop.invariant.waits s at,
+        λ origin delay from told. (c.loop.invariant.marks s origin delay at from told).noted,
+      );
+  board = c.loop.invariant.board;
   keeps = record { binds = c.loop.invariant.binds; walled = c.loop.invariant.walled; last = c.loop.invariant.last };
   link = Counts-same _ _ _ c.loop.invariant.faults (λ e. done_unlinked e);
   write = Counts-same _ _ _ c.loop.invariant.writes (λ e. done_unwritten e);
   sends = c.loop.invariant.send_faults;
+}
+
+-- the page was begun, and no turn was taken
+pub loop-init : goal.loop-init
+loop-init g c = record {
+  at = λ s at. at_on s _ _ _ _ _ _ _ _ _ _ c.begin-page.ensures.only.readings c.begin-page.ensures.only.last at;
+  waits = λ s at. none_noted s _;
+  rises = λ s at. tt;
+  marks = λ s origin delay at from told. first_marked delay s _ origin _ _ _ _ at.tells.last_is (c.begin-page.ensures.page s.past origin delay at.stands from
+      told) (c.begin-page.ensures.marks s.past origin delay at.stands from told);
+  board = record { boarded = c.begin-page.ensures.only.boarded; origin = c.begin-page.ensures.only.origin; delay = c.begin-page.ensures.only.delay };
+  binds = refl;
+  walled = c.begin-page.ensures.only.walled;
+  lives = c.requires.lives;
+  clock = le_same _ _ _ c.requires.later c.begin-page.ensures.only.last;
+  turns = refl;
+  posts = search arith;
+  ports = refl;
+  faults = refl;
+  send_faults = le_self _;
+  writes = refl;
+  last = le_is _ _ c.begin-page.ensures.only.last;
 }

@@ -1,17 +1,30 @@
 -- The node, the counters and the outside are where so many turns have brought them.
-use Rattle.std.proofs.Common.{◌≡◌, ◌≤◌, ◌*◌}
+use Rattle.std.proofs.Common.{◌≡◌, ◌≤◌, ◌*◌, ℕ, Option, Some}
 use Rattle.tsp_gateway.specs.{GatewayStands.clock_at, Rooms.ports_in, Rooms.room_of_ports}
 use Rattle.tsp_daemon.specs.{Ends.IsAt, Ends.Lives, Sessions.Session, Sessions.after_turns, Sessions.Rises, Waits.NotesWaits}
+use Rattle.tsp_io.specs.declared.origin.Origin.{Origin}
+use Rattle.tsp_daemon.specs.Pages.{KeepsBoard, moment_after, page_from}
+use Rattle.tsp_daemon.proofs.PageLemmas.{IsMarked}
 use Rattle.tsp_daemon.proofs.serve.serve.Given as goal
 
 abbrev pub invariant-loop : goal.invariant-loop
 invariant-loop g l = record {
-  at : (s : Session) → IsAt s l.fn.gateway l.initial.counters (g.L.Link.arrivals l.fn.link) (g.L.Link.tried l.fn.link) (g.L.Link.calls l.fn.link) (g.T.Ticker.readings l.fn.ticker) (g.T.Ticker.last l.fn.ticker) (g.K.Sink.written l.fn.sink) →
-      IsAt (after_turns l.counter s) l.gateway l.counters (g.L.Link.arrivals l.link) (g.L.Link.tried l.link) (g.L.Link.calls l.link) (g.T.Ticker.readings l.ticker) (g.T.Ticker.last l.ticker) (g.K.Sink.written l.sink);
-  waits : (s : Session) → IsAt s l.fn.gateway l.initial.counters (g.L.Link.arrivals l.fn.link) (g.L.Link.tried l.fn.link) (g.L.Link.calls l.fn.link) (g.T.Ticker.readings l.fn.ticker) (g.T.Ticker.last l.fn.ticker) (g.K.Sink.written l.fn.sink) →
+  at : (s : Session) → IsAt s l.fn.gateway l.initial.counters (g.L.Link.arrivals l.fn.link) (g.L.Link.tried l.fn.link) (g.L.Link.calls l.fn.link)
+      (g.T.Ticker.readings l.fn.ticker) (g.T.Ticker.last l.fn.ticker) (g.K.Sink.written l.fn.sink) →
+      IsAt (after_turns l.counter s) l.gateway l.counters (g.L.Link.arrivals l.link) (g.L.Link.tried l.link) (g.L.Link.calls l.link)
+      (g.T.Ticker.readings l.ticker) (g.T.Ticker.last l.ticker) (g.K.Sink.written l.sink);
+  waits : (s : Session) → IsAt s l.fn.gateway l.initial.counters (g.L.Link.arrivals l.fn.link) (g.L.Link.tried l.fn.link) (g.L.Link.calls l.fn.link)
+      (g.T.Ticker.readings l.fn.ticker) (g.T.Ticker.last l.fn.ticker) (g.K.Sink.written l.fn.sink) →
       NotesWaits s l.counter (g.L.Link.waits l.fn.link) (g.L.Link.waits l.link);
-  rises : (s : Session) → IsAt s l.fn.gateway l.initial.counters (g.L.Link.arrivals l.fn.link) (g.L.Link.tried l.fn.link) (g.L.Link.calls l.fn.link) (g.T.Ticker.readings l.fn.ticker) (g.T.Ticker.last l.fn.ticker) (g.K.Sink.written l.fn.sink) →
+  rises : (s : Session) → IsAt s l.fn.gateway l.initial.counters (g.L.Link.arrivals l.fn.link) (g.L.Link.tried l.fn.link) (g.L.Link.calls l.fn.link)
+      (g.T.Ticker.readings l.fn.ticker) (g.T.Ticker.last l.fn.ticker) (g.K.Sink.written l.fn.sink) →
       Rises l.counter s;
+  marks : (s : Session) (origin : Option Origin) (delay : ℕ) → IsAt s l.fn.gateway l.initial.counters (g.L.Link.arrivals l.fn.link) (g.L.Link.tried l.fn.link)
+      (g.L.Link.calls l.fn.link) (g.T.Ticker.readings l.fn.ticker) (g.T.Ticker.last l.fn.ticker) (g.K.Sink.written l.fn.sink) →
+      g.T.Ticker.origin_is l.fn.ticker ≡ Some origin → g.T.Ticker.delay_is l.fn.ticker ≡ Some delay →
+      IsMarked delay l.counter s (page_from (g.T.Ticker.boarded l.fn.ticker) origin s.past (moment_after delay s.outside.last)) l.page
+      (g.T.Ticker.marks l.fn.ticker) (g.T.Ticker.marks l.ticker);
+  board : KeepsBoard g.T.Ticker l.fn.ticker l.ticker;
   binds : g.L.Link.binds l.link ≡ g.L.Link.binds l.fn.link;
   walled : g.T.Ticker.left_at_wall l.ticker ≡ g.T.Ticker.left_at_wall l.fn.ticker;
   lives : Lives l.gateway;

@@ -18,7 +18,7 @@ invariant_of-result-clause-ready c = record {
 }
 
 pub invariant_of-result-clause-rooms_are : goal.invariant_of-result-clause-rooms_are
-invariant_of-result-clause-rooms_are c = subst (λ nets. AreRooms nets c.in_ok-rooms.rooms.items) c.networks_of-nets.ensures.networks c.in_ok-rooms.ensures
+invariant_of-result-clause-rooms_are c = subst (λ nets. AreRooms nets c.in_ok-rooms.rooms.items) c.networks_of-nets.ensures.networks c.in_ok-rooms.ensures.rooms
 
 pub invariant_of-result-clause-dues_are : goal.invariant_of-result-clause-dues_are
 invariant_of-result-clause-dues_are c n due node is there =

@@ -1,0 +1,37 @@
+//! A board: octets at places, which other programs read at any time.
+ghost use Rattle.std.specs.Prelude.{◌≡◌, ◌≢◌, ℕ, ◌≤◌, ◌<◌, List, Option};
+ghost use Rattle.tsp_io.specs.Boards.{Mark};
+ghost use Rattle.tsp_io.specs.Counts.{Rose};
+ghost use Rattle.tsp_io.specs.Links.{NotesReceive};
+
+/// What one write answers.
+#[derive(Clone, Copy, PartialEq, Eq, Debug)]
+pub enum Marked {
+    /// The octets stand at their place.
+    Written,
+    /// The write failed. Maybe some of the octets stand at their place, and maybe none.
+    Failed,
+}
+
+/// Octets at places, which other programs read.
+///
+/// Once a write failed, each later one fails too, and changes nothing: so nothing is written that
+/// relies on what isn't there.
+pub trait Board {
+    /// The writes so far, with those that failed; None if they aren't told.
+    ghost writes: { Self → Option (List Mark) };
+
+    /// How often a write failed; it never falls, and stays at 2^64 - 1 once it is there.
+    ghost faults: { Self → ℕ };
+
+    /// Writes octets at a place, which is counted from 0.
+    ///
+    /// `Failed` comes only if the count of faults rose in this call; with any other answer the count is
+    /// unchanged.
+    fn write(&mut self, at: u64, octets: &[u8]) -> Marked
+        ensures writes { NotesReceive (writes self.old) (writes self.new) (at, octets.now) }
+        ensures later { faults self.old ≤ faults self.new }
+        ensures cause { result ≡ Marked.Failed → Rose (faults self.old) (faults self.new) }
+        ensures still { result ≢ Marked.Failed → faults self.new ≡ faults self.old }
+        ensures ended { 0 < faults self.old → result ≡ Marked.Failed };
+}

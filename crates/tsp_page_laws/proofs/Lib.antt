@@ -1,0 +1,4 @@
+pub mod NamedProof
+pub mod NearProof
+pub mod PageProof
+pub mod WithinProof

@@ -1,0 +1,17 @@
+pub mod AlarmsFit
+pub mod AloneLeads
+pub mod AloneStands
+pub mod CausesFit
+pub mod FreshLeads
+pub mod InTime
+pub mod LoneLeads
+pub mod Needed
+pub mod NeverLate
+pub mod Progress
+pub mod RoundsRecur
+pub mod RunsWake
+pub mod SendsEnd
+pub mod Stands
+pub mod Wakes
+pub mod Watched
+pub mod Worked

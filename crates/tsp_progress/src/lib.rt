@@ -1,0 +1,62 @@
+//! What happens in runs, and by when, if each node is looked at in time. Nothing here runs: each
+//! function's contract is a theorem.
+//!
+//! Promises say what never happens. These theorems say that something does: a send ends, a
+//! candidate becomes master or Loose, a node that hears nothing leads. That can't be said of every
+//! run, since a node does nothing while nobody looks at its timers. So each asks that the run is
+//! *attended*: at each step of a node, none of its alarms and open sends is overdue by more than
+//! `late` ticks. Most ask that `late` is at most `SLACK`, 1 s.
+//!
+//! A run is finite. That something happens within a time is said so: wherever a step of a node
+//! begins, nothing is open there that is older. The same is said of a node after the whole run, if
+//! it is *told* up to a true time: if the node was watched until then.
+//!
+//! - A message *stirs* if it is an ADJTIME, SETTIME, ELECTION, MASTERUP, MASTERACK, QUIT, REFUSE,
+//!   TEST or LOOP. *News* of a port are its node's boot, a message that stirs, and that it stands
+//!   for election. A *word* is a boot or such a message.
+//! - A port is *woken* if it has the alarm armed that ends its role or lets it go on, and if each
+//!   act on an alarm came in its time, after what it needs, and was followed at once by what it
+//!   asks for.
+//! - The *manner* of a node says whether it may be master, and whether its elections are strict.
+//!
+//! Read `specs/` in this order: `Watched` (what is asked), `SendsEnd`, `AlarmsFit`, `CausesFit` and
+//! `Wakes` (what every run has armed), `RunsWake`, `InTime`, `RoundsRecur`, `NeverLate`, `Stands`,
+//! `AloneStands`, `AloneLeads`, `FreshLeads`, `LoneLeads`, and `Progress`, which puts most of them
+//! together; then `Worked` and `Needed`, small runs. The words of histories are those of
+//! `tsp_promises`.
+//!
+//! # What is proved
+//!
+//! In parentheses are the contracts, clauses and definitions that say it.
+//!
+//! - In every run each port is woken, wherever a step of its node begins and at the end, whatever
+//!   octets come and whenever, at gateways too (`runs_wake`), and by any clocks
+//!   (`clocked_runs_wake`).
+//! - In an attended history that fits no numbered send is open longer than 3 s and `late`
+//!   (`sends_end`, `sends_ended`).
+//! - In an attended history of woken ports the quiet time ends after 80 s, a candidature after 5 s,
+//!   a round after 8 s, a resolution and a search after 5 s, a master's Round comes after 240 s, a
+//!   follower that doesn't hear its master waits for at most 600 s, each time and `late`
+//!   (`all_in_time`, `ends_in_time`).
+//! - If `late` is at most `SLACK`, a master won or began a round at most 240 s and `late` ago, or
+//!   waits for another port's at most 20 s and `late` (`rounds_recur`).
+//! - If `late` is at most `SLACK`, no alarm is handled late (`never_late`).
+//! - When Elect rings, a node that may be master and took no QUIT in the last 300 s stands for
+//!   election at once (`stands`).
+//! - If `late` is at most `SLACK`, such a node is Loose or follows for at most 1,210 s and four
+//!   times `late` after its news (`alone_stands`), and, where elections aren't strict, isn't master
+//!   for at most 1,215 s and five times `late` after its last word (`alone_leads`), or for at most
+//!   690 s and four times `late` after its boot, if that was its last word (`fresh_leads`).
+//! - So where nobody posts a message that stirs to such a node, and no octets come to it from
+//!   outside, it leads within 690 s and four times `late` after each of its boots (`lone_leads`).
+//! - All of this holds of the run of each possible schedule that is attended (`runs_progress`), and
+//!   of each possible run by any clocks (`clocked_runs_progress`).
+//! - It says something: a worked run (`prompt_use`), one that leads one tick before the bound
+//!   (`slow_use`), runs that are looked at one tick too late (`late_use`), and histories without
+//!   each premise (`needed`).
+//!
+//! Of what takes several nodes nothing is proved: that an answer comes in time, that a network in
+//! which several nodes may be master gets one, that all follow it and agree.
+#![tactic(auto)]
+
+pub mod laws;
