@@ -56,7 +56,7 @@ _tsp_lint() {
     --program | -p) mapfile -t COMPREPLY < <(compgen -c -- "$2"); return ;;
     esac
     case $2 in
-    -*) mapfile -t COMPREPLY < <(compgen -W '--program --premises --version --help' -- "$2") ;;
+    -*) mapfile -t COMPREPLY < <(compgen -W '--help --version --program --premises' -- "$2") ;;
     *) _tsp_files tsp "$2" ;;
     esac
 }
@@ -69,7 +69,7 @@ _tsp_plot() {
     --title | --drift | -d) return ;;
     esac
     case $2 in
-    -*) mapfile -t COMPREPLY < <(compgen -W '--output --title --strangers --bounds --drift --program --version --help' -- "$2") ;;
+    -*) mapfile -t COMPREPLY < <(compgen -W '--help --version --output --title --strangers --bounds --drift --program' -- "$2") ;;
     *) _tsp_files 'tsp|trace' "$2" ;;
     esac
 }
@@ -78,7 +78,7 @@ _tsp_sim() {
     case $(_tsp_before "$3") in
     --program | -p) mapfile -t COMPREPLY < <(compgen -c -- "$2") ;;
     '<') _tsp_any_file "$2" ;;
-    *) mapfile -t COMPREPLY < <(compgen -W '--nodes --slaves --drift --wall --latency --loss --twice --cut --reboot --net --until --seed --program --version --help' -- "$2") ;;
+    *) mapfile -t COMPREPLY < <(compgen -W '--help --version --nodes --slaves --drift --wall --latency --loss --twice --cut --reboot --net --until --seed --program' -- "$2") ;;
     esac
 }
 
@@ -91,7 +91,7 @@ _tsp_launch() {
     --turns | --wait | -w | --spread) ;;
     --rate) mapfile -t COMPREPLY < <(compgen -W 'learn 0' -- "$2") ;;
     *)
-        mapfile -t COMPREPLY < <(compgen -W '--print --list --lint --firewall --file --self --turns --wait --spread --rate --trace --supervise --output --program --version --help' -- "$2")
+        mapfile -t COMPREPLY < <(compgen -W '--print --lint --list --firewall --file --self --turns --wait --spread --rate --trace --supervise --output --program --version --help' -- "$2")
         ;;
     esac
 }
@@ -102,7 +102,7 @@ _tsp_status() {
     --file | -f | --output | -o | --trace) mapfile -t COMPREPLY < <(compgen -f -- "$2") ;;
     --tries | -t | --timeout | --within) ;;
     *)
-        mapfile -t COMPREPLY < <(compgen -W '--file --within --trace --check --csv --json --prometheus --output --timeout --tries --program --version --help' -- "$2")
+        mapfile -t COMPREPLY < <(compgen -W '--file --within --check --csv --json --prometheus --output --trace --timeout --tries --program --version --help' -- "$2")
         ;;
     esac
 }
@@ -153,7 +153,7 @@ _tsp_witness() {
     esac
     case $2 in
     =) mapfile -t COMPREPLY < <(compgen -f) ;;
-    -*) mapfile -t COMPREPLY < <(compgen -W '--check --file --drift --altered --schedule --claims --program --version --help' -- "$2") ;;
+    -*) mapfile -t COMPREPLY < <(compgen -W '--check --audit --file --drift --altered --schedule --claims --program --version --help' -- "$2") ;;
     *)
         compopt -o nospace +o filenames 2>/dev/null
         mapfile -t COMPREPLY < <(compgen -S = -W "$(_tsp_hosts 2)" -- "$2")

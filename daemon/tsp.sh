@@ -6,4 +6,12 @@ case $0 in */*) here=${0%/*} ;; *) here=. ;; esac
 tools=$here/../share/tsp program=$here/../lib/tsp/tsp
 # shellcheck source=tools/tsp_explained.sh
 . "$tools/tsp_explained.sh"
+# (the package is of one version: the program's own has fewer parts)
+case $#:${1:-} in
+1:--version)
+    read -r version <"$tools/version"
+    printf 'tsp %s\n' "$version" 2>/dev/null || exit 4
+    exit
+    ;;
+esac
 run "$@"

@@ -1,27 +1,51 @@
 #!/bin/sh
 # The package has the program, the daemon's unit, the tools, pages and examples, and they work where they are unpacked.
 . "$(dirname "$0")/common.sh"
-for needed in dpkg-deb git gzip strip; do
+for needed in dpkg-deb git gzip python3; do
     has "$needed" || { skip "there is no $needed" 'the package'; exit; }
 done
 
+# debian/changelog is made of CHANGELOG.md.
+debian/make-changelog --check || fail 'debian/changelog tells other things than CHANGELOG.md: debian/make-changelog makes it'
+
 # Words: help, a version, and those that are none.
 tools/make-deb --help >"$out/help" && grep -q '^usage: tools/make-deb ' "$out/help" || fail 'there is no help'
-for words in --all "''" "$out/none" 'a b'; do
+for words in --all "''" "$out/none" 'a b' '--source a b' '--source --all' '--source --version'; do
     status=0
     eval "tools/make-deb $words" >"$out/said" 2>"$out/told" || status=$?
     [ "$status" -eq 2 ] && [ ! -s "$out/said" ] && [ "$(wc -l <"$out/told")" -eq 1 ] || fail "'$words' ends with status $status: $(cat "$out/told")"
 done
 
+# Without one of the tools that it needs it says which, and makes nothing.
+mkdir "$out/few" "$out/nothing"
+for folder in $(echo "$PATH" | tr : ' '); do
+    for file in "$folder"/*; do
+        case ${file##*/} in git | python3 | dpkg-buildpackage | dh | cc) ;; *) ln -sf "$file" "$out/few/" 2>/dev/null || : ;; esac
+    done
+done
+for lacking in git python3 dpkg-buildpackage dh cc; do
+    for other in git python3 dpkg-buildpackage dh cc; do
+        printf '#!/bin/sh\nexit 1\n' >"$out/few/$other"
+        chmod +x "$out/few/$other"
+    done
+    rm "$out/few/$lacking"
+    status=0
+    PATH=$out/few tools/make-deb "$out/nothing" >"$out/said" 2>"$out/told" || status=$?
+    [ "$status" -eq 1 ] && [ "$(cat "$out/told")" = "make-deb: there is no $lacking" ] || fail "without $lacking make-deb says '$(cat "$out/told")', status $status"
+done
+[ -z "$(ls "$out/nothing")" ] || fail 'without its tools make-deb makes something'
+
 # The version begins with the program's, and rises with each change that ships: with its commit, and with a heading of the changes.
+program=$(realpath -- "${TSP_PROGRAM:-$(./tsp --path)}") || fail 'there is no program'
+unset TSP_PROGRAM
 version=$(tools/make-deb --version)
-case $version in "$(./tsp --version | cut -d ' ' -f 2)"*) ;; *) fail "the version of the package is $version" ;; esac
+case $version in "$("$program" --version | cut -d ' ' -f 2)"*) ;; *) fail "the version of the package is $version" ;; esac
 git clone -q . "$out/clone"
 in_clone() {
     git -C "$out/clone" -c user.name=nobody -c user.email=nobody@example.org "$@"
 }
-cp tools/make-deb "$out/clone/tools" && cp CHANGELOG.md "$out/clone"
-in_clone commit -q -a --allow-empty -m 'As it is here'
+cp tools/make-deb "$out/clone/tools" && cp -r debian CHANGELOG.md "$out/clone" && in_clone add -A
+in_clone commit -q --allow-empty -m 'As it is here'
 last=$("$out/clone/tools/make-deb" --version)
 # Wants another version, or the same where nothing ships.
 wants_version() {
@@ -38,21 +62,45 @@ in_clone commit -q -a -m 'A change that ships'
 echo '#' >>"$out/clone/man/tsp.8"
 in_clone commit -q -a -m 'A change that ships'
 wants_version gt 'two changes'
-for heading in 0.1-98 0.1-99; do
+for heading in 0.1.98 0.1.99; do
     sed -i "0,/^## /s//## $heading\n\n- Changes.\n\n## /" "$out/clone/CHANGELOG.md"
     in_clone commit -q -a -m 'A heading'
     wants_version gt 'a heading'
     [ "$last" = "$heading" ] || fail "under the heading $heading the version is $last"
+    ! "$out/clone/debian/make-changelog" --check || fail 'a new heading is not missed in debian/changelog'
 done
-sed -i '0,/^## .*/s//## Later/' "$out/clone/CHANGELOG.md"
-! "$out/clone/tools/make-deb" --version >"$out/said" 2>"$out/told" || fail 'a heading without a version is taken'
+for heading in Later 0.1-1; do
+    sed -i "0,/^## .*/s//## $heading/" "$out/clone/CHANGELOG.md"
+    ! "$out/clone/tools/make-deb" --version >"$out/said" 2>"$out/told" || fail "the heading $heading is taken for a version"
+done
 
-package=$(tools/make-deb "$out") || fail 'no package is made'
+for needed in dpkg-buildpackage dh cc strip; do
+    has "$needed" || { skip "there is no $needed (Debian's packages debhelper, dpkg-dev, gcc)" 'how the package is made'; exit; }
+done
+make_deb() {
+    TSP_PROGRAM=$program tools/make-deb "$@"
+}
+package=$(make_deb "$out") || fail 'no package is made'
 dpkg-deb --info "$package" >"$out/info" || fail 'the package is not read'
 [ "$(dpkg-deb --field "$package" Version)" = "$version" ] || fail 'the package has another version than make-deb says'
 dpkg-deb --extract "$package" "$out/root"
 ! find "$out/root" -type l ! -exec test -e {} \; -print | grep . || fail 'a link of the package leads nowhere'
 (cd "$out/root" && dpkg-deb --control "$package" "$out/control" && md5sum --quiet -c "$out/control/md5sums") || fail 'a checksum of the package is wrong'
+
+# It is of one version: that of each program that it has, of the manual pages, and of what Debian reads.
+for tool in "$out/root/usr/bin"/tsp* "$out/root/usr/sbin/tsp-launch"; do
+    [ "$("$tool" --version </dev/null)" = "${tool##*/} $version" ] || fail "the packed ${tool##*/} says '$("$tool" --version </dev/null)', and the package is of $version"
+done
+for page in "$out/root/usr/share/man"/man*/*.gz; do
+    gzip -dc "$page" | head -n 1 | grep -qF "\"tsp $version\"" || fail "$page isn't of $version"
+done
+gzip -dc "$out/root/usr/share/doc/tsp/changelog.gz" | head -n 1 | grep -qF "tsp ($version) " || fail "Debian's list of changes doesn't begin with $version"
+
+# It has what its pages name, and tells of itself and not of a clone.
+for document in ACCURACY CHANGELOG FORMATS JUDGE NETWORK OPERATOR PROGRESS PROMISES PROOFS PROTOCOL README RELIABILITY; do
+    [ -s "$out/root/usr/share/doc/tsp/$document.md" ] || fail "$document.md isn't packed"
+done
+cmp -s "$out/root/usr/share/doc/tsp/README.md" debian/README.md || fail 'another README is packed'
 
 # No link of its documents is dead.
 find "$out/root/usr/share/doc" -name '*.md' >"$out/documents"
@@ -68,7 +116,6 @@ done <"$out/documents"
 tools/tsp-status --help >"$out/help"
 "$out/root/usr/lib/tsp/tsp" --help >"$out/words-of-tsp"
 PATH=$out/root/usr/bin:$PATH
-unset TSP_PROGRAM
 [ "$(command -v tsp)" = "$out/root/usr/bin/tsp" ] || fail 'the packed program is not found'
 # It explains two statuses, and knows how one asks for help.
 for words in -h help --help; do
@@ -131,15 +178,36 @@ if has cc; then
     TSP_CLOCK="$out/clock" timeout 1 "$out/read_time" >"$out/said" || :
     grep -q "the daemon doesn't run$" "$out/said" || fail "the packed example says $(cat "$out/said")"
 fi
-cmp -s "$out/root/etc/default/tsp" daemon/tsp.default && [ "$(cat "$out/control/conffiles")" = /etc/default/tsp ] || fail 'the variables of the daemon are not kept'
+cmp -s "$out/root/etc/default/tsp" daemon/tsp.default || fail 'other variables of the daemon are packed'
+[ "$(sort "$out/control/conffiles" | paste -sd ' ')" = '/etc/default/tsp /etc/needrestart/conf.d/tsp.conf' ] || fail "what is kept of the administrator's is $(cat "$out/control/conffiles")"
 [ -d "$out/root/etc/tsp" ] && [ ! -e "$out/root/etc/tsp/hosts" ] || fail 'there is a hosts file that nobody wrote'
 for script in postinst prerm postrm; do
     sh -n "$out/control/$script" && [ -x "$out/control/$script" ] || fail "$script can't be run"
 done
 [ "$(dpkg-deb --field "$package" Conflicts)" = task-spooler ] || fail 'another package has /usr/bin/tsp too, and may be installed beside it'
-! grep -e enable -e 'start ' "$out/control/postinst" || fail 'the daemon starts by itself'
+! grep -v '^ *#' "$out/control/postinst" | grep -e invoke -e ' start ' -e restart || fail 'the daemon starts by itself'
+
+# needrestart reads its file, which keeps it from the daemon and from nothing else.
+if has perl; then
+    perl -we 'our %nrconf; eval do { local(@ARGV, $/) = shift; <> }; die $@ if $@; my %rc = %{$nrconf{override_rc}};
+        sub kept { my $name = shift; grep { $name =~ /$_/ && !$rc{$_} } keys %rc } exit !(kept("tsp.service") && !kept("tsp-other.service") && !kept("atsp.service"))' \
+        "$out/root/etc/needrestart/conf.d/tsp.conf" || fail 'needrestart restarts the daemon, or leaves others alone'
+else
+    skip 'there is no perl' 'what needrestart reads'
+fi
+
+# Shells complete words: the files are where they look.
+cmp -s "$out/root/usr/share/bash-completion/completions/tsp" completions/tsp.bash && cmp -s "$out/root/usr/share/zsh/vendor-completions/_tsp" completions/_tsp ||
+    fail 'other completions are packed'
+for file in completions/*.fish; do
+    cmp -s "$out/root/usr/share/fish/vendor_completions.d/${file##*/}" "$file" || fail "other completions are packed than ${file##*/}"
+done
+for name in "$out/root/usr/bin"/tsp* tsp-launch; do
+    [ -e "$out/root/usr/share/bash-completion/completions/${name##*/}" ] && [ -e "completions/${name##*/}.fish" ] || fail "the words of ${name##*/} are not completed"
+done
 for page in man/*.[1-8]; do
-    gzip -dc "$out/root/usr/share/man/man${page##*.}/${page#man/}.gz" | cmp -s - "$page" || fail "$page isn't packed"
+    gzip -dc "$out/root/usr/share/man/man${page##*.}/${page#man/}.gz" | sed 1d >"$out/page"
+    sed 1d "$page" | cmp -s - "$out/page" || fail "$page isn't packed"
 done
 
 # Installed in a root of its own and purged, it leaves nothing but folders that are the system's.
@@ -154,6 +222,7 @@ left() {
 }
 if in_system --install "$package"; then
     [ -x "$out/system$launch" ] || fail 'the package is not installed'
+    [ -z "$(find "$out/system/etc/systemd" -name 'tsp*')" ] || fail 'the daemon is enabled by itself'
     echo 'a 192.0.2.1 master' >"$out/system/etc/tsp/hosts"
     ln -s /usr/lib/systemd/system/tsp.service "$out/system/etc/systemd/system/multi-user.target.wants"
     ln -s /usr/lib/systemd/system/tsp-metrics.timer "$out/system/etc/systemd/system/timers.target.wants"
@@ -173,19 +242,30 @@ if in_system --install "$package"; then
     ln -s private/tsp "$out/system/var/lib/tsp"
     in_system --purge tsp || fail "$(tail -n 1 "$out/told")"
     left >"$out/rest"
-    grep -v -x -e "$out/system" -e "$out/system/etc\(/systemd.*\)*" -e "$out/system/var\(/lib\(/private\|/prometheus\(/node-exporter\)*\)*\)*" "$out/rest" >"$out/beyond" || :
+    grep -v -x -e "$out/system" -e "$out/system/etc\(/systemd.*\)*" -e "$out/system/var\(/lib\(/private\|/systemd\|/prometheus\(/node-exporter\)*\)*\)*" "$out/rest" >"$out/beyond" || :
     [ ! -s "$out/beyond" ] && ! grep -q 'wants/tsp' "$out/rest" || fail "a purge leaves $(cat "$out/beyond")"
     [ -s "$out/system/etc/systemd/system/tsp.service.d/mine.conf" ] || fail "a purge takes along the administrator's own changes of the unit"
 else
     skip "this dpkg installs into no other root: $(tail -n 1 "$out/told")" 'what a purge leaves'
 fi
 
-# The same commit gives the same octets.
-mkdir "$out/again"
-cmp -s "$package" "$(tools/make-deb "$out/again")" || fail 'a second package is another one'
+# The same commit gives the same octets, also by way of the source package, in another folder.
+mkdir "$out/source"
+if has dpkg-source; then
+    sources=$(make_deb --source "$out/source") || fail 'no source package is made'
+    (cd "$out/source" && dpkg-source --no-check -x "$sources" unpacked && cd unpacked && TSP_PROGRAM=$program dpkg-buildpackage -d -b -us -uc) >"$out/told" 2>&1 ||
+        fail "of the source package no package becomes: $(tail -n 1 "$out/told")"
+    cmp -s "$package" "$out/source/${package##*/}" || fail 'of the source package another package becomes'
+    (cd "$out/source/unpacked" && dpkg-buildpackage -d -T clean) >"$out/told" 2>&1 && [ ! -e "$out/source/unpacked/debian/build" ] || fail 'debian/rules cleans nothing'
+else
+    skip 'there is no dpkg-source' 'whether the package is made of its source package'
+    mkdir "$out/again"
+    cmp -s "$package" "$(make_deb "$out/again")" || fail 'a second package is another one'
+fi
 
+# Debian's own checker finds nothing, or what debian/lintian-overrides explains. (of the sources: they are a clone's, and no upload)
 if has lintian; then
-    lintian --fail-on none "$package" | grep '^E: ' | grep -v copyright >"$out/errors" || :
+    lintian --fail-on none "$package" 2>/dev/null | grep -e '^E: ' -e '^W: ' >"$out/errors" || :
     [ ! -s "$out/errors" ] || fail "$(head -n 1 "$out/errors")"
 else
     skip 'there is no lintian' 'what it says of the package'

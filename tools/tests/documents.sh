@@ -63,9 +63,12 @@ else
     skip 'there is no rt' 'whether README.md names its logic'
 fi
 
-# The program's version is that of the first heading of CHANGELOG.md, without the package's number.
-version=$(sed -n '/^## /{s/^## \([0-9.]*\)\(-[0-9]*\)\{0,1\}$/\1/p;q;}' CHANGELOG.md)
-[ "$(./tsp --version)" = "tsp $version" ] || fail "the program says '$(./tsp --version)', and CHANGELOG.md begins with the version '$version'"
+# The first heading of CHANGELOG.md, which is the package's version, begins with the program's.
+version=$(sed -n '/^## /{s/^## \([0-9.]*\)$/\1/p;q;}' CHANGELOG.md)
+case "tsp $version" in
+"$(./tsp --version)" | "$(./tsp --version)".[0-9]*) ;;
+*) fail "the program says '$(./tsp --version)', and CHANGELOG.md begins with the version '$version'" ;;
+esac
 
 # The words of the grammar are those of --help, in the table of FORMATS and in the page.
 ./tsp --help | sed -n 's/^    tsp \([a-z-]*\) .*/\1/p' | sort >"$out/commands"

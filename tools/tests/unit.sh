@@ -20,15 +20,28 @@ says ExecStart | grep -q ' --supervise$' || fail 'nobody tells systemd'
 wait=$(says Environment | tr ' ' '\n' | sed -n 's/^TSP_WAIT=//p') limit=$(says TimeoutStartSec)
 [ "${limit%min}" -gt $((wait / 60)) ] || fail "a start is given up after $limit, and names are looked up for $wait s"
 
-# The variables of the unit and of its defaults are those that tsp-launch reads.
+# The variables of the unit and of its defaults are those that tsp-launch and what it starts read. The defaults have each of them once.
+sed -n 's/^#\(TSP_[A-Z]*=.*\)/\1/p' daemon/tsp.default >"$out/defaults"
+{ says Environment | tr ' ' '\n'; cat "$out/defaults"; } | sed 's/=.*//' | sort -u >"$out/set"
 {
-    says Environment | tr ' ' '\n'
-    sed -n 's/^#\(TSP_.*\)/\1/p' daemon/tsp.default
-} | sed 's/=.*//' | sort -u >"$out/set"
-grep -o '\${TSP_[A-Z]*' tools/tsp-launch | sed 's/^..//' | sort -u >"$out/read"
+    grep -o '\${TSP_[A-Z]*' tools/tsp-launch | sed 's/^..//'
+    grep -oh "environ.get('TSP_[A-Z]*" tools/tsp_daemon/*.py | sed "s/.*'//"
+} | sort -u >"$out/read"
 comm -23 "$out/set" "$out/read" >"$out/unread"
 [ ! -s "$out/unread" ] || fail "tsp-launch does not read $(cat "$out/unread")"
-[ "$(wc -l <"$out/set")" -ge 6 ] || fail 'too few variables are set'
+[ -z "$(sed 's/=.*//' "$out/defaults" | sort | uniq -d)" ] || fail "a variable stands twice in daemon/tsp.default: $(sed 's/=.*//' "$out/defaults" | sort | uniq -d)"
+# (the supervisor sets two of them itself, and the firewall's is for a call by hand)
+sed 's/=.*//' "$out/defaults" | sort | comm -13 - "$out/read" | grep -v -x -e TSP_ASKERS -e TSP_NAMES -e TSP_PAGE >"$out/lacking" || :
+[ ! -s "$out/lacking" ] || fail "daemon/tsp.default lacks $(paste -sd ' ' "$out/lacking")"
+# Each has there what it is if it is left out: by the unit, or else by tsp-launch.
+while IFS='=' read -r name value; do
+    default=$(says Environment | tr ' ' '\n' | sed -n "s/^$name=//p")
+    [ -n "$default" ] || default=$(grep -o "\${$name:-[^}\$(]*" tools/tsp-launch | head -n 1 | sed 's/^[^-]*-//')
+    [ -z "$default" ] || [ "$value" = "$default" ] || fail "$name is $default if left out, and daemon/tsp.default has $value"
+done <"$out/defaults"
+# The manual page tells of each.
+sed -n '/^\.SH ENVIRONMENT/,/^\.SH [^E]/p' man/tsp-launch.8 | sed -n 's/^\.BR* \(TSP_[A-Z]*\)$/\1/p' | sort >"$out/told"
+[ -z "$(sed 's/=.*//' "$out/defaults" | sort | comm -23 - "$out/told")" ] || fail "tsp-launch(8) doesn't tell of $(sed 's/=.*//' "$out/defaults" | sort | comm -23 - "$out/told")"
 
 has systemd-analyze || { skip 'there is no systemd-analyze' "what systemd says of $unit"; exit; }
 analyze() {

@@ -22,12 +22,21 @@ class Fault(Exception):
         self.text, self.status = text, status
 
 
+def version():
+    """The version of the package that the tools stand in; in a clone that of the program."""
+    noted = os.path.join(os.path.dirname(os.path.dirname(os.path.realpath(__file__))), 'version')
+    if not os.path.exists(noted):
+        return VERSION
+    with open(noted, encoding='ascii') as file:
+        return file.read().strip()
+
+
 class Version(argparse.Action):
     """Prints the tool's version, and ends it."""
 
     def __call__(self, parser, *_):
         # (argparse's own passes over a write that fails)
-        sys.stdout.write(f'{parser.prog} {VERSION}\n')
+        sys.stdout.write(f'{parser.prog} {version()}\n')
         parser.exit()
 
 
