@@ -153,7 +153,7 @@ _tsp_witness() {
     esac
     case $2 in
     =) mapfile -t COMPREPLY < <(compgen -f) ;;
-    -*) mapfile -t COMPREPLY < <(compgen -W '--check --file --drift --altered --schedule --claims --program --version --help' -- "$2") ;;
+    -*) mapfile -t COMPREPLY < <(compgen -W '--check --audit --file --drift --altered --schedule --claims --program --version --help' -- "$2") ;;
     *)
         compopt -o nospace +o filenames 2>/dev/null
         mapfile -t COMPREPLY < <(compgen -S = -W "$(_tsp_hosts 2)" -- "$2")
