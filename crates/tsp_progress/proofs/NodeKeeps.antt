@@ -63,20 +63,25 @@ module _ (P : Manner → ℕ → List Seen → Type 0) (family : Family P) where
 abbrev pub At : (Manner → ℕ → List Seen → Type 0) → ℕ → Past → Type 0
 At P x past = P (manner past) x past.seen
 
--- each row of a port keeps P; after a datagram was taken H holds
-pub record Keeps (P H : Manner → ℕ → List Seen → Type 0) : Type 0 where
+-- each row of a port keeps P, where what is taken is as Ok says; after a datagram was taken H holds
+pub record Keeps (P H : Manner → ℕ → List Seen → Type 0) (Ok : Place → Taken → Type 0) : Type 0 where
   pub family : Family P
   pub weaken : (x : ℕ) (past : Past) → At H x past → At P x past
   pub sends : Leads (At P) due_sends (At P)
   pub rings : (own wait : Bool) (a : Alarm) → Leads (At P) (rings own wait a) (At P)
-  pub takes : (steer charge : Bool) (from : Place) (t : Taken) → Leads (At P) (takes steer charge from t) (At P)
-  pub took : (from : Place) (m : MessageValue) → m.kind ≡ LoopKind → Leads (At P) (puts (Took from (Good (Message m)))) (At H)
+  pub takes : (steer charge : Bool) (from : Place) (t : Taken) → Ok from t → Leads (At P) (takes steer charge from t) (At P)
+  pub took : (from : Place) (m : MessageValue) → m.kind ≡ LoopKind → Ok from (Good (Message m)) → Leads (At P) (puts (Took from (Good (Message m)))) (At H)
   pub gives_up : Leads (At H) loosens_master (At P)
   pub abandons : Leads (At P) (puts Abandon) (At P)
   pub loops : (q : Port) → Leads (At P) (sends_loops q) (At P)
   pub reposts : (m : MessageValue) → Leads (At P) (reposts m) (At P)
 
-module _ (P H : Manner → ℕ → List Seen → Type 0) (k : Keeps P H) where
+-- what a step is given is as Ok says
+abbrev pub OkGiven : (Place → Taken → Type 0) → NodeGiven → Type 0
+OkGiven Ok NodeTurn = Unit {0}
+OkGiven Ok (GotOn q from t) = Ok from t
+
+module _ (P H : Manner → ℕ → List Seen → Type 0) (Ok : Place → Taken → Type 0) (k : Keeps P H Ok) where
   -- a row of port q
   on_keep : (q : Port) (row : Row) → Leads (At P) row (At P) → LeadsAll (Each P) (on q row) (Each P)
   on_keep = on_each P k.family
@@ -175,49 +180,49 @@ module _ (P H : Manner → ℕ → List Seen → Type 0) (k : Keeps P H) where
   heeds_keep q m true = record { run = λ x past h. (loop_keep q (judge past.name (length past.ports) q m)).run x past h }
   heeds_keep q m false = record { run = λ x past h. h.0 }
 
-  took_keep : (q : Port) (from : Place) (m : MessageValue) → m.kind ≡ LoopKind → LeadsAll (Each P) (on q (puts (Took from (Good (Message m))))) (TookOn q)
+  took_keep : (q : Port) (from : Place) (m : MessageValue) → m.kind ≡ LoopKind → Ok from (Good (Message m)) → LeadsAll (Each P) (on q (puts (Took from (Good (Message m))))) (TookOn q)
   unfolding on
-  took_keep q from m is =
+  took_keep q from m is ok =
       let t = Good (Message m) in
       record {
         run = λ x past all. (
-          (on_keep q (puts (Took from t)) (Leads_to k.weaken (k.took from m is))).run x past all,
+          (on_keep q (puts (Took from t)) (Leads_to k.weaken (k.took from m is ok))).run x past all,
           subst (λ (z : Past). H (node_manner past) x z.seen) (sym (on_own q x past (puts (Took from t) x (on_port q past))))
-              ((k.took from m is).run x (on_port q past) (all q)),
+              ((k.took from m is ok).run x (on_port q past) (all q)),
         );
       }
 
-  takes_loop_keep : (q : Port) (from : Place) (m : MessageValue) → m.kind ≡ LoopKind → LeadsAll (Each P) (takes_loop q from m) (Each P)
+  takes_loop_keep : (q : Port) (from : Place) (m : MessageValue) → m.kind ≡ LoopKind → Ok from (Good (Message m)) → LeadsAll (Each P) (takes_loop q from m) (Each P)
   unfolding takes_loop
-  takes_loop_keep q from m is = All_after (on q (puts (Took from (Good (Message m))))) (reading_all (hears_on from q) (heeds_loop q m))
-      (took_keep q from m is) (All_reading (hears_on from q) (heeds_loop q m) (heeds_keep q m))
+  takes_loop_keep q from m is ok = All_after (on q (puts (Took from (Good (Message m))))) (reading_all (hears_on from q) (heeds_loop q m))
+      (took_keep q from m is ok) (All_reading (hears_on from q) (heeds_loop q m) (heeds_keep q m))
 
-  takes_message_keep : (q : Port) (from : Place) (m : MessageValue) → LeadsAll (Each P) (takes_message q from m) (Each P)
+  takes_message_keep : (q : Port) (from : Place) (m : MessageValue) → Ok from (Good (Message m)) → LeadsAll (Each P) (takes_message q from m) (Each P)
   unfolding takes_message
-  takes_message_keep q from m = record {
+  takes_message_keep q from m ok = record {
     run = λ x past all.
         let row = takes (steers q x past) (in_charge q x past) from (Good (Message m)) in
-        (stirring_keep q (stirred_ports q m.kind) row (k.takes (steers q x past) (in_charge q x past) from (Good (Message m)))).run x past all;
+        (stirring_keep q (stirred_ports q m.kind) row (k.takes (steers q x past) (in_charge q x past) from (Good (Message m)) ok)).run x past all;
   }
 
-  takes_kind_keep : (q : Port) (from : Place) (m : MessageValue) (k : Kind) → m.kind ≡ k → LeadsAll (Each P) (takes_kind q from m k) (Each P)
+  takes_kind_keep : (q : Port) (from : Place) (m : MessageValue) (k : Kind) → m.kind ≡ k → Ok from (Good (Message m)) → LeadsAll (Each P) (takes_kind q from m k) (Each P)
   unfolding takes_kind
-  takes_kind_keep q from m LoopKind is = takes_loop_keep q from m is
-  takes_kind_keep q from m _ is = takes_message_keep q from m
+  takes_kind_keep q from m LoopKind is ok = takes_loop_keep q from m is ok
+  takes_kind_keep q from m _ is ok = takes_message_keep q from m ok
 
-  takes_keep : (q : Port) (from : Place) (t : Taken) → LeadsAll (Each P) (takes_on q from t) (Each P)
+  takes_keep : (q : Port) (from : Place) (t : Taken) → Ok from t → LeadsAll (Each P) (takes_on q from t) (Each P)
   unfolding takes_on
-  takes_keep q from (Good (Message m)) = takes_kind_keep q from m m.kind refl
-  takes_keep q from (Good (Stamp s)) = on_keep q (takes true true from (Good (Stamp s))) (k.takes true true from (Good (Stamp s)))
-  takes_keep q from (Bad fault) = on_keep q (takes true true from (Bad fault)) (k.takes true true from (Bad fault))
+  takes_keep q from (Good (Message m)) ok = takes_kind_keep q from m m.kind refl ok
+  takes_keep q from (Good (Stamp s)) ok = on_keep q (takes true true from (Good (Stamp s))) (k.takes true true from (Good (Stamp s)) ok)
+  takes_keep q from (Bad fault) ok = on_keep q (takes true true from (Bad fault)) (k.takes true true from (Bad fault) ok)
 
-  input_keep : (g : NodeGiven) → LeadsAll (Each P) (input_all g) (Each P)
+  input_keep : (g : NodeGiven) → OkGiven Ok g → LeadsAll (Each P) (input_all g) (Each P)
   unfolding input_all
-  input_keep NodeTurn = nothing_keep
-  input_keep (GotOn q from t) = takes_keep q from t
+  input_keep NodeTurn ok = nothing_keep
+  input_keep (GotOn q from t) ok = takes_keep q from t ok
 
   -- what a node answers
-  pub answers_keep : (g : NodeGiven) → LeadsAll (Each P) (answers_all g) (Each P)
+  pub answers_keep : (g : NodeGiven) → OkGiven Ok g → LeadsAll (Each P) (answers_all g) (Each P)
   unfolding answers_all
-  answers_keep g = All_after (reading_all all_ports (for_ports turns_on)) (input_all g)
-      (All_reading all_ports (for_ports turns_on) (λ ports. list_each P k.family turns_on ports turns_keep)) (input_keep g)
+  answers_keep g ok = All_after (reading_all all_ports (for_ports turns_on)) (input_all g)
+      (All_reading all_ports (for_ports turns_on) (λ ports. list_each P k.family turns_on ports turns_keep)) (input_keep g ok)
