@@ -3,6 +3,7 @@ pub mod AloneProof
 pub mod CauseLeads
 pub mod CauseNodes
 pub mod FreshProof
+pub mod HumbleLeads
 pub mod InTimeProof
 pub mod LoneProof
 pub mod NeverLateProof

@@ -3,6 +3,7 @@ pub mod AloneLeads
 pub mod AloneStands
 pub mod CausesFit
 pub mod FreshLeads
+pub mod Humble
 pub mod InTime
 pub mod LoneLeads
 pub mod Needed
