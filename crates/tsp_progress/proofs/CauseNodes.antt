@@ -33,7 +33,7 @@ causes_keep = record {
   gives_up = record { run = λ x past h. gives_up_cause.run x past (record { causes = h.0; heard = h.1 }) };
   abandons = free_puts Abandon refl;
   loops = loops_cause;
-  reposts = reposts_cause;
+  reposts = λ m is. reposts_cause m;
 }
 
 pub answers_caused : (g : NodeGiven) → LeadsAll (Each caused) (answers_all g) (Each caused)

@@ -21,7 +21,7 @@ pub record Meek (c x : ℕ) (past : Past) : Type 0 where
   pub humble : Humble c past.seen
 
 -- acts that a humble port puts, whatever was before
-abbrev is_meek : Act → Bool
+abbrev pub is_meek : Act → Bool
 is_meek (Become Candidate) = false
 is_meek (Become Master) = false
 is_meek (Arm Window at) = false
@@ -33,42 +33,42 @@ is_meek (Back p) = false
 is_meek (Post (Peer p) (Message m)) = is_humble m.kind
 is_meek _ = true
 
-abbrev backed_at : ℕ → PeerId → Option (ℕ × PeerId)
+abbrev pub backed_at : ℕ → PeerId → Option (ℕ × PeerId)
 backed_at b p = Some (b, p)
 
-no-back : {A : Type 0} {b : ℕ} {p : PeerId} → None ≡ backed_at b p → A
-no-back e = let bad : ⊥ = cc in absurd bad
+pub no_back : {A : Type 0} {b : ℕ} {p : PeerId} → None ≡ backed_at b p → A
+no_back e = let bad : ⊥ = cc in absurd bad
 
 meek-become : (c : ℕ) (r : Role) → leads_in r ≡ false → (d : Did) (seen : List Seen) → Humble c seen → Humble c (Here (record d { deed = Acts (Become r) }) ∷ seen)
 meek-become c r e d seen h = record { role_is = e; window = refl; probe = refl; close = refl; resolve = refl; round = refl; posts = (tt, h.posts); backs = h.backs }
 
-meek-keeps : (c : ℕ) (a : Act) → is_meek a ≡ true → (x : ℕ) (past : Past) → Humble c past.seen → Humble c (grown x past (a ∷ [])).seen
-meek-keeps c Boot e x past h = record { role_is = refl; window = refl; probe = refl; close = refl; resolve = refl; round = refl; posts = (tt, h.posts); backs = λ b p is. no-back is }
-meek-keeps c (Become Candidate) e x past h = absurd (true≢false (sym e))
-meek-keeps c (Become Master) e x past h = absurd (true≢false (sym e))
-meek-keeps c (Become Starting) e x past h = meek-become c Starting refl (record { step = past.step; tick = x; deed = Acts Boot }) past.seen h
-meek-keeps c (Become Loose) e x past h = meek-become c Loose refl (record { step = past.step; tick = x; deed = Acts Boot }) past.seen h
-meek-keeps c (Become (Follow p)) e x past h = meek-become c (Follow p) refl (record { step = past.step; tick = x; deed = Acts Boot }) past.seen h
-meek-keeps c (Arm Quiet at) e x past h = record { role_is = h.role_is; window = h.window; probe = h.probe; close = h.close; resolve = h.resolve; round = h.round; posts = (tt, h.posts); backs = h.backs }
-meek-keeps c (Arm Search at) e x past h = record { role_is = h.role_is; window = h.window; probe = h.probe; close = h.close; resolve = h.resolve; round = h.round; posts = (tt, h.posts); backs = h.backs }
-meek-keeps c (Arm Elect at) e x past h = record { role_is = h.role_is; window = h.window; probe = h.probe; close = h.close; resolve = h.resolve; round = h.round; posts = (tt, h.posts); backs = h.backs }
-meek-keeps c (Arm _ at) e x past h = absurd (true≢false (sym e))
-meek-keeps c (Back p) e x past h = absurd (true≢false (sym e))
-meek-keeps c (Post (Peer p) (Message m)) e x past h = record { role_is = h.role_is; window = h.window; probe = h.probe; close = h.close; resolve = h.resolve; round = h.round; posts = (e, h.posts); backs = h.backs }
-meek-keeps c (Ring Window) e x past h = record { role_is = h.role_is; window = refl; probe = h.probe; close = h.close; resolve = h.resolve; round = h.round; posts = (tt, h.posts); backs = h.backs }
-meek-keeps c (Ring Probe) e x past h = record { role_is = h.role_is; window = h.window; probe = refl; close = h.close; resolve = h.resolve; round = h.round; posts = (tt, h.posts); backs = h.backs }
-meek-keeps c (Ring CloseAlarm) e x past h = record { role_is = h.role_is; window = h.window; probe = h.probe; close = refl; resolve = h.resolve; round = h.round; posts = (tt, h.posts); backs = h.backs }
-meek-keeps c (Ring ResolveAlarm) e x past h = record { role_is = h.role_is; window = h.window; probe = h.probe; close = h.close; resolve = refl; round = h.round; posts = (tt, h.posts); backs = h.backs }
-meek-keeps c (Ring Round) e x past h = record { role_is = h.role_is; window = h.window; probe = h.probe; close = h.close; resolve = h.resolve; round = refl; posts = (tt, h.posts); backs = h.backs }
-meek-keeps c (Ring _) e x past h = record { role_is = h.role_is; window = h.window; probe = h.probe; close = h.close; resolve = h.resolve; round = h.round; posts = (tt, h.posts); backs = h.backs }
-meek-keeps c (Late Window) e x past h = record { role_is = h.role_is; window = refl; probe = h.probe; close = h.close; resolve = h.resolve; round = h.round; posts = (tt, h.posts); backs = h.backs }
-meek-keeps c (Late Probe) e x past h = record { role_is = h.role_is; window = h.window; probe = refl; close = h.close; resolve = h.resolve; round = h.round; posts = (tt, h.posts); backs = h.backs }
-meek-keeps c (Late CloseAlarm) e x past h = record { role_is = h.role_is; window = h.window; probe = h.probe; close = refl; resolve = h.resolve; round = h.round; posts = (tt, h.posts); backs = h.backs }
-meek-keeps c (Late ResolveAlarm) e x past h = record { role_is = h.role_is; window = h.window; probe = h.probe; close = h.close; resolve = refl; round = h.round; posts = (tt, h.posts); backs = h.backs }
-meek-keeps c (Late Round) e x past h = record { role_is = h.role_is; window = h.window; probe = h.probe; close = h.close; resolve = h.resolve; round = refl; posts = (tt, h.posts); backs = h.backs }
-meek-keeps c (Late _) e x past h = record { role_is = h.role_is; window = h.window; probe = h.probe; close = h.close; resolve = h.resolve; round = h.round; posts = (tt, h.posts); backs = h.backs }
-meek-keeps c Abandon e x past h = record { role_is = h.role_is; window = h.window; probe = refl; close = refl; resolve = h.resolve; round = h.round; posts = (tt, h.posts); backs = h.backs }
-meek-keeps c _ e x past h = record { role_is = h.role_is; window = h.window; probe = h.probe; close = h.close; resolve = h.resolve; round = h.round; posts = (tt, h.posts); backs = h.backs }
+pub meek_keeps : (c : ℕ) (a : Act) → is_meek a ≡ true → (x : ℕ) (past : Past) → Humble c past.seen → Humble c (grown x past (a ∷ [])).seen
+meek_keeps c Boot e x past h = record { role_is = refl; window = refl; probe = refl; close = refl; resolve = refl; round = refl; posts = (tt, h.posts); backs = λ b p is. no_back is }
+meek_keeps c (Become Candidate) e x past h = absurd (true≢false (sym e))
+meek_keeps c (Become Master) e x past h = absurd (true≢false (sym e))
+meek_keeps c (Become Starting) e x past h = meek-become c Starting refl (record { step = past.step; tick = x; deed = Acts Boot }) past.seen h
+meek_keeps c (Become Loose) e x past h = meek-become c Loose refl (record { step = past.step; tick = x; deed = Acts Boot }) past.seen h
+meek_keeps c (Become (Follow p)) e x past h = meek-become c (Follow p) refl (record { step = past.step; tick = x; deed = Acts Boot }) past.seen h
+meek_keeps c (Arm Quiet at) e x past h = record { role_is = h.role_is; window = h.window; probe = h.probe; close = h.close; resolve = h.resolve; round = h.round; posts = (tt, h.posts); backs = h.backs }
+meek_keeps c (Arm Search at) e x past h = record { role_is = h.role_is; window = h.window; probe = h.probe; close = h.close; resolve = h.resolve; round = h.round; posts = (tt, h.posts); backs = h.backs }
+meek_keeps c (Arm Elect at) e x past h = record { role_is = h.role_is; window = h.window; probe = h.probe; close = h.close; resolve = h.resolve; round = h.round; posts = (tt, h.posts); backs = h.backs }
+meek_keeps c (Arm _ at) e x past h = absurd (true≢false (sym e))
+meek_keeps c (Back p) e x past h = absurd (true≢false (sym e))
+meek_keeps c (Post (Peer p) (Message m)) e x past h = record { role_is = h.role_is; window = h.window; probe = h.probe; close = h.close; resolve = h.resolve; round = h.round; posts = (e, h.posts); backs = h.backs }
+meek_keeps c (Ring Window) e x past h = record { role_is = h.role_is; window = refl; probe = h.probe; close = h.close; resolve = h.resolve; round = h.round; posts = (tt, h.posts); backs = h.backs }
+meek_keeps c (Ring Probe) e x past h = record { role_is = h.role_is; window = h.window; probe = refl; close = h.close; resolve = h.resolve; round = h.round; posts = (tt, h.posts); backs = h.backs }
+meek_keeps c (Ring CloseAlarm) e x past h = record { role_is = h.role_is; window = h.window; probe = h.probe; close = refl; resolve = h.resolve; round = h.round; posts = (tt, h.posts); backs = h.backs }
+meek_keeps c (Ring ResolveAlarm) e x past h = record { role_is = h.role_is; window = h.window; probe = h.probe; close = h.close; resolve = refl; round = h.round; posts = (tt, h.posts); backs = h.backs }
+meek_keeps c (Ring Round) e x past h = record { role_is = h.role_is; window = h.window; probe = h.probe; close = h.close; resolve = h.resolve; round = refl; posts = (tt, h.posts); backs = h.backs }
+meek_keeps c (Ring _) e x past h = record { role_is = h.role_is; window = h.window; probe = h.probe; close = h.close; resolve = h.resolve; round = h.round; posts = (tt, h.posts); backs = h.backs }
+meek_keeps c (Late Window) e x past h = record { role_is = h.role_is; window = refl; probe = h.probe; close = h.close; resolve = h.resolve; round = h.round; posts = (tt, h.posts); backs = h.backs }
+meek_keeps c (Late Probe) e x past h = record { role_is = h.role_is; window = h.window; probe = refl; close = h.close; resolve = h.resolve; round = h.round; posts = (tt, h.posts); backs = h.backs }
+meek_keeps c (Late CloseAlarm) e x past h = record { role_is = h.role_is; window = h.window; probe = h.probe; close = refl; resolve = h.resolve; round = h.round; posts = (tt, h.posts); backs = h.backs }
+meek_keeps c (Late ResolveAlarm) e x past h = record { role_is = h.role_is; window = h.window; probe = h.probe; close = h.close; resolve = refl; round = h.round; posts = (tt, h.posts); backs = h.backs }
+meek_keeps c (Late Round) e x past h = record { role_is = h.role_is; window = h.window; probe = h.probe; close = h.close; resolve = h.resolve; round = refl; posts = (tt, h.posts); backs = h.backs }
+meek_keeps c (Late _) e x past h = record { role_is = h.role_is; window = h.window; probe = h.probe; close = h.close; resolve = h.resolve; round = h.round; posts = (tt, h.posts); backs = h.backs }
+meek_keeps c Abandon e x past h = record { role_is = h.role_is; window = h.window; probe = refl; close = refl; resolve = h.resolve; round = h.round; posts = (tt, h.posts); backs = h.backs }
+meek_keeps c _ e x past h = record { role_is = h.role_is; window = h.window; probe = h.probe; close = h.close; resolve = h.resolve; round = h.round; posts = (tt, h.posts); backs = h.backs }
 
 none-said : {A : Type 0} {m : MessageValue} → None ≡ Some m → A
 none-said e = let bad : ⊥ = cc in absurd bad
@@ -78,22 +78,22 @@ none-sent e = let bad : ⊥ = cc in absurd bad
 
 module _ (c : ℕ) where
   pub meek_puts : (a : Act) → is_meek a ≡ true → Leads (Meek c) (puts a) (Meek c)
-  meek_puts a e = Leads_puts a (λ x past h. record { may = h.may; humble = meek-keeps c a e x past h.humble })
+  meek_puts a e = Leads_puts a (λ x past h. record { may = h.may; humble = meek_keeps c a e x past h.humble })
 
 
   pub meek_arms : (a : Alarm) (long : ℕ) → ((at : ℕ) → is_meek (Arm a at) ≡ true) → Leads (Meek c) (arms a long) (Meek c)
   unfolding arms
-  meek_arms a long k = record { run = λ x past h. record { may = h.may; humble = meek-keeps c (Arm a (x + long)) (k (x + long)) x past h.humble } }
+  meek_arms a long k = record { run = λ x past h. record { may = h.may; humble = meek_keeps c (Arm a (x + long)) (k (x + long)) x past h.humble } }
 
   -- posts
 
   meek-post : (p : PeerId) (kind : Kind) (number : ℕ) → is_humble kind ≡ true → Leads (Meek c) (posts p kind number) (Meek c)
   unfolding posts
-  meek-post p kind number e = record { run = λ x past h. record { may = h.may; humble = meek-keeps c (post_of kind number past.name p) e x past h.humble } }
+  meek-post p kind number e = record { run = λ x past h. record { may = h.may; humble = meek_keeps c (post_of kind number past.name p) e x past h.humble } }
 
   meek-time : (p : PeerId) (kind : Kind) (number : ℕ) (time : ℤ) → is_humble kind ≡ true → Leads (Meek c) (posts_time p kind number time) (Meek c)
   unfolding posts_time
-  meek-time p kind number time e = record { run = λ x past h. record { may = h.may; humble = meek-keeps c _ e x past h.humble } }
+  meek-time p kind number time e = record { run = λ x past h. record { may = h.may; humble = meek_keeps c _ e x past h.humble } }
 
   post-back : (from : Place) (m : MessageValue) → is_humble m.kind ≡ true → is_meek (Post from (Message m)) ≡ true
   post-back (Peer p) m e = e
@@ -106,14 +106,14 @@ module _ (c : ℕ) where
 
   meek-back : (from : Place) (kind : Kind) (number : ℕ) → is_humble kind ≡ true → Leads (Meek c) (posts_back from kind number) (Meek c)
   unfolding posts_back
-  meek-back from kind number e = record { run = λ x past h. record { may = h.may; humble = meek-keeps c (Post from (Message (bare kind number past.name))) (post-back from (bare kind number past.name) e) x past h.humble } }
+  meek-back from kind number e = record { run = λ x past h. record { may = h.may; humble = meek_keeps c (Post from (Message (bare kind number past.name))) (post-back from (bare kind number past.name) e) x past h.humble } }
 
   meek-others : (kind : Kind) → is_humble kind ≡ true → Leads (Meek c) (posts_to_others kind 0) (Meek c)
   unfolding posts_to_others
   meek-others kind e = record { run = λ x past h. each x past (others past.own past.peers) past.name h } where
     each : (x : ℕ) (past : Past) (ps : List PeerId) (name : List ℕ) → Meek c x past → Meek c x (grown x past (map (post_of kind 0 name) ps))
     each x past [] name h = h
-    each x past (p ∷ ps) name h = each x (grown x past (post_of kind 0 name p ∷ [])) ps name (record { may = h.may; humble = meek-keeps c (post_of kind 0 name p) e x past h.humble })
+    each x past (p ∷ ps) name h = each x (grown x past (post_of kind 0 name p ∷ [])) ps name (record { may = h.may; humble = meek_keeps c (post_of kind 0 name p) e x past h.humble })
 
   -- rows that any role has
 
@@ -200,11 +200,11 @@ module _ (c : ℕ) where
 
   meek-adjusts : (amount : ℤ) → Leads (Meek c) (adjusts amount) (Meek c)
   unfolding adjusts
-  meek-adjusts amount = record { run = λ x past h. record { may = h.may; humble = meek-keeps c _ refl x past h.humble } }
+  meek-adjusts amount = record { run = λ x past h. record { may = h.may; humble = meek_keeps c _ refl x past h.humble } }
 
   meek-sets : (value : ℤ) → Leads (Meek c) (sets value) (Meek c)
   unfolding sets
-  meek-sets value = record { run = λ x past h. record { may = h.may; humble = meek-keeps c _ refl x past h.humble } }
+  meek-sets value = record { run = λ x past h. record { may = h.may; humble = meek_keeps c _ refl x past h.humble } }
 
   meek-confirms : (p : PeerId) (number : ℕ) → Leads (Meek c) (confirms p number) (Meek c)
   unfolding confirms
@@ -342,7 +342,7 @@ module _ (c : ℕ) where
 
   meek-replies : (from : Place) (word counter : ℕ) → Leads (Meek c) (replies from word counter) (Meek c)
   unfolding replies posts_reply
-  meek-replies from word counter = meek-either is_in_range _ nothing (record { run = λ x past h. record { may = h.may; humble = meek-keeps c _ (stamp-back from _ (λ m e. let bad : ⊥ = cc in absurd bad)) x past h.humble } }) Leads_nothing
+  meek-replies from word counter = meek-either is_in_range _ nothing (record { run = λ x past h. record { may = h.may; humble = meek_keeps c _ (stamp-back from _ (λ m e. let bad : ⊥ = cc in absurd bad)) x past h.humble } }) Leads_nothing
 
   meek-sampled : (r : ReplyValue) (p : PeerId) → Leads (Meek c) (peer_replies r p) (Meek c)
   unfolding peer_replies replies_in
@@ -458,7 +458,7 @@ module _ (c : ℕ) where
       (Leads_either (is_spent s) (gives_up p s.message.kind) (puts (Post (Peer p) (Message s.message))) (Leads_from (λ x past h. h.0.0.0) (meek-gives p s.message.kind))
       (Leads_puts (Post (Peer p) (Message s.message)) (λ x past h. let k = h.0.0.0 in record {
         may = k.may;
-        humble = meek-keeps c (Post (Peer p) (Message s.message)) (open-humble p past.seen k.humble.posts s.message (send-message (open_to p past.seen) (posts_of p past.seen) s h.0.0.1)) x past k.humble;
+        humble = meek_keeps c (Post (Peer p) (Message s.message)) (open-humble p past.seen k.humble.posts s.message (send-message (open_to p past.seen) (posts_of p past.seen) s h.0.0.1)) x past k.humble;
       })))
       (Leads_from (λ x past h. h.0.0) Leads_nothing)
 

@@ -4,6 +4,7 @@ pub mod CauseLeads
 pub mod CauseNodes
 pub mod FreshProof
 pub mod HumbleLeads
+pub mod HumbleNodes
 pub mod InTimeProof
 pub mod LoneProof
 pub mod NeverLateProof

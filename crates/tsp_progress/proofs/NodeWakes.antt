@@ -80,7 +80,7 @@ awake_keeps = record {
   gives_up = gives_up_far;
   abandons = far Abandon refl;
   loops = λ q. calm {sorts = Posting ∷ []} refl refl (built_sends_loops q tt);
-  reposts = reposts_far;
+  reposts = λ m is. reposts_far m;
 }
 
 -- what a node answers keeps each of its ports awake
