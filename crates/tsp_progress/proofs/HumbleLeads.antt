@@ -1,15 +1,25 @@
 -- Each row of a port whose node may not be master keeps it humble.
-use Rattle.std.proofs.Common.{sym, ap, subst, true≢false, ◌∙◌, ◌≡◌, ℕ, ℤ, ◌+◌, ◌*◌, ◌==◌, ◌||◌, ◌&&◌, nat_le, eq-eqb, Bool, true, false, if◌then◌else◌, List, [], ◌∷◌, Option, None, Some, map, refl}
-use Rattle.std.proofs.lemmas.Bool.{and_parts, and_right}
-use Rattle.tsp_rules.specs.Values.{Act, Boot, Took, Post, Become, Arm, Ring, Late, Back, Quit, Abandon, Acked, Gave, Leave, Alarm, Quiet, Search, Elect, Window, Probe, CloseAlarm, ResolveAlarm, Round, PeerId, Place, Peer, Stranger, Port, Role, Starting, Loose, Follow, Candidate, Master, Kind, Accept, Ack, AdjTime, Conflict, Date, DateAck, DateReq, Election, LoopKind, MasterAck, MasterReq, MasterUp, Msite, MsiteReq, QuitKind, Refuse, ResolveKind, SetDate, SetDateReq, SetTime, SlaveUp, Test, TraceOff, TraceOn, Taken, Good, Bad, Datagram, Message, Stamp, Request, Reply, WINDOW, ELECT_MIN, HOLD}
-use Rattle.tsp_base.specs.Words.{Acts, Deed, Did, Here, Elsewhere, MessageValue, Past, Row, Seen, Sending, Leads, arms, armed, armed_after, bare, deadline, for_each, grown, held, message_at, message_of, may_back_after, nothing, open_send, open_to, open_to_after, others, post_of, posts, posts_back, posts_of, posts_time, posts_to_others, puts, either_by, reading, role, sending_at, time_in, acting, ◌followed_by◌}
-use Rattle.tsp_base.proofs.LeadsLemmas.{Leads_then, Leads_either, Leads_reading, Leads_nothing, Leads_puts, Leads_each, Leads_from, Leads_to}
-use Rattle.tsp_rules.specs.CommonRows.{arms_elect, candidature_row, follow_row, follows_unless, is_awake, is_idle, may_be_asked, names_master, master_name, posts_reply, quits, replies, says_master, searches, tells_ticket, tests, traces}
-use Rattle.tsp_rules.specs.SlaveRows.{quiet_rings, rings_or_late, search_rings, loosens, elect_rings, reports_conflict, masterup_in, masterack_in, election_of, acks_repeat, confirms, adjtime_of, settime_of, from_master, slave_takes, slave_takes_kind, takes_amount, takes_value}
-use Rattle.tsp_rules.specs.Guards.{delay_at, is_due, is_follow, is_heard, is_in_time, is_armed, is_own, is_over, is_master_at, is_in_range, may_back_at, may_stand_at, follows_at, role_at, ticket_at}
-use Rattle.tsp_rules.specs.SendRows.{acknowledges, begins, begins_timed, next_number, due_send, due_sends, gives_up, is_send_due, is_spent, leaves_after, open_at, peers_at, repeats, repeats_send}
+use Rattle.std.proofs.Common.{sym, ap, subst, true≢false, ◌∙◌, ◌≡◌, ℕ, ℤ, ◌+◌, ◌==◌, ◌&&◌, eq-eqb, Bool, true, false, if◌then◌else◌, List, [], ◌∷◌, Option}
+use Rattle.std.proofs.Common.{None, Some, map, refl}
+use Rattle.std.proofs.lemmas.Bool.{and_right}
+use Rattle.tsp_rules.specs.Values.{Act, Boot, Took, Post, Become, Arm, Ring, Late, Back, Quit, Abandon, Acked, Gave, Leave, Alarm, Quiet, Search, Elect, Window}
+use Rattle.tsp_rules.specs.Values.{Probe, CloseAlarm, ResolveAlarm, Round, PeerId, Place, Peer, Stranger, Role, Starting, Loose, Follow, Candidate, Master}
+use Rattle.tsp_rules.specs.Values.{Kind, Accept, Ack, AdjTime, Conflict, Date, DateAck, DateReq, Election, LoopKind, MasterAck, MasterReq, MasterUp, Msite}
+use Rattle.tsp_rules.specs.Values.{MsiteReq, QuitKind, Refuse, SetDate, SetDateReq, SetTime, SlaveUp, Test, TraceOff, TraceOn, Taken, Good, Bad, Datagram}
+use Rattle.tsp_rules.specs.Values.{Message, Stamp, Request, Reply, WINDOW}
+use Rattle.tsp_base.specs.Words.{Acts, Deed, Did, Here, Elsewhere, MessageValue, Past, Row, Seen, Sending, Leads, arms, armed, bare, deadline, for_each, grown}
+use Rattle.tsp_base.specs.Words.{held, message_at, message_of, may_back_after, nothing, open_to, open_to_after, others, post_of, posts, posts_back, posts_of}
+use Rattle.tsp_base.specs.Words.{posts_time, posts_to_others, puts, either_by, reading, role, sending_at, time_in, acting, ◌followed_by◌}
+use Rattle.tsp_base.proofs.LeadsLemmas.{Leads_then, Leads_either, Leads_reading, Leads_nothing, Leads_puts, Leads_each, Leads_from}
+use Rattle.tsp_rules.specs.CommonRows.{arms_elect, candidature_row, follow_row, follows_unless, is_awake, is_idle, may_be_asked, names_master, master_name}
+use Rattle.tsp_rules.specs.CommonRows.{posts_reply, quits, replies, says_master, searches, tells_ticket, tests, traces}
+use Rattle.tsp_rules.specs.SlaveRows.{quiet_rings, rings_or_late, search_rings, loosens, elect_rings, reports_conflict, masterup_in, masterack_in, election_of}
+use Rattle.tsp_rules.specs.SlaveRows.{acks_repeat, confirms, adjtime_of, settime_of, from_master, slave_takes, slave_takes_kind, takes_amount, takes_value}
+use Rattle.tsp_rules.specs.Guards.{delay_at, is_due, is_heard, is_in_time, is_armed, is_own, is_over, is_master_at, is_in_range, may_back_at, may_stand_at}
+use Rattle.tsp_rules.specs.Guards.{follows_at, role_at, ticket_at}
+use Rattle.tsp_rules.specs.SendRows.{acknowledges, begins, begins_timed, next_number, due_send, due_sends, gives_up, is_send_due, is_spent, leaves_after}
+use Rattle.tsp_rules.specs.SendRows.{open_at, peers_at, repeats, repeats_send}
 use Rattle.tsp_rules.specs.Answers.{alarm_rings, from_peer, handles, handles_kind, is_left, peer_replies, peer_says, replies_in, rings, says_in, takes}
-use Rattle.tsp_rules.proofs.Emits.{Sort, Booting, Taking, Leading, Following, Changing, Backing, Alarming, Rounding, Posting, Numbering, Correcting, Passing, Asking, Acking, Moving, Emits, Keeps_by, is_in, is_part, sort_of, Emits_adjusts, Emits_sets}
 use Rattle.tsp_rules.specs.ClockRows.{adjusts, sets}
 use Rattle.tsp_rules.specs.DateRows.{date_acked, date_acked_in, date_in, date_of, date_request_in, date_request_of, passes_on}
 use Rattle.tsp_base.specs.Words.{ReplyValue, did_of, is_numbered, sending_of}
@@ -39,36 +49,57 @@ backed_at b p = Some (b, p)
 pub no_back : {A : Type 0} {b : ℕ} {p : PeerId} → None ≡ backed_at b p → A
 no_back e = let bad : ⊥ = cc in absurd bad
 
-meek-become : (c : ℕ) (r : Role) → leads_in r ≡ false → (d : Did) (seen : List Seen) → Humble c seen → Humble c (Here (record d { deed = Acts (Become r) }) ∷ seen)
-meek-become c r e d seen h = record { role_is = e; window = refl; probe = refl; close = refl; resolve = refl; round = refl; posts = (tt, h.posts); backs = h.backs }
+meek-become : (c : ℕ) (r : Role) → leads_in r ≡ false → (d : Did) (seen : List Seen) → Humble c seen → Humble c (Here (record d { deed = Acts (Become r) }) ∷
+    seen)
+meek-become c r e d seen h = record { role_is = e; window = refl; probe = refl; close = refl; resolve = refl; round = refl; posts = (tt, h.posts);
+    backs = h.backs }
 
 pub meek_keeps : (c : ℕ) (a : Act) → is_meek a ≡ true → (x : ℕ) (past : Past) → Humble c past.seen → Humble c (grown x past (a ∷ [])).seen
-meek_keeps c Boot e x past h = record { role_is = refl; window = refl; probe = refl; close = refl; resolve = refl; round = refl; posts = (tt, h.posts); backs = λ b p is. no_back is }
+meek_keeps c Boot e x past h = record { role_is = refl; window = refl; probe = refl; close = refl; resolve = refl; round = refl; posts = (tt, h.posts);
+    backs = λ b p is. no_back is }
 meek_keeps c (Become Candidate) e x past h = absurd (true≢false (sym e))
 meek_keeps c (Become Master) e x past h = absurd (true≢false (sym e))
 meek_keeps c (Become Starting) e x past h = meek-become c Starting refl (record { step = past.step; tick = x; deed = Acts Boot }) past.seen h
 meek_keeps c (Become Loose) e x past h = meek-become c Loose refl (record { step = past.step; tick = x; deed = Acts Boot }) past.seen h
 meek_keeps c (Become (Follow p)) e x past h = meek-become c (Follow p) refl (record { step = past.step; tick = x; deed = Acts Boot }) past.seen h
-meek_keeps c (Arm Quiet at) e x past h = record { role_is = h.role_is; window = h.window; probe = h.probe; close = h.close; resolve = h.resolve; round = h.round; posts = (tt, h.posts); backs = h.backs }
-meek_keeps c (Arm Search at) e x past h = record { role_is = h.role_is; window = h.window; probe = h.probe; close = h.close; resolve = h.resolve; round = h.round; posts = (tt, h.posts); backs = h.backs }
-meek_keeps c (Arm Elect at) e x past h = record { role_is = h.role_is; window = h.window; probe = h.probe; close = h.close; resolve = h.resolve; round = h.round; posts = (tt, h.posts); backs = h.backs }
+meek_keeps c (Arm Quiet at) e x past h = record { role_is = h.role_is; window = h.window; probe = h.probe; close = h.close; resolve = h.resolve;
+    round = h.round; posts = (tt, h.posts); backs = h.backs }
+meek_keeps c (Arm Search at) e x past h = record { role_is = h.role_is; window = h.window; probe = h.probe; close = h.close; resolve = h.resolve;
+    round = h.round; posts = (tt, h.posts); backs = h.backs }
+meek_keeps c (Arm Elect at) e x past h = record { role_is = h.role_is; window = h.window; probe = h.probe; close = h.close; resolve = h.resolve;
+    round = h.round; posts = (tt, h.posts); backs = h.backs }
 meek_keeps c (Arm _ at) e x past h = absurd (true≢false (sym e))
 meek_keeps c (Back p) e x past h = absurd (true≢false (sym e))
-meek_keeps c (Post (Peer p) (Message m)) e x past h = record { role_is = h.role_is; window = h.window; probe = h.probe; close = h.close; resolve = h.resolve; round = h.round; posts = (e, h.posts); backs = h.backs }
-meek_keeps c (Ring Window) e x past h = record { role_is = h.role_is; window = refl; probe = h.probe; close = h.close; resolve = h.resolve; round = h.round; posts = (tt, h.posts); backs = h.backs }
-meek_keeps c (Ring Probe) e x past h = record { role_is = h.role_is; window = h.window; probe = refl; close = h.close; resolve = h.resolve; round = h.round; posts = (tt, h.posts); backs = h.backs }
-meek_keeps c (Ring CloseAlarm) e x past h = record { role_is = h.role_is; window = h.window; probe = h.probe; close = refl; resolve = h.resolve; round = h.round; posts = (tt, h.posts); backs = h.backs }
-meek_keeps c (Ring ResolveAlarm) e x past h = record { role_is = h.role_is; window = h.window; probe = h.probe; close = h.close; resolve = refl; round = h.round; posts = (tt, h.posts); backs = h.backs }
-meek_keeps c (Ring Round) e x past h = record { role_is = h.role_is; window = h.window; probe = h.probe; close = h.close; resolve = h.resolve; round = refl; posts = (tt, h.posts); backs = h.backs }
-meek_keeps c (Ring _) e x past h = record { role_is = h.role_is; window = h.window; probe = h.probe; close = h.close; resolve = h.resolve; round = h.round; posts = (tt, h.posts); backs = h.backs }
-meek_keeps c (Late Window) e x past h = record { role_is = h.role_is; window = refl; probe = h.probe; close = h.close; resolve = h.resolve; round = h.round; posts = (tt, h.posts); backs = h.backs }
-meek_keeps c (Late Probe) e x past h = record { role_is = h.role_is; window = h.window; probe = refl; close = h.close; resolve = h.resolve; round = h.round; posts = (tt, h.posts); backs = h.backs }
-meek_keeps c (Late CloseAlarm) e x past h = record { role_is = h.role_is; window = h.window; probe = h.probe; close = refl; resolve = h.resolve; round = h.round; posts = (tt, h.posts); backs = h.backs }
-meek_keeps c (Late ResolveAlarm) e x past h = record { role_is = h.role_is; window = h.window; probe = h.probe; close = h.close; resolve = refl; round = h.round; posts = (tt, h.posts); backs = h.backs }
-meek_keeps c (Late Round) e x past h = record { role_is = h.role_is; window = h.window; probe = h.probe; close = h.close; resolve = h.resolve; round = refl; posts = (tt, h.posts); backs = h.backs }
-meek_keeps c (Late _) e x past h = record { role_is = h.role_is; window = h.window; probe = h.probe; close = h.close; resolve = h.resolve; round = h.round; posts = (tt, h.posts); backs = h.backs }
-meek_keeps c Abandon e x past h = record { role_is = h.role_is; window = h.window; probe = refl; close = refl; resolve = h.resolve; round = h.round; posts = (tt, h.posts); backs = h.backs }
-meek_keeps c _ e x past h = record { role_is = h.role_is; window = h.window; probe = h.probe; close = h.close; resolve = h.resolve; round = h.round; posts = (tt, h.posts); backs = h.backs }
+meek_keeps c (Post (Peer p) (Message m)) e x past h = record { role_is = h.role_is; window = h.window; probe = h.probe; close = h.close; resolve = h.resolve;
+    round = h.round; posts = (e, h.posts); backs = h.backs }
+meek_keeps c (Ring Window) e x past h = record { role_is = h.role_is; window = refl; probe = h.probe; close = h.close; resolve = h.resolve; round = h.round;
+    posts = (tt, h.posts); backs = h.backs }
+meek_keeps c (Ring Probe) e x past h = record { role_is = h.role_is; window = h.window; probe = refl; close = h.close; resolve = h.resolve; round = h.round;
+    posts = (tt, h.posts); backs = h.backs }
+meek_keeps c (Ring CloseAlarm) e x past h = record { role_is = h.role_is; window = h.window; probe = h.probe; close = refl; resolve = h.resolve;
+    round = h.round; posts = (tt, h.posts); backs = h.backs }
+meek_keeps c (Ring ResolveAlarm) e x past h = record { role_is = h.role_is; window = h.window; probe = h.probe; close = h.close; resolve = refl;
+    round = h.round; posts = (tt, h.posts); backs = h.backs }
+meek_keeps c (Ring Round) e x past h = record { role_is = h.role_is; window = h.window; probe = h.probe; close = h.close; resolve = h.resolve; round = refl;
+    posts = (tt, h.posts); backs = h.backs }
+meek_keeps c (Ring _) e x past h = record { role_is = h.role_is; window = h.window; probe = h.probe; close = h.close; resolve = h.resolve; round = h.round;
+    posts = (tt, h.posts); backs = h.backs }
+meek_keeps c (Late Window) e x past h = record { role_is = h.role_is; window = refl; probe = h.probe; close = h.close; resolve = h.resolve; round = h.round;
+    posts = (tt, h.posts); backs = h.backs }
+meek_keeps c (Late Probe) e x past h = record { role_is = h.role_is; window = h.window; probe = refl; close = h.close; resolve = h.resolve; round = h.round;
+    posts = (tt, h.posts); backs = h.backs }
+meek_keeps c (Late CloseAlarm) e x past h = record { role_is = h.role_is; window = h.window; probe = h.probe; close = refl; resolve = h.resolve;
+    round = h.round; posts = (tt, h.posts); backs = h.backs }
+meek_keeps c (Late ResolveAlarm) e x past h = record { role_is = h.role_is; window = h.window; probe = h.probe; close = h.close; resolve = refl;
+    round = h.round; posts = (tt, h.posts); backs = h.backs }
+meek_keeps c (Late Round) e x past h = record { role_is = h.role_is; window = h.window; probe = h.probe; close = h.close; resolve = h.resolve; round = refl;
+    posts = (tt, h.posts); backs = h.backs }
+meek_keeps c (Late _) e x past h = record { role_is = h.role_is; window = h.window; probe = h.probe; close = h.close; resolve = h.resolve; round = h.round;
+    posts = (tt, h.posts); backs = h.backs }
+meek_keeps c Abandon e x past h = record { role_is = h.role_is; window = h.window; probe = refl; close = refl; resolve = h.resolve; round = h.round;
+    posts = (tt, h.posts); backs = h.backs }
+meek_keeps c _ e x past h = record { role_is = h.role_is; window = h.window; probe = h.probe; close = h.close; resolve = h.resolve; round = h.round;
+    posts = (tt, h.posts); backs = h.backs }
 
 none-said : {A : Type 0} {m : MessageValue} → None ≡ Some m → A
 none-said e = let bad : ⊥ = cc in absurd bad
@@ -79,7 +110,6 @@ none-sent e = let bad : ⊥ = cc in absurd bad
 module _ (c : ℕ) where
   pub meek_puts : (a : Act) → is_meek a ≡ true → Leads (Meek c) (puts a) (Meek c)
   meek_puts a e = Leads_puts a (λ x past h. record { may = h.may; humble = meek_keeps c a e x past h.humble })
-
 
   pub meek_arms : (a : Alarm) (long : ℕ) → ((at : ℕ) → is_meek (Arm a at) ≡ true) → Leads (Meek c) (arms a long) (Meek c)
   unfolding arms
@@ -106,14 +136,16 @@ module _ (c : ℕ) where
 
   meek-back : (from : Place) (kind : Kind) (number : ℕ) → is_humble kind ≡ true → Leads (Meek c) (posts_back from kind number) (Meek c)
   unfolding posts_back
-  meek-back from kind number e = record { run = λ x past h. record { may = h.may; humble = meek_keeps c (Post from (Message (bare kind number past.name))) (post-back from (bare kind number past.name) e) x past h.humble } }
+  meek-back from kind number e = record { run = λ x past h. record { may = h.may;
+      humble = meek_keeps c (Post from (Message (bare kind number past.name))) (post-back from (bare kind number past.name) e) x past h.humble } }
 
   meek-others : (kind : Kind) → is_humble kind ≡ true → Leads (Meek c) (posts_to_others kind 0) (Meek c)
   unfolding posts_to_others
   meek-others kind e = record { run = λ x past h. each x past (others past.own past.peers) past.name h } where
     each : (x : ℕ) (past : Past) (ps : List PeerId) (name : List ℕ) → Meek c x past → Meek c x (grown x past (map (post_of kind 0 name) ps))
     each x past [] name h = h
-    each x past (p ∷ ps) name h = each x (grown x past (post_of kind 0 name p ∷ [])) ps name (record { may = h.may; humble = meek_keeps c (post_of kind 0 name p) e x past h.humble })
+    each x past (p ∷ ps) name h = each x (grown x past (post_of kind 0 name p ∷ [])) ps name (record { may = h.may;
+        humble = meek_keeps c (post_of kind 0 name p) e x past h.humble })
 
   -- rows that any role has
 
@@ -179,7 +211,8 @@ module _ (c : ℕ) where
   backs-c : (p : PeerId) → p.0 ≡ c → Leads (Meek c) (puts (Back p)) (Meek c)
   backs-c p is = Leads_puts (Back p) (λ x past h. let k = h.humble in record {
     may = h.may;
-    humble = record { role_is = k.role_is; window = k.window; probe = k.probe; close = k.close; resolve = k.resolve; round = k.round; posts = (tt, k.posts); backs = λ b q e. sym (ap (λ (o : Option (ℕ × PeerId)). peer o p.0) e) ∙ is };
+    humble = record { role_is = k.role_is; window = k.window; probe = k.probe; close = k.close; resolve = k.resolve; round = k.round; posts = (tt, k.posts);
+        backs = λ b q e. sym (ap (λ (o : Option (ℕ × PeerId)). peer o p.0) e) ∙ is };
   }) where
     peer : Option (ℕ × PeerId) → ℕ → ℕ
     peer None other = other
@@ -238,8 +271,10 @@ module _ (c : ℕ) where
   meek-slave p m MasterUp e = Leads_reading role_at (masterup_in p) (λ r. Leads_from (λ x past h. h.0) (meek-masterup p r))
   meek-slave p m MasterAck e = Leads_reading role_at (masterack_in p) (λ r. Leads_from (λ x past h. h.0) (meek-masterack p r))
   meek-slave p m Election e = meek-election p m.number (e refl)
-  meek-slave p m AdjTime e = Leads_reading role_at _ (λ r. Leads_from (λ x past h. h.0) (meek-from p (adjtime_of p m.number (time_in m.body)) r (meek-adjtime p m.number (time_in m.body))))
-  meek-slave p m SetTime e = Leads_reading role_at _ (λ r. Leads_from (λ x past h. h.0) (meek-from p (settime_of p m.number (time_in m.body)) r (meek-settime p m.number (time_in m.body))))
+  meek-slave p m AdjTime e = Leads_reading role_at _ (λ r. Leads_from (λ x past h. h.0) (meek-from p (adjtime_of p m.number (time_in m.body)) r
+      (meek-adjtime p m.number (time_in m.body))))
+  meek-slave p m SetTime e = Leads_reading role_at _ (λ r. Leads_from (λ x past h. h.0) (meek-from p (settime_of p m.number (time_in m.body)) r
+      (meek-settime p m.number (time_in m.body))))
   meek-slave p m QuitKind e = meek-quits p m.number
   meek-slave p m Ack e = meek-acks p m.number
   meek-slave p m _ e = Leads_nothing
@@ -248,7 +283,8 @@ module _ (c : ℕ) where
   leads-not : {row : Row} {Q : ℕ → Past → Type 0} (r : Role) → leads_in r ≡ true → Leads (λ x past. Meek c x past × (role_at x past ≡ r)) row Q
   leads-not r e = record { run = λ x past h. absurd (true≢false (sym (ap leads_in h.1 ∙ e) ∙ h.0.humble.role_is)) }
 
-  meek-says : (p : PeerId) (m : MessageValue) (r : Role) → (m.kind ≡ Election → p.0 ≡ c) → Leads (λ x past. Meek c x past × (role_at x past ≡ r)) (says_in p m r) (Meek c)
+  meek-says : (p : PeerId) (m : MessageValue) (r : Role) → (m.kind ≡ Election → p.0 ≡ c) →
+      Leads (λ x past. Meek c x past × (role_at x past ≡ r)) (says_in p m r) (Meek c)
   unfolding says_in slave_takes
   meek-says p m Starting e = Leads_from (λ x past h. h.0) Leads_nothing
   meek-says p m Candidate e = leads-not Candidate refl
@@ -256,7 +292,8 @@ module _ (c : ℕ) where
   meek-says p m Loose e = Leads_from (λ x past h. h.0) (meek-slave p m m.kind e)
   meek-says p m (Follow q) e = Leads_from (λ x past h. h.0) (meek-slave p m m.kind e)
 
-  meek-peer : (from : Place) (row : PeerId → Row) → ((p : PeerId) → from ≡ Peer p → Leads (Meek c) (row p) (Meek c)) → Leads (Meek c) (from_peer from row) (Meek c)
+  meek-peer : (from : Place) (row : PeerId → Row) → ((p : PeerId) → from ≡ Peer p → Leads (Meek c) (row p) (Meek c)) →
+      Leads (Meek c) (from_peer from row) (Meek c)
   unfolding from_peer
   meek-peer (Peer p) row d = meek-either (is_heard p) (row p) nothing (d p refl) Leads_nothing
   meek-peer Stranger row d = Leads_nothing
@@ -265,7 +302,8 @@ module _ (c : ℕ) where
 
   meek-named : (from : Place) (number : ℕ) → Leads (Meek c) (names_master from number) (Meek c)
   unfolding names_master
-  meek-named from number = Leads_reading master_name (λ name. puts (Post from (Message (bare Ack number name)))) (λ name. Leads_from (λ x past h. h.0) (meek_puts (Post from (Message (bare Ack number name))) (post-back from (bare Ack number name) refl)))
+  meek-named from number = Leads_reading master_name (λ name. puts (Post from (Message (bare Ack number name))))
+      (λ name. Leads_from (λ x past h. h.0) (meek_puts (Post from (Message (bare Ack number name))) (post-back from (bare Ack number name) refl)))
 
   meek-traces : (from : Place) (number : ℕ) (on : Bool) → Leads (Meek c) (traces from number on) (Meek c)
   unfolding traces
@@ -290,7 +328,8 @@ module _ (c : ℕ) where
       (Leads_then {Q = Meek c} (posts_back from Ack number) (reading next_number (λ n. posts_time q SetDateReq n time)) (meek-back from Ack number refl)
       (Leads_reading next_number (λ n. posts_time q SetDateReq n time) (λ n. Leads_from (λ x past h. h.0) (meek-time q SetDateReq n time refl)))) Leads_nothing
 
-  meek-date-in : (from : Place) (number : ℕ) (time : ℤ) (r : Role) → Leads (λ x past. Meek c x past × (role_at x past ≡ r)) (date_in from number time r) (Meek c)
+  meek-date-in : (from : Place) (number : ℕ) (time : ℤ) (r : Role) → Leads (λ x past. Meek c x past × (role_at x past ≡ r)) (date_in from number time r)
+      (Meek c)
   unfolding date_in
   meek-date-in from number time (Follow q) = Leads_from (λ x past h. h.0) (meek-passes from q number time)
   meek-date-in from number time Master = leads-not Master refl
@@ -325,7 +364,8 @@ module _ (c : ℕ) where
   unfolding peer_says
   meek-peer-says from m ok p is = Leads_reading role_at (says_in p m) (λ r. meek-says p m r (subst (λ f. Mild c f (Good (Message m))) is ok))
 
-  meek-kind : (charge : Bool) (from : Place) (m : MessageValue) (k : Kind) → Mild c from (Good (Message m)) → Leads (Meek c) (handles_kind charge from m k) (Meek c)
+  meek-kind : (charge : Bool) (from : Place) (m : MessageValue) (k : Kind) → Mild c from (Good (Message m)) →
+      Leads (Meek c) (handles_kind charge from m k) (Meek c)
   unfolding handles_kind
   meek-kind charge from m Msite ok = meek-named from m.number
   meek-kind charge from m MsiteReq ok = meek-says-master from m.number
@@ -342,7 +382,8 @@ module _ (c : ℕ) where
 
   meek-replies : (from : Place) (word counter : ℕ) → Leads (Meek c) (replies from word counter) (Meek c)
   unfolding replies posts_reply
-  meek-replies from word counter = meek-either is_in_range _ nothing (record { run = λ x past h. record { may = h.may; humble = meek_keeps c _ (stamp-back from _ (λ m e. let bad : ⊥ = cc in absurd bad)) x past h.humble } }) Leads_nothing
+  meek-replies from word counter = meek-either is_in_range _ nothing (record { run = λ x past h. record { may = h.may;
+      humble = meek_keeps c _ (stamp-back from _ (λ m e. let bad : ⊥ = cc in absurd bad)) x past h.humble } }) Leads_nothing
 
   meek-sampled : (r : ReplyValue) (p : PeerId) → Leads (Meek c) (peer_replies r p) (Meek c)
   unfolding peer_replies replies_in
@@ -354,19 +395,22 @@ module _ (c : ℕ) where
   meek-handles : (steer charge : Bool) (from : Place) (t : Taken) → Mild c from t → Leads (Meek c) (handles steer charge from t) (Meek c)
   unfolding handles
   meek-handles steer charge from (Bad fault) ok = Leads_nothing
-  meek-handles steer charge from (Good (Message m)) ok = meek-either (is_left steer m.kind) nothing (handles_kind charge from m m.kind) Leads_nothing (meek-kind charge from m m.kind ok)
+  meek-handles steer charge from (Good (Message m)) ok = meek-either (is_left steer m.kind) nothing (handles_kind charge from m m.kind) Leads_nothing
+      (meek-kind charge from m m.kind ok)
   meek-handles steer charge from (Good (Stamp (Request word counter))) ok = meek-replies from word counter
   meek-handles steer charge from (Good (Stamp (Reply r))) ok = meek-peer from (peer_replies r) (λ p is. meek-sampled r p)
 
   pub meek_takes : (steer charge : Bool) (from : Place) (t : Taken) → Mild c from t → Leads (Meek c) (takes steer charge from t) (Meek c)
   unfolding takes
-  meek_takes steer charge from t ok = Leads_then {Q = Meek c} (puts (Took from t)) (either_by (is_own from) nothing (handles steer charge from t)) (meek_puts (Took from t) refl)
+  meek_takes steer charge from t ok = Leads_then {Q = Meek c} (puts (Took from t)) (either_by (is_own from) nothing (handles steer charge from t))
+      (meek_puts (Took from t) refl)
       (meek-either (is_own from) nothing (handles steer charge from t) Leads_nothing (meek-handles steer charge from t ok))
 
   -- the alarms
 
   -- an alarm that isn't armed isn't due
-  not-due : {row : Row} {Q : ℕ → Past → Type 0} (a : Alarm) → ((seen : List Seen) → Humble c seen → deadline (armed seen) a ≡ None) → Leads (λ x past. Meek c x past × (is_due a x past ≡ true)) row Q
+  not-due : {row : Row} {Q : ℕ → Past → Type 0} (a : Alarm) → ((seen : List Seen) → Humble c seen → deadline (armed seen) a ≡ None) →
+      Leads (λ x past. Meek c x past × (is_due a x past ≡ true)) row Q
   not-due a k = record { run = λ x past h. absurd (true≢false (sym h.1 ∙ ap (λ o. is_over o x) (k past.seen h.0.humble))) }
 
   meek-quiet : Leads (Meek c) quiet_rings (Meek c)
@@ -385,7 +429,8 @@ module _ (c : ℕ) where
 
   meek-elects : Leads (Meek c) elect_rings (Meek c)
   unfolding elect_rings
-  meek-elects = meek-either (is_in_time Elect) (puts (Ring Elect) followed_by either_by may_stand_at candidature_row (loosens followed_by searches)) (puts (Late Elect) followed_by arms_elect)
+  meek-elects = meek-either (is_in_time Elect) (puts (Ring Elect) followed_by either_by may_stand_at candidature_row (loosens followed_by searches))
+      (puts (Late Elect) followed_by arms_elect)
       (Leads_then {Q = Meek c} (puts (Ring Elect)) (either_by may_stand_at candidature_row (loosens followed_by searches)) (meek_puts (Ring Elect) refl)
       (Leads_either may_stand_at candidature_row (loosens followed_by searches)
       (record { run = λ x past h. absurd (true≢false (sym h.1 ∙ cannot x past h.0.may)) })
@@ -417,11 +462,13 @@ module _ (c : ℕ) where
   open-humble p [] k m e = none-said e
   open-humble p (Elsewhere d ∷ before) k m e = open-humble p before k m e
   open-humble p (Here d ∷ before) k m e = by_deed d.deed refl k.0 (open-humble p before k.1 m) e where
-    by_off : (b : Bool) → (message_at (open_to p before) ≡ Some m → is_humble m.kind ≡ true) → message_at (if b then [] else open_to p before) ≡ Some m → is_humble m.kind ≡ true
+    by_off : (b : Bool) → (message_at (open_to p before) ≡ Some m → is_humble m.kind ≡ true) → message_at (if b then [] else open_to p before) ≡ Some m →
+        is_humble m.kind ≡ true
     by_off true older e = none-said e
     by_off false older e = older e
 
-    by_post : (b : Bool) (to : PeerId) (said : MessageValue) → d.deed ≡ Acts (Post (Peer to) (Message said)) → is_humble said.kind ≡ true → (message_at (open_to p before) ≡ Some m → is_humble m.kind ≡ true) →
+    by_post : (b : Bool) (to : PeerId) (said : MessageValue) → d.deed ≡ Acts (Post (Peer to) (Message said)) → is_humble said.kind ≡ true →
+        (message_at (open_to p before) ≡ Some m → is_humble m.kind ≡ true) →
         message_at (if b then Here d ∷ before else open_to p before) ≡ Some m → is_humble m.kind ≡ true
     by_post true to said is humble older e = subst (λ k. is_humble k ≡ true) (ap (kind-or m) (sym (ap message_of is) ∙ e)) humble where
       kind-or : MessageValue → Option MessageValue → Kind
@@ -429,7 +476,8 @@ module _ (c : ℕ) where
       kind-or other (Some k) = k.kind
     by_post false to said is humble older e = older e
 
-    by_deed : (deed : Deed) → d.deed ≡ deed → HumblePost deed → (message_at (open_to p before) ≡ Some m → is_humble m.kind ≡ true) → message_at (open_to_after p deed (acting before) (Here d ∷ before) (open_to p before)) ≡ Some m → is_humble m.kind ≡ true
+    by_deed : (deed : Deed) → d.deed ≡ deed → HumblePost deed → (message_at (open_to p before) ≡ Some m → is_humble m.kind ≡ true) →
+        message_at (open_to_after p deed (acting before) (Here d ∷ before) (open_to p before)) ≡ Some m → is_humble m.kind ≡ true
     by_deed (Acts Boot) is h older e = none-said e
     by_deed (Acts (Become r)) is h older e = none-said e
     by_deed (Acts (Post (Peer q) (Message said))) is h older e = by_post ((q.0 == p.0) && (is_numbered said.kind && acting before)) q said is h older e
@@ -440,7 +488,8 @@ module _ (c : ℕ) where
   send-message : (place : List Seen) (n : ℕ) (s : Sending) → sending_at place n ≡ Some s → message_at place ≡ Some s.message
   send-message [] n s e = none-sent e
   send-message (k ∷ older) n s e = by_message (message_of (did_of k).deed) refl e where
-    by_message : (o : Option MessageValue) → message_of (did_of k).deed ≡ o → sending_of o (did_of k).tick n ≡ Some s → message_of (did_of k).deed ≡ Some s.message
+    by_message : (o : Option MessageValue) → message_of (did_of k).deed ≡ o → sending_of o (did_of k).tick n ≡ Some s → message_of (did_of k).deed ≡
+        Some s.message
     by_message None is e = none-sent e
     by_message (Some m) is e = is ∙ ap (λ (o : Option Sending). message-or m o) e where
       message-or : MessageValue → Option Sending → Option MessageValue
@@ -449,16 +498,19 @@ module _ (c : ℕ) where
 
   meek-gives : (p : PeerId) (kind : Kind) → Leads (Meek c) (gives_up p kind) (Meek c)
   unfolding gives_up leaves_after
-  meek-gives p kind = Leads_then {Q = Meek c} (puts (Gave p)) _ (meek_puts (Gave p) refl) (meek-if _ _ nothing (meek-either _ (puts (Leave p)) nothing (meek_puts (Leave p) refl) Leads_nothing) Leads_nothing)
+  meek-gives p kind = Leads_then {Q = Meek c} (puts (Gave p)) _ (meek_puts (Gave p) refl)
+      (meek-if _ _ nothing (meek-either _ (puts (Leave p)) nothing (meek_puts (Leave p) refl) Leads_nothing) Leads_nothing)
 
   meek-send : (p : PeerId) (o : Option Sending) → Leads (λ x past. Meek c x past × (open_at p x past ≡ o)) (repeats_send p o) (Meek c)
   unfolding repeats_send repeats
   meek-send p None = Leads_from (λ x past h. h.0) Leads_nothing
   meek-send p (Some s) = Leads_either (is_send_due s) (either_by (is_spent s) (gives_up p s.message.kind) (puts (Post (Peer p) (Message s.message)))) nothing
-      (Leads_either (is_spent s) (gives_up p s.message.kind) (puts (Post (Peer p) (Message s.message))) (Leads_from (λ x past h. h.0.0.0) (meek-gives p s.message.kind))
+      (Leads_either (is_spent s) (gives_up p s.message.kind) (puts (Post (Peer p) (Message s.message)))
+          (Leads_from (λ x past h. h.0.0.0) (meek-gives p s.message.kind))
       (Leads_puts (Post (Peer p) (Message s.message)) (λ x past h. let k = h.0.0.0 in record {
         may = k.may;
-        humble = meek_keeps c (Post (Peer p) (Message s.message)) (open-humble p past.seen k.humble.posts s.message (send-message (open_to p past.seen) (posts_of p past.seen) s h.0.0.1)) x past k.humble;
+        humble = meek_keeps c (Post (Peer p) (Message s.message)) (open-humble p past.seen k.humble.posts s.message
+            (send-message (open_to p past.seen) (posts_of p past.seen) s h.0.0.1)) x past k.humble;
       })))
       (Leads_from (λ x past h. h.0.0) Leads_nothing)
 

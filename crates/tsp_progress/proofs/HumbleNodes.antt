@@ -1,10 +1,12 @@
 -- A node that may not be master is humble in each step, on all its ports.
-use Rattle.std.proofs.Common.{sym, ap, subst, true≢false, ◌∙◌, ◌≡◌, ℕ, ◌==◌, Bool, true, false, List, [], ◌∷◌, map, refl}
-use Rattle.tsp_rules.specs.Values.{Boot, Took, Become, Arm, Abandon, Quiet, Message, Good, Kind, LoopKind, Alarm, PeerId, Place, Port, Taken, Role, Master, Starting, QUIET}
-use Rattle.tsp_base.specs.Words.{Acts, Did, Here, Elsewhere, Begins, MessageValue, Past, Row, Seen, Step, Leads, arms, first_port, grown, nothing, others, puts, role, line_of, seen_as, view, ◌followed_by◌}
+use Rattle.std.proofs.Common.{sym, ap, subst, true≢false, ◌∙◌, ◌≡◌, ℕ, ◌==◌, true, false, List, [], ◌∷◌, map, refl}
+use Rattle.tsp_rules.specs.Values.{Boot, Took, Become, Abandon, Quiet, Message, Good, LoopKind, PeerId, Port, Role, Master, Starting, QUIET}
+use Rattle.tsp_base.specs.Words.{Begins, MessageValue, Past, Row, Seen, Step, Leads, arms, first_port, grown, nothing, others, puts, role, line_of, seen_as}
+use Rattle.tsp_base.specs.Words.{view, ◌followed_by◌}
 use Rattle.tsp_base.proofs.LeadsLemmas.{Leads_then}
 use Rattle.tsp_rules.specs.GateRows.{NodeGiven, all_ports, answers_all, boots_all, boots_on, loop_to, loosens_master, repost, reposts, sends_loops}
-use Rattle.tsp_rules.specs.{CandidateRows.yields, Guards.is_master, Guards.is_master_at, NodeRows.NodePast, NodeRows.for_ports, NodeRows.in_node_step, NodeRows.on, NodeRows.reading_all}
+use Rattle.tsp_rules.specs.{CandidateRows.yields, Guards.is_master, Guards.is_master_at, NodeRows.NodePast, NodeRows.for_ports, NodeRows.in_node_step}
+use Rattle.tsp_rules.specs.{NodeRows.on, NodeRows.reading_all}
 use Rattle.std.proofs.lemmas.Bool.{or_right}
 use Rattle.tsp_base.proofs.LeadsLemmas.{Leads_either, Leads_from, Leads_nothing}
 use Rattle.tsp_promises.proofs.GateSteps.{All_after, LeadsAll}
@@ -22,13 +24,16 @@ module _ (c : ℕ) where
 
   humble-family : Family (humbly c)
   humble-family = record {
-    boots = λ m step x seen h may. let k = h may in record { role_is = refl; window = refl; probe = refl; close = refl; resolve = refl; round = refl; posts = (tt, k.posts); backs = λ b p e. no_back e };
-    aside = λ m d x seen h may. let k = h may in record { role_is = k.role_is; window = k.window; probe = k.probe; close = k.close; resolve = k.resolve; round = k.round; posts = k.posts; backs = k.backs };
+    boots = λ m step x seen h may. let k = h may in record { role_is = refl; window = refl; probe = refl; close = refl; resolve = refl; round = refl;
+        posts = (tt, k.posts); backs = λ b p e. no_back e };
+    aside = λ m d x seen h may. let k = h may in record { role_is = k.role_is; window = k.window; probe = k.probe; close = k.close; resolve = k.resolve;
+        round = k.round; posts = k.posts; backs = k.backs };
   }
 
   gives-up : Leads (Meek c) loosens_master (Meek c)
   unfolding loosens_master
-  gives-up = Leads_either is_master_at yields nothing (record { run = λ x past h. absurd (true≢false (sym (leading (role past.seen) h.1) ∙ h.0.humble.role_is)) }) (Leads_from (λ x past h. h.0) Leads_nothing) where
+  gives-up = Leads_either is_master_at yields nothing (record { run = λ x past h. absurd (true≢false (sym (leading (role past.seen) h.1) ∙ h.0.humble.role_is))
+      }) (Leads_from (λ x past h. h.0) Leads_nothing) where
     leading : (r : Role) → is_master r ≡ true → leads_in r ≡ true
     leading Master e = refl
     leading _ e = absurd (true≢false (sym e))
@@ -38,14 +43,16 @@ module _ (c : ℕ) where
   loops q = record { run = λ x past h. each x past (others past.own past.peers) past.name h } where
     each : (x : ℕ) (past : Past) (ps : List PeerId) (name : List ℕ) → Meek c x past → Meek c x (grown x past (map (loop_to q name) ps))
     each x past [] name h = h
-    each x past (p ∷ ps) name h = each x (grown x past (loop_to q name p ∷ [])) ps name (record { may = h.may; humble = meek_keeps c (loop_to q name p) refl x past h.humble })
+    each x past (p ∷ ps) name h = each x (grown x past (loop_to q name p ∷ [])) ps name (record { may = h.may;
+        humble = meek_keeps c (loop_to q name p) refl x past h.humble })
 
   passes : (m : MessageValue) → m.kind ≡ LoopKind → Leads (Meek c) (reposts m) (Meek c)
   unfolding reposts
   passes m is = record { run = λ x past h. each x past (others past.own past.peers) h } where
     each : (x : ℕ) (past : Past) (ps : List PeerId) → Meek c x past → Meek c x (grown x past (map (repost m) ps))
     each x past [] h = h
-    each x past (p ∷ ps) h = each x (grown x past (repost m p ∷ [])) ps (record { may = h.may; humble = meek_keeps c (repost m p) (ap is_humble is) x past h.humble })
+    each x past (p ∷ ps) h = each x (grown x past (repost m p ∷ [])) ps (record { may = h.may;
+        humble = meek_keeps c (repost m p) (ap is_humble is) x past h.humble })
 
   humble-keeps : Keeps (humbly c) (humbly c) (Mild c)
   humble-keeps = record {
@@ -71,10 +78,13 @@ module _ (c : ℕ) where
 
   pub boots_humble : LeadsAll (Each (humbly c)) boots_all (Each (humbly c))
   unfolding boots_all reading_all
-  boots_humble = All_after {P = Each (humbly c)} {Q = Each (humbly c)} {R = Each (humbly c)} (on first_port (puts Boot)) (reading_all all_ports (for_ports boots_on))
+  boots_humble = All_after {P = Each (humbly c)} {Q = Each (humbly c)} {R = Each (humbly c)} (on first_port (puts Boot))
+      (reading_all all_ports (for_ports boots_on))
       (on_each (humbly c) humble-family first_port (puts Boot) (lifted (meek_puts c Boot refl)))
       (record { run = λ x past all. (list_each (humbly c) humble-family boots_on (all_ports x past) boots-on).run x past all })
 
   pub begins_humble : (step : Step) (x : ℕ) (past : NodePast) → Each (humbly c) x past → Each (humbly c) x (in_node_step step x past)
-  begins_humble step x past all r = subst (λ b. humbly c (node_manner past) x (seen_as b (line_of step x first_port Begins).did ∷ view r past.lines)) (sym (or_right (first_port.0 == r.0) true refl))
-      (λ may. let k = all r may in record { role_is = k.role_is; window = k.window; probe = k.probe; close = k.close; resolve = k.resolve; round = k.round; posts = (tt, k.posts); backs = k.backs })
+  begins_humble step x past all r = subst (λ b. humbly c (node_manner past) x (seen_as b (line_of step x first_port Begins).did ∷ view r past.lines))
+      (sym (or_right (first_port.0 == r.0) true refl))
+      (λ may. let k = all r may in record { role_is = k.role_is; window = k.window; probe = k.probe; close = k.close; resolve = k.resolve; round = k.round;
+          posts = (tt, k.posts); backs = k.backs })

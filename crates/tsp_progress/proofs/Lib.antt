@@ -5,6 +5,7 @@ pub mod CauseNodes
 pub mod FreshProof
 pub mod HumbleLeads
 pub mod HumbleNodes
+pub mod HumbleRun
 pub mod InTimeProof
 pub mod LoneProof
 pub mod NeverLateProof

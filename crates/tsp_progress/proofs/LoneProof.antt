@@ -99,8 +99,10 @@ calm setting c q (l ∷ before) f lone = by_node (node_of l == c) refl (calm set
   by_node false e older = older
 
 lone-at : (c : ℕ) (l : Line) (before world : List Line) → Within (l ∷ before) world → Lone c world → Lone c before
-lone-at c l before world within lone = record { unsent = (Everywhere-within _ (l ∷ before) world lone.unsent within).1;
-    unhanded = (Everywhere-within _ (l ∷ before) world lone.unhanded within).1 }
+lone-at c l before world within lone = record {
+  unsent = (Everywhere-within _ (l ∷ before) world lone.unsent within).1;
+  unhanded = (Everywhere-within _ (l ∷ before) world lone.unhanded within).1;
+}
 
 -- what is so of the node of a line, of a node with its number
 abbrev FreshLeadsOf : (ℕ → Manner) → ℕ → Line → List Line → Port → ℕ → Type 0
@@ -116,4 +118,4 @@ lone_leads m setting late c world f w a slack may strict lone = Everywhere-from 
     let free = calm-untouched q (of c before) (calm setting c q before fits (lone-at c l before world within lone)) is-up in
     let at = Everywhere-at (FreshLeadsAt m late) l before world (fresh_leads m setting late world f w a slack) within in
     subst (λ n. FreshLeadsOf m n l before q late) node (λ may strict start idle s o u. at begins may strict q start idle s o u) may strict start idle stood-is
-        other free)
+    other free)

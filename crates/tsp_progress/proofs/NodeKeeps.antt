@@ -194,10 +194,12 @@ module _ (P H : Manner → ℕ → List Seen → Type 0) (Ok : Place → Taken �
 
   heeds_keep : (q : Port) (m : MessageValue) → m.kind ≡ LoopKind → (b : Bool) → LeadsAll (TookOn q) (heeds_loop q m b) (Each P)
   unfolding heeds_loop judges nothing_at_all
-  heeds_keep q m is true = record { run = λ x past h. (loop_keep q (judge past.name (length past.ports) q m) (judge-loop past.name (length past.ports) q m is)).run x past h }
+  heeds_keep q m is true = record { run = λ x past h. (loop_keep q (judge past.name (length past.ports) q m)
+      (judge-loop past.name (length past.ports) q m is)).run x past h }
   heeds_keep q m is false = record { run = λ x past h. h.0 }
 
-  took_keep : (q : Port) (from : Place) (m : MessageValue) → m.kind ≡ LoopKind → Ok from (Good (Message m)) → LeadsAll (Each P) (on q (puts (Took from (Good (Message m))))) (TookOn q)
+  took_keep : (q : Port) (from : Place) (m : MessageValue) → m.kind ≡ LoopKind → Ok from (Good (Message m)) →
+      LeadsAll (Each P) (on q (puts (Took from (Good (Message m))))) (TookOn q)
   unfolding on
   took_keep q from m is ok =
       let t = Good (Message m) in
@@ -209,7 +211,8 @@ module _ (P H : Manner → ℕ → List Seen → Type 0) (Ok : Place → Taken �
         );
       }
 
-  takes_loop_keep : (q : Port) (from : Place) (m : MessageValue) → m.kind ≡ LoopKind → Ok from (Good (Message m)) → LeadsAll (Each P) (takes_loop q from m) (Each P)
+  takes_loop_keep : (q : Port) (from : Place) (m : MessageValue) → m.kind ≡ LoopKind → Ok from (Good (Message m)) →
+      LeadsAll (Each P) (takes_loop q from m) (Each P)
   unfolding takes_loop
   takes_loop_keep q from m is ok = All_after (on q (puts (Took from (Good (Message m))))) (reading_all (hears_on from q) (heeds_loop q m))
       (took_keep q from m is ok) (All_reading (hears_on from q) (heeds_loop q m) (heeds_keep q m is))
@@ -222,7 +225,8 @@ module _ (P H : Manner → ℕ → List Seen → Type 0) (Ok : Place → Taken �
         (stirring_keep q (stirred_ports q m.kind) row (k.takes (steers q x past) (in_charge q x past) from (Good (Message m)) ok)).run x past all;
   }
 
-  takes_kind_keep : (q : Port) (from : Place) (m : MessageValue) (k : Kind) → m.kind ≡ k → Ok from (Good (Message m)) → LeadsAll (Each P) (takes_kind q from m k) (Each P)
+  takes_kind_keep : (q : Port) (from : Place) (m : MessageValue) (k : Kind) → m.kind ≡ k → Ok from (Good (Message m)) →
+      LeadsAll (Each P) (takes_kind q from m k) (Each P)
   unfolding takes_kind
   takes_kind_keep q from m LoopKind is ok = takes_loop_keep q from m is ok
   takes_kind_keep q from m _ is ok = takes_message_keep q from m ok

@@ -1,6 +1,7 @@
 -- What a node that may not be master does.
 use Rattle.std.specs.Prelude.{◌≡◌, ℕ, Bool, true, false, List, [], ◌∷◌, None, Some}
-use Rattle.tsp_rules.specs.Values.{Post, Message, Taken, Good, Kind, AdjTime, SetTime, Election, MasterUp, MasterAck, QuitKind, Refuse, Test, PeerId, Place, Peer, Role, Candidate, Master}
+use Rattle.tsp_rules.specs.Values.{Post, Message, Taken, Good, Kind, AdjTime, SetTime, Election, MasterUp, MasterAck, QuitKind, Refuse, Test, PeerId, Place}
+use Rattle.tsp_rules.specs.Values.{Peer, Role, Candidate, Master}
 use Rattle.tsp_base.specs.Words.{Acts, Deed, Seen, Here, Elsewhere, armed, held, role}
 
 -- kinds of messages that neither masters nor candidates send, nor who refuses one

@@ -8,6 +8,7 @@ pub mod InTime
 pub mod LoneLeads
 pub mod Needed
 pub mod NeverLate
+pub mod OneMay
 pub mod Progress
 pub mod RoundsRecur
 pub mod RunsWake

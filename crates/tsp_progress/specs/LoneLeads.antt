@@ -16,7 +16,7 @@ pub record Lone (c : ℕ) (world : List Line) : Type 0 where
 abbrev pub LoneLeadsAt : ℕ → ℕ → Line → List Line → Type 0
 LoneLeadsAt c late l world =
     l.did.deed ≡ Begins → node_of l ≡ c → up (dids (of c world)) ≡ true → (q : Port) → (start : Did) (idle : List Seen) → stood (view q (of c world)) ≡
-        Here start ∷ idle →
+    Here start ∷ idle →
     is_master (role (view q (of c world))) ≡ false → l.did.tick ≤ (held (view q (of c world))).boot + first_lead late
 
 -- wherever a step begins

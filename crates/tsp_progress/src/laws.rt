@@ -135,6 +135,14 @@ pub fn lone_leads()
         → (m c).may ≡ true → (m c).strict ≡ false → Lone c world → LoneLeads c late world }
 {}
 
+ghost use Rattle.tsp_progress.specs.OneMay.{OneLeads};
+/// So where one node alone may be master, it is master at most 690 s and four times `late` after
+/// each of its boots, in each possible run by any clocks in which nothing seems to come from a peer
+/// that it didn't post: a node that may not be master posts nothing that stirs but LOOPs.
+pub fn one_leads()
+    ensures { OneLeads }
+{}
+
 ghost use Rattle.tsp_progress.specs.Progress.{ClockedRunsProgress, RunsProgress};
 /// All of this holds of the run of each possible schedule in which each node is looked at within
 /// `SLACK`, and up to each true time up to which the run is told.
