@@ -7,6 +7,7 @@ pub mod HumbleLeads
 pub mod HumbleNodes
 pub mod HumbleRun
 pub mod InTimeProof
+pub mod LeftChecks
 pub mod LoneProof
 pub mod NeverLateProof
 pub mod NodeKeeps

@@ -9,6 +9,7 @@ pub mod LoneLeads
 pub mod Needed
 pub mod NeverLate
 pub mod OneMay
+pub mod OneUse
 pub mod Progress
 pub mod RoundsRecur
 pub mod RunsWake

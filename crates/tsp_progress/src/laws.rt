@@ -143,6 +143,13 @@ pub fn one_leads()
     ensures { OneLeads }
 {}
 
+ghost use Rattle.tsp_progress.specs.OneUse.{OneUse};
+/// A run of which all that is asked for holds, and one in which two nodes may be master, of which
+/// all else holds: one of them follows, and doesn't lead.
+pub fn one_use()
+    ensures { OneUse }
+{}
+
 ghost use Rattle.tsp_progress.specs.Progress.{ClockedRunsProgress, RunsProgress};
 /// All of this holds of the run of each possible schedule in which each node is looked at within
 /// `SLACK`, and up to each true time up to which the run is told.
