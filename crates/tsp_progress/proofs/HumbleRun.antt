@@ -20,7 +20,7 @@ use Rattle.tsp_run.proofs.{RunLemmas.stepped_other, RunLemmas.stepped_own, Sound
 use Rattle.tsp_progress.specs.{AlarmsFit.Manner, CausesFit.stirs, Humble.HumblePost, Humble.HumblePosts, Humble.Humble, Humble.Mild, Humble.is_humble}
 use Rattle.tsp_progress.specs.{LoneLeads.Lone, OneMay.LeftAlone, OneMay.OneLeads, OneMay.OneMayBe, RunsWake.manner_of}
 use Rattle.tsp_progress.proofs.{HumbleNodes.answers_humble, HumbleNodes.begins_humble, HumbleNodes.boots_humble, HumbleNodes.humbly}
-use Rattle.tsp_progress.proofs.{LoneProof.lone_leads, NodeKeeps.Each, NodeKeeps.node_manner, RunWakes.clocked_runs_wake}
+use Rattle.tsp_progress.proofs.{LoneProof.lone_leads, LoneProof.lone_led, NodeKeeps.Each, NodeKeeps.node_manner, RunWakes.clocked_runs_wake}
 
 -- each port of each node is humble, if its node may not be master
 abbrev AllHumble : ℕ → (ℕ → Manner) → List Line → Type 0
@@ -161,6 +161,9 @@ module _ (clocks : Clocks) (header : HeaderValue) (setting : Setting) (c : ℕ) 
 
 pub one_leads : OneLeads
 one_leads clocks header setting events late c set p sealed attended slack may strict one left =
-    lone_leads (manner_of header) setting late c (run_by clocks header events) (clocked_runs_fit clocks header setting events set p).0
-    (clocked_runs_wake clocks header events).0 attended slack may strict
-    (lone clocks header setting c set one (run_by clocks header events) (all-humble clocks header setting c set one events p sealed) left)
+    let f = (clocked_runs_fit clocks header setting events set p).0 in
+    let w = clocked_runs_wake clocks header events in
+    let alone = lone clocks header setting c set one (run_by clocks header events) (all-humble clocks header setting c set one events p sealed) left in (
+      lone_leads (manner_of header) setting late c (run_by clocks header events) f w.0 attended slack may strict alone,
+      λ t told. lone_led (manner_of header) setting late c t (run_by clocks header events) f w.1 attended slack may strict alone told,
+    )

@@ -2,8 +2,9 @@
 use Rattle.std.specs.Prelude.{ℕ, pos, true, List, [], ◌∷◌, codes}
 use Rattle.tsp_rules.specs.Values.{Event, BootAt, Turn, Take}
 use Rattle.tsp_base.specs.Words.{HeaderValue}
-use Rattle.tsp_run.specs.{Premised.Sealed, Refusals.Valid, Run.run}
-use Rattle.tsp_progress.specs.{LoneLeads.LoneLeads, OneMay.LeftAlone, OneMay.OneMayBe, Watched.Attended, Worked.one_may, Worked.until_closes}
+use Rattle.tsp_promises.specs.Setting.{Setting}
+use Rattle.tsp_run.specs.{Premised.Sealed, Refusals.Valid, Run.run, Setting.SetBy}
+use Rattle.tsp_progress.specs.{LoneLeads.LoneLeads, OneMay.LeftAlone, OneMay.OneMayBe, Watched.Attended, Watched.Told, Worked.one_may, Worked.until_closes}
 
 -- both may be master
 abbrev pub two_may : HeaderValue
@@ -24,6 +25,8 @@ pub record OneUse : Type 0 where
   pub attended : Attended 0 (run one_may until_closes)
   pub one : OneMayBe 0 one_may
   pub left : LeftAlone 0 (run one_may until_closes)
+  -- which is told up to 700 s, more than 690 s after its boot
+  pub told_to : (setting : Setting) → SetBy one_may setting → Told 0 setting 700000000 0 (run one_may until_closes)
   -- where both may be, all else holds of a run, and a doesn't lead
   pub two_valid : Valid two_may follows_b
   pub two_sealed : Sealed follows_b

@@ -48,7 +48,8 @@
 //!   for at most 1,215 s and five times `late` after its last word (`alone_leads`), or for at most
 //!   690 s and four times `late` after its boot, if that was its last word (`fresh_leads`).
 //! - So where nobody posts a message that stirs to such a node, and no octets come to it from
-//!   outside, it leads within 690 s and four times `late` after each of its boots (`lone_leads`).
+//!   outside, it leads within 690 s and four times `late` after each of its boots (`lone_leads`),
+//!   at the end of the history, too, if that is told so far (`lone_led`).
 //! - So where one node alone may be master, it leads within that time after each of its boots: the
 //!   others post nothing that stirs but LOOPs (`one_leads`).
 //! - All of this holds of the run of each possible schedule that is attended (`runs_progress`), and

@@ -24,16 +24,15 @@ use Rattle.tsp_rules.specs.GateRows.{loosens_master, forwards, takes_loop_step, 
 use Rattle.tsp_rules.specs.GateRows.{answers_all, boots_on, boots_all}
 use Rattle.tsp_group.specs.Groups.{group_from, goes_before, better}
 use Rattle.tsp_codec.specs.Taken.{taken_of}
-use Rattle.std.proofs.Common.{arith, [], ◌∷◌, ◌+◌}
+use Rattle.std.proofs.Common.{subst, sym, arith, [], ◌∷◌, ◌+◌}
 use Rattle.tsp_rules.specs.Values.{SLACK}
-use Rattle.tsp_base.specs.Words.{first_port, peer_of}
-use Rattle.tsp_progress.specs.Needed.{four_posts, late_elects, never_stands, never_wins, strict_alone, unarmed}
+use Rattle.tsp_base.specs.Words.{first_port, of, peer_of, view}
 use Rattle.tsp_progress.specs.Worked.{one_may}
-use Rattle.tsp_progress.proofs.{AloneLeadsProof.has_role, InTimeProof.since_tick, WatchChecks.attended-by}
+use Rattle.tsp_progress.proofs.{AloneLeadsProof.has_role, InTimeProof.since_tick, WatchChecks.attended-by, WatchChecks.watched-by}
 use Rattle.tsp_progress.proofs.laws.one_use.Goals as goal
 use Rattle.std.proofs.Common.{true≢false, ◌≡◌, ℕ, zero, suc, ◌==◌, false}
 use Rattle.tsp_progress.specs.RunsWake.{manner_of}
-use Rattle.tsp_progress.specs.Worked.{until_closes}
+use Rattle.tsp_progress.specs.{Worked.until_closes, Watched.Watched}
 use Rattle.tsp_progress.specs.OneUse.{two_may, follows_b}
 use Rattle.tsp_progress.proofs.LeftChecks.{left-by}
 -- the rules give what is told
@@ -57,6 +56,9 @@ returns c = record {
   attended = attended-by 0 (peer_of 1 ∷ []) (run one_may until_closes) refl;
   one = only_a;
   left = left-by 0 (run one_may until_closes) refl;
+  told_to = λ setting set q.
+      subst (λ x. Watched 0 x (view q (of 0 (run one_may until_closes)))) (sym (set.tick_is 0 700000000))
+      (watched-by 0 (peer_of 1 ∷ []) 700000000 (of 0 (run one_may until_closes)) refl q);
   two_valid = (refl, (refl, (refl, (refl, (refl, (refl, (refl, (refl, (refl, (refl, (refl, (refl, (refl, tt)))))))))))));
   two_sealed = (tt, (tt, (tt, (tt, (tt, (tt, (tt, (tt, (tt, (tt, (tt, (tt, (tt, tt)))))))))))));
   two_attended = attended-by 0 (peer_of 0 ∷ peer_of 1 ∷ []) (run two_may follows_b) refl;
