@@ -51,55 +51,215 @@ no_back e = let bad : ⊥ = cc in absurd bad
 
 meek-become : (c : ℕ) (r : Role) → leads_in r ≡ false → (d : Did) (seen : List Seen) → Humble c seen → Humble c (Here (record d { deed = Acts (Become r) }) ∷
     seen)
-meek-become c r e d seen h = record { role_is = e; window = refl; probe = refl; close = refl; resolve = refl; round = refl; posts = (tt, h.posts);
-    backs = h.backs }
+meek-become c r e d seen h = record {
+  role_is = e;
+  window = refl;
+  probe = refl;
+  close = refl;
+  resolve = refl;
+  round = refl;
+  posts = (tt, h.posts);
+  backs = h.backs;
+}
 
 pub meek_keeps : (c : ℕ) (a : Act) → is_meek a ≡ true → (x : ℕ) (past : Past) → Humble c past.seen → Humble c (grown x past (a ∷ [])).seen
-meek_keeps c Boot e x past h = record { role_is = refl; window = refl; probe = refl; close = refl; resolve = refl; round = refl; posts = (tt, h.posts);
-    backs = λ b p is. no_back is }
+meek_keeps c Boot e x past h = record {
+  role_is = refl;
+  window = refl;
+  probe = refl;
+  close = refl;
+  resolve = refl;
+  round = refl;
+  posts = (tt, h.posts);
+  backs = λ b p is. no_back is;
+}
 meek_keeps c (Become Candidate) e x past h = absurd (true≢false (sym e))
 meek_keeps c (Become Master) e x past h = absurd (true≢false (sym e))
 meek_keeps c (Become Starting) e x past h = meek-become c Starting refl (record { step = past.step; tick = x; deed = Acts Boot }) past.seen h
 meek_keeps c (Become Loose) e x past h = meek-become c Loose refl (record { step = past.step; tick = x; deed = Acts Boot }) past.seen h
 meek_keeps c (Become (Follow p)) e x past h = meek-become c (Follow p) refl (record { step = past.step; tick = x; deed = Acts Boot }) past.seen h
-meek_keeps c (Arm Quiet at) e x past h = record { role_is = h.role_is; window = h.window; probe = h.probe; close = h.close; resolve = h.resolve;
-    round = h.round; posts = (tt, h.posts); backs = h.backs }
-meek_keeps c (Arm Search at) e x past h = record { role_is = h.role_is; window = h.window; probe = h.probe; close = h.close; resolve = h.resolve;
-    round = h.round; posts = (tt, h.posts); backs = h.backs }
-meek_keeps c (Arm Elect at) e x past h = record { role_is = h.role_is; window = h.window; probe = h.probe; close = h.close; resolve = h.resolve;
-    round = h.round; posts = (tt, h.posts); backs = h.backs }
+meek_keeps c (Arm Quiet at) e x past h = record {
+  role_is = h.role_is;
+  window = h.window;
+  probe = h.probe;
+  close = h.close;
+  resolve = h.resolve;
+  round = h.round;
+  posts = (tt, h.posts);
+  backs = h.backs;
+}
+meek_keeps c (Arm Search at) e x past h = record {
+  role_is = h.role_is;
+  window = h.window;
+  probe = h.probe;
+  close = h.close;
+  resolve = h.resolve;
+  round = h.round;
+  posts = (tt, h.posts);
+  backs = h.backs;
+}
+meek_keeps c (Arm Elect at) e x past h = record {
+  role_is = h.role_is;
+  window = h.window;
+  probe = h.probe;
+  close = h.close;
+  resolve = h.resolve;
+  round = h.round;
+  posts = (tt, h.posts);
+  backs = h.backs;
+}
 meek_keeps c (Arm _ at) e x past h = absurd (true≢false (sym e))
 meek_keeps c (Back p) e x past h = absurd (true≢false (sym e))
-meek_keeps c (Post (Peer p) (Message m)) e x past h = record { role_is = h.role_is; window = h.window; probe = h.probe; close = h.close; resolve = h.resolve;
-    round = h.round; posts = (e, h.posts); backs = h.backs }
-meek_keeps c (Ring Window) e x past h = record { role_is = h.role_is; window = refl; probe = h.probe; close = h.close; resolve = h.resolve; round = h.round;
-    posts = (tt, h.posts); backs = h.backs }
-meek_keeps c (Ring Probe) e x past h = record { role_is = h.role_is; window = h.window; probe = refl; close = h.close; resolve = h.resolve; round = h.round;
-    posts = (tt, h.posts); backs = h.backs }
-meek_keeps c (Ring CloseAlarm) e x past h = record { role_is = h.role_is; window = h.window; probe = h.probe; close = refl; resolve = h.resolve;
-    round = h.round; posts = (tt, h.posts); backs = h.backs }
-meek_keeps c (Ring ResolveAlarm) e x past h = record { role_is = h.role_is; window = h.window; probe = h.probe; close = h.close; resolve = refl;
-    round = h.round; posts = (tt, h.posts); backs = h.backs }
-meek_keeps c (Ring Round) e x past h = record { role_is = h.role_is; window = h.window; probe = h.probe; close = h.close; resolve = h.resolve; round = refl;
-    posts = (tt, h.posts); backs = h.backs }
-meek_keeps c (Ring _) e x past h = record { role_is = h.role_is; window = h.window; probe = h.probe; close = h.close; resolve = h.resolve; round = h.round;
-    posts = (tt, h.posts); backs = h.backs }
-meek_keeps c (Late Window) e x past h = record { role_is = h.role_is; window = refl; probe = h.probe; close = h.close; resolve = h.resolve; round = h.round;
-    posts = (tt, h.posts); backs = h.backs }
-meek_keeps c (Late Probe) e x past h = record { role_is = h.role_is; window = h.window; probe = refl; close = h.close; resolve = h.resolve; round = h.round;
-    posts = (tt, h.posts); backs = h.backs }
-meek_keeps c (Late CloseAlarm) e x past h = record { role_is = h.role_is; window = h.window; probe = h.probe; close = refl; resolve = h.resolve;
-    round = h.round; posts = (tt, h.posts); backs = h.backs }
-meek_keeps c (Late ResolveAlarm) e x past h = record { role_is = h.role_is; window = h.window; probe = h.probe; close = h.close; resolve = refl;
-    round = h.round; posts = (tt, h.posts); backs = h.backs }
-meek_keeps c (Late Round) e x past h = record { role_is = h.role_is; window = h.window; probe = h.probe; close = h.close; resolve = h.resolve; round = refl;
-    posts = (tt, h.posts); backs = h.backs }
-meek_keeps c (Late _) e x past h = record { role_is = h.role_is; window = h.window; probe = h.probe; close = h.close; resolve = h.resolve; round = h.round;
-    posts = (tt, h.posts); backs = h.backs }
-meek_keeps c Abandon e x past h = record { role_is = h.role_is; window = h.window; probe = refl; close = refl; resolve = h.resolve; round = h.round;
-    posts = (tt, h.posts); backs = h.backs }
-meek_keeps c _ e x past h = record { role_is = h.role_is; window = h.window; probe = h.probe; close = h.close; resolve = h.resolve; round = h.round;
-    posts = (tt, h.posts); backs = h.backs }
+meek_keeps c (Post (Peer p) (Message m)) e x past h = record {
+  role_is = h.role_is;
+  window = h.window;
+  probe = h.probe;
+  close = h.close;
+  resolve = h.resolve;
+  round = h.round;
+  posts = (e, h.posts);
+  backs = h.backs;
+}
+meek_keeps c (Ring Window) e x past h = record {
+  role_is = h.role_is;
+  window = refl;
+  probe = h.probe;
+  close = h.close;
+  resolve = h.resolve;
+  round = h.round;
+  posts = (tt, h.posts);
+  backs = h.backs;
+}
+meek_keeps c (Ring Probe) e x past h = record {
+  role_is = h.role_is;
+  window = h.window;
+  probe = refl;
+  close = h.close;
+  resolve = h.resolve;
+  round = h.round;
+  posts = (tt, h.posts);
+  backs = h.backs;
+}
+meek_keeps c (Ring CloseAlarm) e x past h = record {
+  role_is = h.role_is;
+  window = h.window;
+  probe = h.probe;
+  close = refl;
+  resolve = h.resolve;
+  round = h.round;
+  posts = (tt, h.posts);
+  backs = h.backs;
+}
+meek_keeps c (Ring ResolveAlarm) e x past h = record {
+  role_is = h.role_is;
+  window = h.window;
+  probe = h.probe;
+  close = h.close;
+  resolve = refl;
+  round = h.round;
+  posts = (tt, h.posts);
+  backs = h.backs;
+}
+meek_keeps c (Ring Round) e x past h = record {
+  role_is = h.role_is;
+  window = h.window;
+  probe = h.probe;
+  close = h.close;
+  resolve = h.resolve;
+  round = refl;
+  posts = (tt, h.posts);
+  backs = h.backs;
+}
+meek_keeps c (Ring _) e x past h = record {
+  role_is = h.role_is;
+  window = h.window;
+  probe = h.probe;
+  close = h.close;
+  resolve = h.resolve;
+  round = h.round;
+  posts = (tt, h.posts);
+  backs = h.backs;
+}
+meek_keeps c (Late Window) e x past h = record {
+  role_is = h.role_is;
+  window = refl;
+  probe = h.probe;
+  close = h.close;
+  resolve = h.resolve;
+  round = h.round;
+  posts = (tt, h.posts);
+  backs = h.backs;
+}
+meek_keeps c (Late Probe) e x past h = record {
+  role_is = h.role_is;
+  window = h.window;
+  probe = refl;
+  close = h.close;
+  resolve = h.resolve;
+  round = h.round;
+  posts = (tt, h.posts);
+  backs = h.backs;
+}
+meek_keeps c (Late CloseAlarm) e x past h = record {
+  role_is = h.role_is;
+  window = h.window;
+  probe = h.probe;
+  close = refl;
+  resolve = h.resolve;
+  round = h.round;
+  posts = (tt, h.posts);
+  backs = h.backs;
+}
+meek_keeps c (Late ResolveAlarm) e x past h = record {
+  role_is = h.role_is;
+  window = h.window;
+  probe = h.probe;
+  close = h.close;
+  resolve = refl;
+  round = h.round;
+  posts = (tt, h.posts);
+  backs = h.backs;
+}
+meek_keeps c (Late Round) e x past h = record {
+  role_is = h.role_is;
+  window = h.window;
+  probe = h.probe;
+  close = h.close;
+  resolve = h.resolve;
+  round = refl;
+  posts = (tt, h.posts);
+  backs = h.backs;
+}
+meek_keeps c (Late _) e x past h = record {
+  role_is = h.role_is;
+  window = h.window;
+  probe = h.probe;
+  close = h.close;
+  resolve = h.resolve;
+  round = h.round;
+  posts = (tt, h.posts);
+  backs = h.backs;
+}
+meek_keeps c Abandon e x past h = record {
+  role_is = h.role_is;
+  window = h.window;
+  probe = refl;
+  close = refl;
+  resolve = h.resolve;
+  round = h.round;
+  posts = (tt, h.posts);
+  backs = h.backs;
+}
+meek_keeps c _ e x past h = record {
+  role_is = h.role_is;
+  window = h.window;
+  probe = h.probe;
+  close = h.close;
+  resolve = h.resolve;
+  round = h.round;
+  posts = (tt, h.posts);
+  backs = h.backs;
+}
 
 none-said : {A : Type 0} {m : MessageValue} → None ≡ Some m → A
 none-said e = let bad : ⊥ = cc in absurd bad
@@ -136,16 +296,22 @@ module _ (c : ℕ) where
 
   meek-back : (from : Place) (kind : Kind) (number : ℕ) → is_humble kind ≡ true → Leads (Meek c) (posts_back from kind number) (Meek c)
   unfolding posts_back
-  meek-back from kind number e = record { run = λ x past h. record { may = h.may;
-      humble = meek_keeps c (Post from (Message (bare kind number past.name))) (post-back from (bare kind number past.name) e) x past h.humble } }
+  meek-back from kind number e = record {
+    run = λ x past h. record {
+      may = h.may;
+      humble = meek_keeps c (Post from (Message (bare kind number past.name))) (post-back from (bare kind number past.name) e) x past h.humble;
+    };
+  }
 
   meek-others : (kind : Kind) → is_humble kind ≡ true → Leads (Meek c) (posts_to_others kind 0) (Meek c)
   unfolding posts_to_others
   meek-others kind e = record { run = λ x past h. each x past (others past.own past.peers) past.name h } where
     each : (x : ℕ) (past : Past) (ps : List PeerId) (name : List ℕ) → Meek c x past → Meek c x (grown x past (map (post_of kind 0 name) ps))
     each x past [] name h = h
-    each x past (p ∷ ps) name h = each x (grown x past (post_of kind 0 name p ∷ [])) ps name (record { may = h.may;
-        humble = meek_keeps c (post_of kind 0 name p) e x past h.humble })
+    each x past (p ∷ ps) name h = each x (grown x past (post_of kind 0 name p ∷ [])) ps name (record {
+      may = h.may;
+      humble = meek_keeps c (post_of kind 0 name p) e x past h.humble;
+    })
 
   -- rows that any role has
 
@@ -211,8 +377,16 @@ module _ (c : ℕ) where
   backs-c : (p : PeerId) → p.0 ≡ c → Leads (Meek c) (puts (Back p)) (Meek c)
   backs-c p is = Leads_puts (Back p) (λ x past h. let k = h.humble in record {
     may = h.may;
-    humble = record { role_is = k.role_is; window = k.window; probe = k.probe; close = k.close; resolve = k.resolve; round = k.round; posts = (tt, k.posts);
-        backs = λ b q e. sym (ap (λ (o : Option (ℕ × PeerId)). peer o p.0) e) ∙ is };
+    humble = record {
+      role_is = k.role_is;
+      window = k.window;
+      probe = k.probe;
+      close = k.close;
+      resolve = k.resolve;
+      round = k.round;
+      posts = (tt, k.posts);
+      backs = λ b q e. sym (ap (λ (o : Option (ℕ × PeerId)). peer o p.0) e) ∙ is;
+    };
   }) where
     peer : Option (ℕ × PeerId) → ℕ → ℕ
     peer None other = other
@@ -382,8 +556,12 @@ module _ (c : ℕ) where
 
   meek-replies : (from : Place) (word counter : ℕ) → Leads (Meek c) (replies from word counter) (Meek c)
   unfolding replies posts_reply
-  meek-replies from word counter = meek-either is_in_range _ nothing (record { run = λ x past h. record { may = h.may;
-      humble = meek_keeps c _ (stamp-back from _ (λ m e. let bad : ⊥ = cc in absurd bad)) x past h.humble } }) Leads_nothing
+  meek-replies from word counter = meek-either is_in_range _ nothing (record {
+    run = λ x past h. record {
+      may = h.may;
+      humble = meek_keeps c _ (stamp-back from _ (λ m e. let bad : ⊥ = cc in absurd bad)) x past h.humble;
+    };
+  }) Leads_nothing
 
   meek-sampled : (r : ReplyValue) (p : PeerId) → Leads (Meek c) (peer_replies r p) (Meek c)
   unfolding peer_replies replies_in
@@ -506,7 +684,7 @@ module _ (c : ℕ) where
   meek-send p None = Leads_from (λ x past h. h.0) Leads_nothing
   meek-send p (Some s) = Leads_either (is_send_due s) (either_by (is_spent s) (gives_up p s.message.kind) (puts (Post (Peer p) (Message s.message)))) nothing
       (Leads_either (is_spent s) (gives_up p s.message.kind) (puts (Post (Peer p) (Message s.message)))
-          (Leads_from (λ x past h. h.0.0.0) (meek-gives p s.message.kind))
+      (Leads_from (λ x past h. h.0.0.0) (meek-gives p s.message.kind))
       (Leads_puts (Post (Peer p) (Message s.message)) (λ x past h. let k = h.0.0.0 in record {
         may = k.may;
         humble = meek_keeps c (Post (Peer p) (Message s.message)) (open-humble p past.seen k.humble.posts s.message

@@ -24,16 +24,33 @@ module _ (c : ℕ) where
 
   humble-family : Family (humbly c)
   humble-family = record {
-    boots = λ m step x seen h may. let k = h may in record { role_is = refl; window = refl; probe = refl; close = refl; resolve = refl; round = refl;
-        posts = (tt, k.posts); backs = λ b p e. no_back e };
-    aside = λ m d x seen h may. let k = h may in record { role_is = k.role_is; window = k.window; probe = k.probe; close = k.close; resolve = k.resolve;
-        round = k.round; posts = k.posts; backs = k.backs };
+    boots = λ m step x seen h may. let k = h may in record {
+      role_is = refl;
+      window = refl;
+      probe = refl;
+      close = refl;
+      resolve = refl;
+      round = refl;
+      posts = (tt, k.posts);
+      backs = λ b p e. no_back e;
+    };
+    aside = λ m d x seen h may. let k = h may in record {
+      role_is = k.role_is;
+      window = k.window;
+      probe = k.probe;
+      close = k.close;
+      resolve = k.resolve;
+      round = k.round;
+      posts = k.posts;
+      backs = k.backs;
+    };
   }
 
   gives-up : Leads (Meek c) loosens_master (Meek c)
   unfolding loosens_master
-  gives-up = Leads_either is_master_at yields nothing (record { run = λ x past h. absurd (true≢false (sym (leading (role past.seen) h.1) ∙ h.0.humble.role_is))
-      }) (Leads_from (λ x past h. h.0) Leads_nothing) where
+  gives-up = Leads_either is_master_at yields nothing (record {
+    run = λ x past h. absurd (true≢false (sym (leading (role past.seen) h.1) ∙ h.0.humble.role_is));
+  }) (Leads_from (λ x past h. h.0) Leads_nothing) where
     leading : (r : Role) → is_master r ≡ true → leads_in r ≡ true
     leading Master e = refl
     leading _ e = absurd (true≢false (sym e))
@@ -43,16 +60,20 @@ module _ (c : ℕ) where
   loops q = record { run = λ x past h. each x past (others past.own past.peers) past.name h } where
     each : (x : ℕ) (past : Past) (ps : List PeerId) (name : List ℕ) → Meek c x past → Meek c x (grown x past (map (loop_to q name) ps))
     each x past [] name h = h
-    each x past (p ∷ ps) name h = each x (grown x past (loop_to q name p ∷ [])) ps name (record { may = h.may;
-        humble = meek_keeps c (loop_to q name p) refl x past h.humble })
+    each x past (p ∷ ps) name h = each x (grown x past (loop_to q name p ∷ [])) ps name (record {
+      may = h.may;
+      humble = meek_keeps c (loop_to q name p) refl x past h.humble;
+    })
 
   passes : (m : MessageValue) → m.kind ≡ LoopKind → Leads (Meek c) (reposts m) (Meek c)
   unfolding reposts
   passes m is = record { run = λ x past h. each x past (others past.own past.peers) h } where
     each : (x : ℕ) (past : Past) (ps : List PeerId) → Meek c x past → Meek c x (grown x past (map (repost m) ps))
     each x past [] h = h
-    each x past (p ∷ ps) h = each x (grown x past (repost m p ∷ [])) ps (record { may = h.may;
-        humble = meek_keeps c (repost m p) (ap is_humble is) x past h.humble })
+    each x past (p ∷ ps) h = each x (grown x past (repost m p ∷ [])) ps (record {
+      may = h.may;
+      humble = meek_keeps c (repost m p) (ap is_humble is) x past h.humble;
+    })
 
   humble-keeps : Keeps (humbly c) (humbly c) (Mild c)
   humble-keeps = record {
@@ -86,5 +107,13 @@ module _ (c : ℕ) where
   pub begins_humble : (step : Step) (x : ℕ) (past : NodePast) → Each (humbly c) x past → Each (humbly c) x (in_node_step step x past)
   begins_humble step x past all r = subst (λ b. humbly c (node_manner past) x (seen_as b (line_of step x first_port Begins).did ∷ view r past.lines))
       (sym (or_right (first_port.0 == r.0) true refl))
-      (λ may. let k = all r may in record { role_is = k.role_is; window = k.window; probe = k.probe; close = k.close; resolve = k.resolve; round = k.round;
-          posts = (tt, k.posts); backs = k.backs })
+      (λ may. let k = all r may in record {
+        role_is = k.role_is;
+        window = k.window;
+        probe = k.probe;
+        close = k.close;
+        resolve = k.resolve;
+        round = k.round;
+        posts = (tt, k.posts);
+        backs = k.backs;
+      })

@@ -90,29 +90,29 @@ module _ (clocks : Clocks) (header : HeaderValue) (setting : Setting) (c : ℕ) 
   mild-arrival : (h : List Line) (k : ℕ) (p : Posted) (to : Address) → ((n : ℕ) → AreSoundLines (of n h)) → AllHumble c (manner_of header) h →
       slice_get (posts h) k ≡ Some p → address_of (networks header) p.from p.port p.to ≡ Some to → Mild c (Peer (peer_of p.from)) (taken_in p)
   mild-arrival h k p to sound all there goes = subst (λ t. Mild c (Peer (peer_of p.from)) t) (sym (sound_read p.datagram is)) (by_datagram p.datagram refl)
-      where
-    o : PostAt h k p
-    o = post_at h k p there
+    where
+      o : PostAt h k p
+      o = post_at h k p there
 
-    is : IsSound p.datagram
-    is = subst IsSoundDeed o.deed (line_sound h o.post o.older o.place (sound o.post.did.step.node))
+      is : IsSound p.datagram
+      is = subst IsSoundDeed o.deed (line_sound h o.post o.older o.place (sound o.post.did.step.node))
 
-    humble : (p.from == c) ≡ false → HumblePost (Acts (Post p.to p.datagram))
-    humble other = subst HumblePost o.deed (post-humble h o.post o.older o.place
-        (all o.post.did.step.node o.post.port (one o.post.did.step.node (subst (λ n. (n == c) ≡ false) (sym o.from) other))).posts)
+      humble : (p.from == c) ≡ false → HumblePost (Acts (Post p.to p.datagram))
+      humble other = subst HumblePost o.deed (post-humble h o.post o.older o.place
+          (all o.post.did.step.node o.post.port (one o.post.did.step.node (subst (λ n. (n == c) ≡ false) (sym o.from) other))).posts)
 
-    from_c : (m : MessageValue) → p.datagram ≡ Message m → m.kind ≡ Election → (place : Place) → p.to ≡ place → (b : Bool) → (p.from == c) ≡ b → p.from ≡ c
-    from_c m message kind place to-is true e = eqb-true p.from c e
-    from_c m message kind Stranger to-is false e = let nowhere : address_of (networks header) p.from p.port Stranger ≡ Some to =
-        subst (λ t. address_of (networks header) p.from p.port t ≡ Some to) to-is goes in let bad : ⊥ = cc in absurd bad
-    from_c m message kind (Peer r) to-is false e =
-        let post : HumblePost (Acts (Post (Peer r) (Message m))) =
-        subst (λ t. HumblePost (Acts (Post t (Message m)))) to-is (subst (λ d. HumblePost (Acts (Post p.to d))) message (humble e)) in
-        absurd (true≢false (sym post ∙ ap is_humble kind))
+      from_c : (m : MessageValue) → p.datagram ≡ Message m → m.kind ≡ Election → (place : Place) → p.to ≡ place → (b : Bool) → (p.from == c) ≡ b → p.from ≡ c
+      from_c m message kind place to-is true e = eqb-true p.from c e
+      from_c m message kind Stranger to-is false e = let nowhere : address_of (networks header) p.from p.port Stranger ≡ Some to =
+          subst (λ t. address_of (networks header) p.from p.port t ≡ Some to) to-is goes in let bad : ⊥ = cc in absurd bad
+      from_c m message kind (Peer r) to-is false e =
+          let post : HumblePost (Acts (Post (Peer r) (Message m))) =
+          subst (λ t. HumblePost (Acts (Post t (Message m)))) to-is (subst (λ d. HumblePost (Acts (Post p.to d))) message (humble e)) in
+          absurd (true≢false (sym post ∙ ap is_humble kind))
 
-    by_datagram : (d : Datagram) → p.datagram ≡ d → Mild c (Peer (peer_of p.from)) (Good d)
-    by_datagram (Message m) message = λ kind. from_c m message kind p.to refl (p.from == c) refl
-    by_datagram (Stamp s) message = tt
+      by_datagram : (d : Datagram) → p.datagram ≡ d → Mild c (Peer (peer_of p.from)) (Good d)
+      by_datagram (Message m) message = λ kind. from_c m message kind p.to refl (p.from == c) refl
+      by_datagram (Stamp s) message = tt
 
   event-humble : (h : List Line) (e : Event) → Sealed (e ∷ []) → ((n : ℕ) → AreSoundLines (of n h)) → AllHumble c (manner_of header) h →
       AllHumble c (manner_of header) (joins (happening_by clocks header h e) h)
@@ -120,13 +120,16 @@ module _ (clocks : Clocks) (header : HeaderValue) (setting : Setting) (c : ℕ) 
       subst (λ k. AllHumble c (manner_of header) (joins (Some k) h)) (sym (steps-are clocks header h boots_all (boot_by clocks h at node word)))
       (stepping-humble h boots_all (boot_by clocks h at node word) (boots_humble c) all)
   event-humble h (Turn at node) sealed sound all =
-      subst (λ k. AllHumble c (manner_of header) (joins (Some k) h)) (sym (steps-are clocks header h (answers_all NodeTurn) (record { at = at; node = node;
-          cause = Turned })))
+      subst (λ k. AllHumble c (manner_of header) (joins (Some k) h)) (sym (steps-are clocks header h (answers_all NodeTurn) (record {
+        at = at;
+        node = node;
+        cause = Turned;
+      })))
       (stepping-humble h (answers_all NodeTurn) (record { at = at; node = node; cause = Turned }) (answers_humble c NodeTurn tt) all)
   event-humble h (Bytes at node port (Peer p) octets) sealed sound all = absurd sealed.0
   event-humble h (Bytes at node port Stranger octets) sealed sound all =
       subst (λ k. AllHumble c (manner_of header) (joins (Some k) h)) (sym (steps-are clocks header h (answers_all (GotOn port Stranger (taken_of octets)))
-          (record { at = at; node = node; cause = Handed })))
+      (record { at = at; node = node; cause = Handed })))
       (stepping-humble h (answers_all (GotOn port Stranger (taken_of octets))) (record { at = at; node = node; cause = Handed })
       (answers_humble c (GotOn port Stranger (taken_of octets)) tt) all)
   event-humble h (Take at k) sealed sound all = elim (takes-or clocks header h at k) [
@@ -137,8 +140,16 @@ module _ (clocks : Clocks) (header : HeaderValue) (setting : Setting) (c : ℕ) 
   ]
 
   all-humble : (events : List Event) → PossibleBy clocks header events → Sealed events → AllHumble c (manner_of header) (run_by clocks header events)
-  all-humble [] p sealed = λ n q may. record { role_is = refl; window = refl; probe = refl; close = refl; resolve = refl; round = refl; posts = tt;
-      backs = λ b p e. let bad : ⊥ = cc in absurd bad }
+  all-humble [] p sealed = λ n q may. record {
+    role_is = refl;
+    window = refl;
+    probe = refl;
+    close = refl;
+    resolve = refl;
+    round = refl;
+    posts = tt;
+    backs = λ b p e. let bad : ⊥ = cc in absurd bad;
+  }
   all-humble (e ∷ before) p sealed =
       let earlier = possible_before clocks header e before p in
       event-humble (run_by clocks header before) e (sealed.0, tt) (λ n. ((ran earlier.header_is set before earlier).sound n).lines)

@@ -128,9 +128,9 @@ pub lone_led : (m : ℕ → Manner) (setting : Setting) (late c t : ℕ) (world 
     late ≤ SLACK → (m c).may ≡ true → (m c).strict ≡ false → Lone c world → Told late setting t c world → Led c late setting t world
 lone_led m setting late c t world f all a slack may strict lone told is-up q start idle stood-is past =
     by_role (is_master (role (view q (of c world)))) refl where
-  by_role : (b : Bool) → is_master (role (view q (of c world))) ≡ b → is_master (role (view q (of c world))) ≡ true
-  by_role true e = e
-  by_role false e =
-      let free = calm-untouched q (of c world) (calm setting c q world f lone) is-up in
-      let soon = (progress_to m setting late t c world f all a slack told).fresh_leads may strict q start idle stood-is e free in
-      absurd (omega (arith, past, soon))
+      by_role : (b : Bool) → is_master (role (view q (of c world))) ≡ b → is_master (role (view q (of c world))) ≡ true
+      by_role true e = e
+      by_role false e =
+          let free = calm-untouched q (of c world) (calm setting c q world f lone) is-up in
+          let soon = (progress_to m setting late t c world f all a slack told).fresh_leads may strict q start idle stood-is e free in
+          absurd (omega (arith, past, soon))

@@ -194,8 +194,10 @@ module _ (P H : Manner → ℕ → List Seen → Type 0) (Ok : Place → Taken �
 
   heeds_keep : (q : Port) (m : MessageValue) → m.kind ≡ LoopKind → (b : Bool) → LeadsAll (TookOn q) (heeds_loop q m b) (Each P)
   unfolding heeds_loop judges nothing_at_all
-  heeds_keep q m is true = record { run = λ x past h. (loop_keep q (judge past.name (length past.ports) q m)
-      (judge-loop past.name (length past.ports) q m is)).run x past h }
+  heeds_keep q m is true = record {
+    run = λ x past h. (loop_keep q (judge past.name (length past.ports) q m)
+        (judge-loop past.name (length past.ports) q m is)).run x past h;
+  }
   heeds_keep q m is false = record { run = λ x past h. h.0 }
 
   took_keep : (q : Port) (from : Place) (m : MessageValue) → m.kind ≡ LoopKind → Ok from (Good (Message m)) →

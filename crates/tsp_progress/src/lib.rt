@@ -21,9 +21,9 @@
 //!
 //! Read `specs/` in this order: `Watched` (what is asked), `SendsEnd`, `AlarmsFit`, `CausesFit` and
 //! `Wakes` (what every run has armed), `RunsWake`, `InTime`, `RoundsRecur`, `NeverLate`, `Stands`,
-//! `AloneStands`, `AloneLeads`, `FreshLeads`, `LoneLeads`, `OneMay`, and `Progress`, which puts most
-//! of them together; then `Worked`, `Needed` and `OneUse`, small runs. The words of histories are
-//! those of `tsp_promises`.
+//! `AloneStands`, `AloneLeads`, `FreshLeads`, `LoneLeads`, `OneMay`, and `Progress`, which puts
+//! most of them together; then `Worked`, `Needed` and `OneUse`, small runs. The words of histories
+//! are those of `tsp_promises`.
 //!
 //! # What is proved
 //!

@@ -35,6 +35,7 @@ use Rattle.tsp_progress.specs.RunsWake.{manner_of}
 use Rattle.tsp_progress.specs.{Worked.until_closes, Watched.Watched}
 use Rattle.tsp_progress.specs.OneUse.{two_may, follows_b}
 use Rattle.tsp_progress.proofs.LeftChecks.{left-by}
+
 -- the rules give what is told
 pub returns : goal.returns
 unfolding taken_of kind_of kind_number carries_time carries_hops nothing puts ◌followed_by◌ either_by reading for_each arms posts posts_to_others posts_back
