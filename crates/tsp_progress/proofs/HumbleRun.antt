@@ -21,6 +21,8 @@ use Rattle.tsp_progress.specs.{AlarmsFit.Manner, CausesFit.stirs, Humble.HumbleP
 use Rattle.tsp_progress.specs.{LoneLeads.Lone, OneMay.LeftAlone, OneMay.OneLeads, OneMay.OneMayBe, RunsWake.manner_of}
 use Rattle.tsp_progress.proofs.{HumbleNodes.answers_humble, HumbleNodes.begins_humble, HumbleNodes.boots_humble, HumbleNodes.humbly}
 use Rattle.tsp_progress.proofs.{LoneProof.lone_leads, LoneProof.lone_led, NodeKeeps.Each, NodeKeeps.node_manner, RunWakes.clocked_runs_wake}
+use Rattle.tsp_run.{specs.Clocked.clocks_of, proofs.OwnClocks.possible_own, proofs.OwnClocks.runs_by_own_clocks, proofs.OwnClocks.set_own}
+use Rattle.tsp_progress.specs.{LoneLeads.Led, LoneLeads.LoneLeads, OneMay.OneLeadsRun, Watched.Attended, Watched.Told}
 
 -- each port of each node is humble, if its node may not be master
 abbrev AllHumble : ℕ → (ℕ → Manner) → List Line → Type 0
@@ -178,3 +180,10 @@ one_leads clocks header setting events late c set p sealed attended slack may st
       lone_leads (manner_of header) setting late c (run_by clocks header events) f w.0 attended slack may strict alone,
       λ t told. lone_led (manner_of header) setting late c t (run_by clocks header events) f w.1 attended slack may strict alone told,
     )
+
+pub one_leads_run : OneLeadsRun
+one_leads_run header setting events late c set p sealed attended slack may strict one left =
+    let same = runs_by_own_clocks header events in
+    subst (λ h. LoneLeads c late h × ((t : ℕ) → Told late setting t c h → Led c late setting t h)) same
+    (one_leads (clocks_of header) header setting events late c (set_own header setting set) (possible_own header events p) sealed
+    (subst (λ h. Attended late h) (sym same) attended) slack may strict one (subst (λ h. LeftAlone c h) (sym same) left))

@@ -1,10 +1,10 @@
 -- That a node is left alone, as a computation.
-use Rattle.std.proofs.Common.{sym, ap, subst, true≢false, ◌∙◌, ◌≡◌, eqb-true, eq-eqb, ℕ, ◌==◌, ◌&&◌, Bool, true, false, if◌then◌else◌, List, [], ◌∷◌, refl}
+use Rattle.std.proofs.Common.{sym, ap, subst, true≢false, ◌∙◌, ◌≡◌, eq-eqb, ℕ, ◌==◌, ◌&&◌, Bool, true, false, if◌then◌else◌, List, [], ◌∷◌, refl}
 use Rattle.std.proofs.lemmas.Bool.{and_parts}
 use Rattle.tsp_rules.specs.Values.{Post, Message, Kind, LoopKind, Peer}
 use Rattle.tsp_base.specs.Words.{Acts, Cause, Deed, Handed, Line, MessageValue, peer_of}
 use Rattle.tsp_promises.specs.{Fits.node_of}
-use Rattle.tsp_progress.specs.{CausesFit.stirs, OneMay.LeftAlone}
+use Rattle.tsp_progress.specs.{OneMay.LeftAlone}
 
 -- a kind that isn't LOOP
 abbrev not_loop : Kind → Bool

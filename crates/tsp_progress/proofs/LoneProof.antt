@@ -1,5 +1,5 @@
 -- A node to which nobody sends what stirs hears nothing, and so leads soon.
-use Rattle.std.proofs.Common.{arith, ◌<◌, sym, ap, subst, true≢false, ◌∙◌, ◌≡◌, ◌≤◌, ℕ, ◌+◌, ◌==◌, ◌||◌, eqb-true, Bool, true, false, if◌then◌else◌, List, []}
+use Rattle.std.proofs.Common.{arith, sym, ap, subst, true≢false, ◌∙◌, ◌≡◌, ◌≤◌, ℕ, ◌+◌, ◌==◌, ◌||◌, eqb-true, Bool, true, false, if◌then◌else◌, List, []}
 use Rattle.std.proofs.Common.{◌∷◌, Option}
 use Rattle.std.proofs.Common.{refl}
 use Rattle.std.proofs.lemmas.Bool.{or_right}

@@ -4,6 +4,7 @@ use Rattle.tsp_rules.specs.Values.{Post, Message, Peer, Event, LoopKind, SLACK}
 use Rattle.tsp_base.specs.Words.{Acts, Handed, HeaderValue, Line, MessageValue, peer_of}
 use Rattle.tsp_promises.specs.{Everywhere.Everywhere, Fits.node_of, Setting.Setting}
 use Rattle.tsp_run.specs.{Clocked.Clocks, Clocked.PossibleBy, Clocked.SetByClocks, Clocked.run_by, Premised.Sealed}
+use Rattle.tsp_run.specs.{Possible.Possible, Run.run, Setting.SetBy}
 use Rattle.tsp_progress.specs.{CausesFit.stirs, LoneLeads.Led, LoneLeads.LoneLeads, RunsWake.manner_of, Watched.Attended}
 use Rattle.tsp_progress.specs.Watched.{Told}
 
@@ -28,3 +29,11 @@ OneLeads =
     (manner_of header c).strict ≡ false → OneMayBe c header → LeftAlone c (run_by clocks header events) →
     LoneLeads c late (run_by clocks header events)
     × ((t : ℕ) → Told late setting t c (run_by clocks header events) → Led c late setting t (run_by clocks header events))
+
+-- so it is in the run of each possible schedule
+abbrev pub OneLeadsRun : Type 0
+OneLeadsRun =
+    (header : HeaderValue) (setting : Setting) (events : List Event) (late c : ℕ) → SetBy header setting → Possible header events → Sealed events →
+    Attended late (run header events) → late ≤ SLACK → (manner_of header c).may ≡ true → (manner_of header c).strict ≡ false → OneMayBe c header →
+    LeftAlone c (run header events) →
+    LoneLeads c late (run header events) × ((t : ℕ) → Told late setting t c (run header events) → Led c late setting t (run header events))

@@ -1,5 +1,5 @@
 -- A run in which one node alone may be master, and one in which two may.
-use Rattle.std.specs.Prelude.{ℕ, pos, true, List, [], ◌∷◌, codes}
+use Rattle.std.specs.Prelude.{pos, true, List, [], ◌∷◌, codes}
 use Rattle.tsp_rules.specs.Values.{Event, BootAt, Turn, Take}
 use Rattle.tsp_base.specs.Words.{HeaderValue}
 use Rattle.tsp_promises.specs.Setting.{Setting}

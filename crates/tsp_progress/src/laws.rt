@@ -143,12 +143,17 @@ pub fn lone_led()
         → Led c late setting t world }
 {}
 
-ghost use Rattle.tsp_progress.specs.OneMay.{OneLeads};
+ghost use Rattle.tsp_progress.specs.OneMay.{OneLeads, OneLeadsRun};
 /// So where one node alone may be master, it is master at most 690 s and four times `late` after
 /// each of its boots, in each possible run by any clocks in which nothing seems to come from a peer
 /// that it didn't post: a node that may not be master posts nothing that stirs but LOOPs.
 pub fn one_leads()
     ensures { OneLeads }
+{}
+
+/// So it is in the run of each possible schedule.
+pub fn one_leads_run()
+    ensures { OneLeadsRun }
 {}
 
 ghost use Rattle.tsp_progress.specs.OneUse.{OneUse};

@@ -51,7 +51,7 @@
 //!   outside, it leads within 690 s and four times `late` after each of its boots (`lone_leads`),
 //!   at the end of the history, too, if that is told so far (`lone_led`).
 //! - So where one node alone may be master, it leads within that time after each of its boots: the
-//!   others post nothing that stirs but LOOPs (`one_leads`).
+//!   others post nothing that stirs but LOOPs (`one_leads`, `one_leads_run`).
 //! - All of this holds of the run of each possible schedule that is attended (`runs_progress`), and
 //!   of each possible run by any clocks (`clocked_runs_progress`).
 //! - It says something: a worked run (`prompt_use`), one that leads one tick before the bound

@@ -24,11 +24,10 @@ use Rattle.tsp_rules.specs.GateRows.{loosens_master, forwards, takes_loop_step, 
 use Rattle.tsp_rules.specs.GateRows.{answers_all, boots_on, boots_all}
 use Rattle.tsp_group.specs.Groups.{group_from, goes_before, better}
 use Rattle.tsp_codec.specs.Taken.{taken_of}
-use Rattle.std.proofs.Common.{subst, sym, arith, [], ◌∷◌, ◌+◌}
-use Rattle.tsp_rules.specs.Values.{SLACK}
+use Rattle.std.proofs.Common.{subst, sym, arith, [], ◌∷◌}
 use Rattle.tsp_base.specs.Words.{first_port, of, peer_of, view}
 use Rattle.tsp_progress.specs.Worked.{one_may}
-use Rattle.tsp_progress.proofs.{AloneLeadsProof.has_role, InTimeProof.since_tick, WatchChecks.attended-by, WatchChecks.watched-by}
+use Rattle.tsp_progress.proofs.{AloneLeadsProof.has_role, WatchChecks.attended-by, WatchChecks.watched-by}
 use Rattle.tsp_progress.proofs.laws.one_use.Goals as goal
 use Rattle.std.proofs.Common.{true≢false, ◌≡◌, ℕ, zero, suc, ◌==◌, false}
 use Rattle.tsp_progress.specs.RunsWake.{manner_of}
