@@ -58,8 +58,8 @@
 //!   (`slow_use`), runs that are looked at one tick too late (`late_use`), histories without each
 //!   premise (`needed`), and a run in which a second node may be master, and leads (`one_use`).
 //!
-//! Of what takes several nodes nothing is proved: that an answer comes in time, that a network in
-//! which several nodes may be master gets one, that all follow it and agree.
+//! It isn't proved that an answer comes in time, that a network in which several nodes may be
+//! master gets one, or that all follow it and agree.
 #![tactic(auto)]
 
 pub mod laws;
