@@ -18,7 +18,7 @@ class Matching:
 
     def __init__(self, network, journals, doubted=()):
         self.network, self.journals, self.doubted = network, journals, doubted
-        self.index, self.choices, self.strange = {}, {}, []
+        self.index, self.choices, self.strange, self.untaken = {}, {}, [], None
         for journal in journals.values():
             for life in journal.lives:
                 for turn in life.turns:
@@ -104,11 +104,20 @@ class Matching:
     def nearest(self, turn):
         """The message line of a post that a strange datagram may have been before it was changed: one of its type and number that nobody
         took; or None."""
+        if self.untaken is None:
+            self.untaken = self.found_untaken()
         sender, port = self.sender(turn)
-        way, words = self.key(sender, port, turn.life.node, [])[:3], turn.took().words[2:4]
-        taken = {id(other.post.act) for life in self.lives() for other in life.turns if other.post}
-        return next((key[3] for key, posts in self.index.items() if key[:3] == way and key[3].split(' ')[:2] == words
-                     and not any(id(post.act) in taken for post in posts)), None)
+        return self.untaken.get((*self.key(sender, port, turn.life.node, [])[:3], *turn.took().words[2:4]))
+
+    def found_untaken(self):
+        """The first message line that nobody took of each sender, network, addressee, type and number."""
+        found = {}
+        taken = {id(turn.post.act) for life in self.lives() for turn in life.turns if turn.post}
+        taken |= {id(post.act) for posts in self.choices.values() for post in posts}
+        for key, posts in self.index.items():
+            if not any(id(post.act) in taken for post in posts):
+                found.setdefault((*key[:3], *key[3].split(' ')[:2]), key[3])
+        return found
 
     def choose(self, at, freedom):
         """Settles what is still open, by the times so far."""
