@@ -54,6 +54,7 @@ wants 'daemon/hosts ' tsp-watch daemon/h
 wants 'daemon/hosts ' tsp-watch --prometheus daemon/h
 wants 'beta ' tsp-now b
 wants 'now ' tsp-now --set ''
+wants '--chronyd ' tsp-feed --ch
 wants 'alpha= ' tsp-witness --check al
 wants 'daemon/hosts ' tsp-witness alpha = daemon/h
 wants 'daemon/hosts ' tsp-status --file=daemon/h
@@ -66,7 +67,7 @@ wants ' ' tsp-launch -s ''
 complete_words tsp '' | cmp -s - "$out/commands" || fail 'the commands are others than those of tsp --help'
 
 # The options are those of each tool's help.
-for tool in tsp-lint tsp-plot tsp-sim tsp-launch tsp-status tsp-elect tsp-watch tsp-now tsp-run tsp-witness; do
+for tool in tsp-lint tsp-plot tsp-sim tsp-launch tsp-status tsp-elect tsp-watch tsp-now tsp-feed tsp-run tsp-witness; do
     # (nobody is to set a date by the tabulator)
     "tools/$tool" --help | grep -o -e '--[a-z][a-z-]*' | grep -v -x -e --set | sort -u >"$out/options"
     complete_words "$tool" -- >"$out/completed"

@@ -132,8 +132,8 @@ until chronyc -h "$out/chrony/chronyd.sock" -n -c sources | grep -q '^#,\*,TSP,'
     sleep 0.1
 done
 grep -q 'Selected source TSP' "$out/chronyd" || fail "chronyd says '$(cat "$out/chronyd")'"
-# (the columns of refclocks.log: the sixth is the first offset, by which true time is behind)
-awk '$3 == "TSP" { count++; off = $6 < 0 ? -$6 : $6; if (off < 0.0025 || off > 0.0035) wrong = $0 } END { if (!count || wrong) { print wrong; exit 1 } }' "$out/log/refclocks.log" >"$out/wrong" || fail "chronyd has other offsets: '$(cat "$out/wrong" "$out/log/refclocks.log")'"
+# (the seventh column is the offset of a sample as it came)
+awk '$3 == "TSP" && $7 != "-" { count++; if ($7 < 0.0025 || $7 > 0.0035) wrong = $0 } END { if (!count || wrong) { print wrong; exit 1 } }' "$out/log/refclocks.log" >"$out/wrong" || fail "chronyd has other offsets: '$(cat "$out/wrong" "$out/log/refclocks.log")'"
 ends 0 --status --socket "$out/fed" --chronyd "$out/chrony/chronyd.sock"
 # Another source beside it.
 python3 -B tools/tests/feed_other.py "$out/other" 8 || fail 'the other source ends'
