@@ -136,6 +136,13 @@ _tsp_now() {
     esac
 }
 
+_tsp_feed() {
+    case $(_tsp_before "$3") in
+    --socket | --chronyd) mapfile -t COMPREPLY < <(compgen -f -- "$2") ;;
+    *) mapfile -t COMPREPLY < <(compgen -W '--status --socket --chronyd --asked --version --help' -- "$2") ;;
+    esac
+}
+
 _tsp_run() {
     case $COMP_CWORD:$2 in
     1:-*) mapfile -t COMPREPLY < <(compgen -W '--status --version --help' -- "$2") ;;
@@ -171,5 +178,6 @@ complete -o filenames -F _tsp_status tsp-status
 complete -o filenames -F _tsp_elect tsp-elect
 complete -o filenames -F _tsp_watch tsp-watch
 complete -o filenames -F _tsp_now tsp-now
+complete -o filenames -F _tsp_feed tsp-feed
 complete -o filenames -F _tsp_run tsp-run
 complete -o filenames -F _tsp_witness tsp-witness

@@ -56,6 +56,7 @@ wants 'beta ' tsp-now b
 wants 'now ' tsp-now --set ''
 wants '--tracking ' tsp-now --tra
 wants 'daemon/hosts ' tsp-now --tracking -o daemon/h
+wants '--chronyd ' tsp-feed --ch
 wants 'alpha= ' tsp-witness --check al
 wants 'daemon/hosts ' tsp-witness alpha = daemon/h
 wants 'daemon/hosts ' tsp-status --file=daemon/h
@@ -68,7 +69,7 @@ wants ' ' tsp-launch -s ''
 complete_words tsp '' | cmp -s - "$out/commands" || fail 'the commands are others than those of tsp --help'
 
 # The options are those of each tool's help.
-for tool in tsp-lint tsp-plot tsp-sim tsp-launch tsp-status tsp-elect tsp-watch tsp-now tsp-run tsp-witness; do
+for tool in tsp-lint tsp-plot tsp-sim tsp-launch tsp-status tsp-elect tsp-watch tsp-now tsp-feed tsp-run tsp-witness; do
     # (nobody is to set a date by the tabulator)
     "tools/$tool" --help | grep -o -e '--[a-z][a-z-]*' | grep -v -x -e --set | sort -u >"$out/options"
     complete_words "$tool" -- >"$out/completed"
