@@ -1,4 +1,4 @@
-"""A lab's traces, replayed and audited by tools/tsp-witness."""
+"""A lab's traces, judged by tools/tsp-witness."""
 import os
 import subprocess
 import sys

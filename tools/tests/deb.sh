@@ -146,7 +146,7 @@ cd "$OLDPWD"
 
 # The daemon: what the unit starts is there and gives words, its variables are a file that upgrades leave, and nothing starts by itself.
 unit=$out/root/usr/lib/systemd/system/tsp.service
-for packed in tsp.service tsp-metrics.service tsp-metrics.timer; do
+for packed in tsp.service tsp-metrics.service tsp-metrics.timer tsp-feed.service; do
     cmp -s "${unit%/*}/$packed" "daemon/$packed" || fail "another $packed is packed"
 done
 sed -n 's|^ExecStart=.*\(/usr/bin/[^ ]*\) .*|\1|p' daemon/tsp-metrics.service >"$out/starts"
@@ -154,6 +154,7 @@ sed -n 's|^ExecStart=.*\(/usr/bin/[^ ]*\) .*|\1|p' daemon/tsp-metrics.service >"
 while IFS= read -r start; do
     [ -x "$out/root$start" ] || fail "the metrics' unit starts $start, which isn't there"
 done <"$out/starts"
+cmp -s "$examples/chrony.conf" daemon/tsp-chrony.conf || fail "the lines for chronyd are not packed"
 for example in tsp-alerts.yml tsp-dashboard.json; do
     cmp -s "$examples/$example" "daemon/$example" || fail "$example isn't packed"
 done
@@ -226,6 +227,7 @@ if in_system --install "$package"; then
     echo 'a 192.0.2.1 master' >"$out/system/etc/tsp/hosts"
     ln -s /usr/lib/systemd/system/tsp.service "$out/system/etc/systemd/system/multi-user.target.wants"
     ln -s /usr/lib/systemd/system/tsp-metrics.timer "$out/system/etc/systemd/system/timers.target.wants"
+    ln -s /usr/lib/systemd/system/tsp-feed.service "$out/system/etc/systemd/system/multi-user.target.wants"
     for file in tsp-clock.prom tsp.prom; do : >"$out/system/var/lib/prometheus/node-exporter/$file"; done
     for folder in tsp_texts tsp_daemon tsp_witness; do
         for module in "$out/system/usr/share/tsp/$folder"/*.py; do
