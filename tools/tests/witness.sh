@@ -3,7 +3,7 @@
 # are of daemons on networks of dev/network, but for `hand` and `repeated`, which were worked out by hand.
 . "$(dirname "$0")/common.sh"
 serving_program
-export TSP_PROGRAM=$program
+export TSP_PROGRAM="$program"
 given=tools/tests/witness
 
 # Witnesses the traces of a folder by a hosts file; a daemon's name stands before the dash, and the starts are in the order of their numbers.
