@@ -23,7 +23,7 @@ master. Wall clocks are up to half a second off at first. Each counter is too fa
 late by up to the jitter. On top come the time through the kernel and the bridge, and what a daemon waits for a processor of the busy machine: the least error
 of a measurement shows both.
 
-All daemons' clocks are made from one clock of the machine, by rates and wall clocks that are known here. Each run was also replayed and audited by
+All daemons' clocks are made from one clock of the machine, by rates and wall clocks that are known here. Each run was also judged by
 {judged}
 
 - **error**: the least error of a measurement, which is half of the shortest round trip.
@@ -34,8 +34,7 @@ All daemons' clocks are made from one clock of the machine, by rates and wall cl
 
 **learned** are the same networks once more, for as long, whose daemons count with the rates that their traces of the first run gave, as after a restart.
 **rates** is then the greatest difference of two counters, in parts in a million, and **simulated** how far apart nodes' clocks are whose rates are -1, 0 or 1.
-A schedule's rates are whole parts in a million, which learned ones aren't. So `tsp-witness` may find that clocks fit no schedule for all of the time, if they
-were measured well and differ by a fraction of a part; it says so.
+`tsp-witness` asks of counters only that they stay within the drift, so it judges the runs with learned rates as it does the others.
 
 The simulations are runs of `tsp-sim` with as many nodes and as much drift. In them a datagram takes the daemons' least error, and up to the jitter besides.
 Jitter, errors and distances are milliseconds.
@@ -96,7 +95,7 @@ def judged(cases):
     faulty = [name_of(case) for case in cases if case['faults']]
     told = f'{alike} acts are those of the rules'
     if not faulty:
-        return f'{told}, and each history passes the audit'
+        return f'{told}, and each history holds'
     count = NUMBERS[len(faulty)] if len(faulty) < len(NUMBERS) else len(faulty)
     return f'{told}; not all acts are in {"this case" if len(faulty) == 1 else f"these {count} cases"}: {"; ".join(faulty)}'
 

@@ -54,6 +54,8 @@ wants 'daemon/hosts ' tsp-watch daemon/h
 wants 'daemon/hosts ' tsp-watch --prometheus daemon/h
 wants 'beta ' tsp-now b
 wants 'now ' tsp-now --set ''
+wants '--tracking ' tsp-now --tra
+wants 'daemon/hosts ' tsp-now --tracking -o daemon/h
 wants 'alpha= ' tsp-witness --check al
 wants 'daemon/hosts ' tsp-witness alpha = daemon/h
 wants 'daemon/hosts ' tsp-status --file=daemon/h

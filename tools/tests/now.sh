@@ -206,7 +206,7 @@ ends 0 --prometheus
 [ "$said" = "$stale" ] || fail "the metrics without a page are '$said'"
 
 # What the page says of this host, beside what is reckoned of the page's numbers; into a file too, by a rename.
-python3 -B tools/tests/tracking.py "$out/page" 12 || fail 'a page is told in another way than it says'
+python3 -B tools/tests/tracking.py "$out/page" 14 || fail 'a page is told in another way than it says'
 page -2000:5000
 echo old >"$out/tracked"
 ln "$out/tracked" "$out/before"

@@ -27,8 +27,8 @@ def wanted(is_so, text):
         sys.exit(f'tracking: {text}')
 
 
-def page(role, has_look, is_old):
-    """A random page of a daemon that runs."""
+def page(role, has_look, is_old, looked_at=3):
+    """A random page of a daemon that runs, and may follow peer 3; `looked_at` is the number of the host that was looked at."""
     counter = DRAW.choice([RAW, MONOTONIC])
     tick = DRAW.randint(10 ** 9, 10 ** 12)
     corrected = tick - DRAW.randint(0, 10 ** 8)
@@ -37,7 +37,8 @@ def page(role, has_look, is_old):
                     wall - (tick - corrected) + DRAW.randint(-10 ** 9, 10 ** 9), DRAW.randint(-10 ** 6, 10 ** 6), NEVER, DRAW.randint(-10 ** 7, 10 ** 7),
                     DRAW.randint(0, 9), role, 3 if role == FOLLOWS else 0, tick)
     low = DRAW.randint(-10 ** 4, 10 ** 4)
-    look = Look(daemon.life, daemon.moved - DRAW.randint(-500, 500), tick - DRAW.randint(0, 5 * 10 ** 7) - is_old * 10 ** 8, low, low + DRAW.randint(0, 10 ** 4), 3,
+    age = DRAW.randint(0, 5 * 10 ** 7) + is_old * 10 ** 8
+    look = Look(daemon.life, daemon.moved - DRAW.randint(-500, 500), tick - age, low, low + DRAW.randint(0, 10 ** 4), looked_at,
                 DRAW.randint(0, 500), 1, DRAW.randint(-10 ** 5, 10 ** 5), b'alpha')
     return Page(daemon, look if has_look else Look())
 
@@ -89,9 +90,12 @@ def beside(name, value, before, after):
 def exact(made):
     """What doesn't change while a page is read."""
     daemon, look = made
-    status = 'synchronised' if daemon.role == LEADS else 'waiting' if not look.had else \
-        'synchronised' if daemon.role == FOLLOWS and daemon.origin_tick - look.looked < 64_000_000 else 'holding'
-    return {'status': status, 'role': {NOBODY: 'nobody', FOLLOWS: 'follows', LEADS: 'leads'}[daemon.role], 'steps': daemon.steps, 'moved_us': daemon.moved,
+    is_followed = daemon.role == FOLLOWS and look.had and look.master == daemon.master
+    is_young = daemon.origin_tick - look.looked < 64_000_000
+    status = 'synchronised' if daemon.role == LEADS or is_followed and is_young else 'holding' if look.had else 'waiting'
+    is_own = daemon.role == LEADS and look.had and look.master == 0
+    return {'status': status, 'master': 'alpha' if is_followed or is_own else None, 'steps': daemon.steps,
+            'role': {NOBODY: 'nobody', FOLLOWS: 'follows', LEADS: 'leads'}[daemon.role], 'moved_us': daemon.moved,
             'rate_ppb': daemon.rate, 'learned_ppb': look.learned if look.had else None, 'drift_ppm': look.drift if look.had else None,
             'life': f'{daemon.life:016x}', 'counter': 'raw' if daemon.counter == RAW else 'monotonic'}
 
@@ -125,9 +129,12 @@ def try_words(made, before):
     daemon, look = made
     wanted(rows['Status'] == exact(made)['status'], f'the status is {rows["Status"]}')
     wanted(rows['Rate'].startswith(f'{daemon.rate / 1000:+.3f} parts in a million'), f'the rate is {rows["Rate"]}')
-    wanted(rows['Learned rate'] == (f'{look.learned / 1000:+.3f} parts in a million' if look.had else 'none, by the page'), f'learned is {rows["Learned rate"]}')
+    learned = f'{look.learned / 1000:+.3f} parts in a million' if look.had else 'none, by the page'
+    wanted(rows['Learned rate'] == learned, f'the learned rate is {rows["Learned rate"]}')
     wanted(rows['Steps'] == f'{daemon.steps} in this life', f'the steps are {rows["Steps"]}')
-    leads = {LEADS: 'this host', FOLLOWS: 'alpha' if look.had else 'peer 3, whose clock isn\'t looked at yet', NOBODY: 'nobody; alpha was the last one' if look.had else 'nobody'}
+    leads = {LEADS: 'this host', FOLLOWS: 'peer 3, whose clock isn\'t looked at yet', NOBODY: 'nobody; alpha was the last one' if look.had else 'nobody'}
+    if exact(made)['master']:
+        leads = {LEADS: 'this host, alpha', FOLLOWS: 'alpha'}
     wanted(rows['Who leads'] == leads[daemon.role], f'{rows["Who leads"]} leads')
     wanted(rows['Counter'].startswith('CLOCK_MONOTONIC_RAW,' if daemon.counter == RAW else 'CLOCK_MONOTONIC,'), f'the counter is {rows["Counter"]}')
 
@@ -176,6 +183,7 @@ def main(path, count):
     """Tries pages of each role, with a look and without, of now and of long ago."""
     os.environ['TSP_CLOCK'] = path
     cases = [(role, has_look, is_old) for role in (NOBODY, FOLLOWS, LEADS) for has_look in (True, False) for is_old in (False, True)]
+    cases += [(FOLLOWS, True, False, 4), (LEADS, True, False, 0)]
     for place in range(int(count)):
         made = page(*cases[place % len(cases)])
         made_page.write(path, made)

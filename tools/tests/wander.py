@@ -68,7 +68,7 @@ class Start:
         self.base = START + now + net.chance.randint(-APART, APART)
         self.process = subprocess.Popen([net.program, 'replay'], stdin=subprocess.PIPE, stdout=subprocess.PIPE, bufsize=0)
         lines = ['tsp-schedule 1', 'drift 0']
-        lines += [f'node {name} 0 {self.base - ORIGIN if number == node else 0} {"s" if number == len(net.names) - 1 else "m"}' for number, name in enumerate(net.names)]
+        lines += [f'node {name} 0 {self.base - ORIGIN if number == node else 0} {flag}' for number, (name, flag) in enumerate(zip(net.names, net.flags))]
         self.process.stdin.write('\n'.join([*lines, '']).encode())
         self.file = open(os.path.join(net.folder, f'{net.names[node]}-{net.started:03}.trace'), 'wb')
         self.act(f'boot {node} {self.base}', 0)
@@ -133,6 +133,7 @@ class Net:
     def __init__(self, program, folder, plan):
         self.program, self.folder, self.plan, self.chance = program, folder, plan, random.Random(plan.seed)
         self.names, self.starts, self.started = [f'h{number:02}' for number in range(plan.hosts)], {}, 0
+        self.flags = 'm' * (plan.hosts - 1) + 's'
         self.planned, self.count, self.turns = [], 0, 0
 
     def later(self, at, node, what, start=None):
@@ -144,7 +145,8 @@ class Net:
         """All of it."""
         os.makedirs(self.folder)
         with open(os.path.join(self.folder, 'hosts'), 'w', encoding='ascii') as file:
-            file.writelines(f'{name} 192.0.2.{number + 1} {"slave" if number == len(self.names) - 1 else "master"}\n' for number, name in enumerate(self.names))
+            roles = {'m': 'master', 's': 'slave'}
+            file.writelines(f'{name} 192.0.2.{number + 1} {roles[self.flags[number]]}\n' for number, name in enumerate(self.names))
         for node in range(len(self.names)):
             self.later(self.chance.randint(0, MILLION), node, 'start')
         for _ in range(self.plan.restarts):

@@ -15,6 +15,8 @@ from tsp_witness import drift
 WITNESS = os.path.join(os.path.dirname(os.path.dirname(os.path.realpath(__file__))), 'tsp-witness')
 # How far counters wander, in parts in a million, and by how many microseconds a datagram comes too early.
 DRIFT, EARLY = 50, 2000
+# A turn in which a master's MASTERUP is taken and answered.
+MASTERUP = rb'^([0-9]+) 0 0 ([0-9]+) (took [0-9]+ masterup .*)\n\1 0 0 \2 arm elect ([0-9]+)\n\1 0 0 \2 (post [0-9]+ [0-9]+ slaveup .*)\n(?!\1 )'
 # How much is tried of each change.
 TIMES = 3
 
@@ -80,7 +82,8 @@ def finds_act(folder, chance):
     status, said, besides = judged(changed.folder, '--drift', str(DRIFT))
     number, tick, due = (part.decode() for part in match.groups())
     line = f', turn {number}, tick {tick}: it did "arm elect {due}1", and by the rules it is "arm elect {due}"'
-    wanted(status == 1 and 'acts alike, and then one that differs' in said[0] and said[1].startswith(name) and said[1].endswith(line), f'{match[0]}: {said} {besides}')
+    wanted(status == 1 and 'acts alike, and then one that differs' in said[0] and said[1].startswith(name) and said[1].endswith(line),
+           f'{match[0]}: {said} {besides}')
 
 
 def finds_early(folder, chance):
@@ -93,7 +96,7 @@ def finds_early(folder, chance):
         moved = b''.join(b'%s 0 0 %d %s\n' % (number, int(tick) - by, act) for act in (took, b'arm elect %d' % (int(due) - by), post))
         return moved if int(before[-1]) < int(tick) - by else None
     changed = Changed(folder, chance)
-    name, match = changed.change(rb'^([0-9]+) 0 0 ([0-9]+) (took [0-9]+ masterup .*)\n\1 0 0 \2 arm elect ([0-9]+)\n\1 0 0 \2 (post [0-9]+ [0-9]+ slaveup .*)\n(?!\1 )', earlier)
+    name, match = changed.change(MASTERUP, earlier)
     status, said, besides = judged(changed.folder, '--drift', str(DRIFT))
     named = [line for line in besides if f'in turn {match[1].decode()}, which by its trace posted that to it at another time alone' in line]
     wanted(status == 1 and said[0].endswith('acts alike, holds') and len(besides) == 1 and len(named) == 1 and f' {name} ' in named[0].replace(' (', '  ('),

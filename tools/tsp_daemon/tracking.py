@@ -4,6 +4,7 @@ from collections import namedtuple
 
 import tsp_clock
 from tsp_daemon import metrics, reading, times
+from tsp_texts import tool
 
 STATUSES = {tsp_clock.STALE: 'stale', tsp_clock.WAITING: 'waiting', tsp_clock.SYNCHRONISED: 'synchronised', tsp_clock.HOLDING: 'holding'}
 ROLES = {tsp_clock.NOBODY: 'nobody', tsp_clock.FOLLOWS: 'follows', tsp_clock.LEADS: 'leads'}
@@ -30,6 +31,12 @@ class Tracking(namedtuple('Tracking', 'daemon look tick told own')):
     def is_looked(self):
         """Whether the supervisor has looked at a master in this life."""
         return self.is_known and self.look.is_of(self.daemon, self.tick)
+
+    @property
+    def master(self):
+        """The name of the host that leads, as far as the page has it, or nothing."""
+        is_followed = self.told.role == tsp_clock.FOLLOWS and self.is_looked and self.look.master == self.daemon.master
+        return tool.one_line(self.told.master) if is_followed or self.told.role == tsp_clock.LEADS else ''
 
     @property
     def own_offset(self):
@@ -89,12 +96,11 @@ def track(clock):
 
 def leader_text(seen):
     """Who leads, as far as the page tells."""
-    told, daemon = seen.told, seen.daemon
-    if told.role == tsp_clock.LEADS:
-        return f'this host, {told.master}' if told.master else 'this host'
-    if told.role == tsp_clock.FOLLOWS:
-        return told.master if seen.is_looked and seen.look.master == daemon.master else f'peer {daemon.master}, whose clock isn\'t looked at yet'
-    return f'nobody; {told.master} was the last one' if told.master else 'nobody'
+    if seen.told.role == tsp_clock.LEADS:
+        return f'this host, {seen.master}' if seen.master else 'this host'
+    if seen.told.role == tsp_clock.FOLLOWS:
+        return seen.master or f'peer {seen.daemon.master}, whose clock isn\'t looked at yet'
+    return f'nobody; {tool.one_line(seen.told.master)} was the last one' if seen.told.master else 'nobody'
 
 
 def beside(offset, what):
@@ -150,7 +156,7 @@ def json_text(seen):
     import json
     told, daemon, is_looked = seen.told, seen.daemon, seen.is_looked
     return json.dumps({
-        'status': STATUSES[told.status], 'role': ROLES[told.role], 'leader': told.master or None, 'look_age_us': told.age,
+        'status': STATUSES[told.status], 'role': ROLES[told.role], 'master': seen.master or None, 'look_age_us': told.age,
         'shown_us': told.shown, 'earliest_us': told.earliest, 'latest_us': told.latest, 'width_us': seen.width,
         'own_offset_us': seen.own_offset, 'master_offset_us': seen.master_offset, 'master_error_us': seen.master_error,
         'correction_age_us': seen.corrected, 'to_slew_us': seen.to_slew, 'moved_us': daemon.moved, 'steps': daemon.steps,

@@ -4,13 +4,13 @@ from tsp_witness import rules
 # What an audit has room for.
 AUDITED_EVENTS = AUDITED_LINES = 20_000
 AUDITED_NODES = 16
-# The promises that an audit looks at, by what its verdict calls them.
+# The promises that an audit looks at, by the numbers in its verdicts.
 PROMISES = {
-    'D12': 'no host backs two candidates within the hold',
-    'D13': 'only masters correct',
-    'D14': 'each correction acts at most once',
-    'D15': 'each measurement errs by at most half its round trip',
-    'D16': 'clocks that one round corrected agree',
+    12: 'no host backs two candidates within the hold',
+    13: 'only masters correct',
+    14: 'each correction acts at most once',
+    15: 'each measurement errs by at most half its round trip',
+    16: 'clocks that one round corrected agree',
 }
 
 
@@ -34,6 +34,6 @@ def audit(program, story):
     part = '' if count is None else f', so far as its first {count} events go'
     if words == ['holds']:
         return True, f'the audit holds{part}'
-    if words[0] == 'fails' and words[1] in PROMISES:
-        return False, f'by the audit it is broken at event {words[2]} that {PROMISES[words[1]]}'
+    if words[0] == 'fails':
+        return False, f'by the audit it is broken at event {words[2]} that {PROMISES[int(words[1][1:])]}'
     return False, f'the audit: {" ".join(words)}'

@@ -41,6 +41,11 @@ def missing(name, life):
         yield f'{name}: lines are lost before turn {turn.number}, which posts datagram {number}: {wanted} would be next'
 
 
+def altered_of(network, journals, matching):
+    """What was taken otherwise than it was posted, of hosts that have a trace."""
+    return [altered_text(network, journals, matching, turn) for turn in matching.strange if matching.sender(turn)[0] in journals]
+
+
 def altered_text(network, journals, matching, turn):
     """What a daemon took of a peer that never posted it, or, where the turn is doubted, that posted it at another time alone."""
     sender = matching.sender(turn)[0]

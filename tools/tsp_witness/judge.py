@@ -28,11 +28,8 @@ class Judgement:
         if self.fitting.contradiction:
             self.explain()
         self.late = 0 if self.fitting.contradiction else self.fitting.late()
-        self.notes, self.altered = faults.notes_of(network, journals, self.matching), []
-        for turn in self.matching.strange:
-            if self.matching.sender(turn)[0] in journals:
-                self.altered.append(faults.altered_text(network, journals, self.matching, turn))
-        self.altered += [self.doubted_text(turn, lack) for turn, lack in zip(self.doubted, self.lacks)]
+        self.notes = faults.notes_of(network, journals, self.matching)
+        self.altered = faults.altered_of(network, journals, self.matching) + [self.doubted_text(turn, lack) for turn, lack in zip(self.doubted, self.lacks)]
 
     def name(self, life):
         """How a start is named to a reader."""
@@ -116,15 +113,15 @@ class Judgement:
 
     def contradiction(self):
         """Why no times fit, in lines for a reader."""
-        least, most = self.fitting.spans()
+        (least, most), lack = self.fitting.spans(), f'{self.fitting.lack():.0f} us'
         for node in self.beyond:
             also = '' if len(self.beyond) == 1 else ', or that of another host'
             yield f'with any other counter of {self.network.names[node]} all fits: its counter is beyond the drift{also}, or its ticks were changed'
         if most and least < 2 * most:
             apart = (least - most) * MILLION / most
-            yield f'these contradict each other by {self.fitting.lack():.0f} us: two counters are {apart:.0f} parts in a million apart, and may be {2 * self.drift}'
+            yield f'these contradict each other by {lack}: two counters are {apart:.0f} parts in a million apart, and may be {2 * self.drift}'
         else:
-            yield f'these contradict each other by {self.fitting.lack():.0f} us'
+            yield f'these contradict each other by {lack}'
         for earlier, later, kind in self.fitting.merged():
             yield f'  {self.bound_text(earlier, later, kind)}'
 

@@ -34,7 +34,7 @@ class Story:
             raise Unusable(f'there are {len(network.names)} hosts, and a schedule has at most {schedule.MOST_NODES}')
         self.placing = placing(self.clocks(), len(network.names))
         self.notes = faults.notes_of(network, journals, self.matching)
-        self.altered = [faults.altered_text(network, journals, self.matching, turn) for turn in self.matching.strange if self.matching.sender(turn)[0] in journals]
+        self.altered = faults.altered_of(network, journals, self.matching)
         self.events, self.claims, self.posted = [], [], 0
         self.write()
 

@@ -17,8 +17,8 @@ class Readings:
 
     def __init__(self, matching):
         self.lives = matching.lives()
-        self.ways = [(turn, [post.turn for post in ([turn.post] if turn.post else matching.choices.get(turn, []))]) for life in self.lives for turn in life.turns]
-        self.ways = [way for way in self.ways if way[1]]
+        told = ((turn, [turn.post] if turn.post else matching.choices.get(turn, [])) for life in self.lives for turn in life.turns)
+        self.ways = [(turn, [post.turn for post in posts]) for turn, posts in told if posts]
         needed = {turn for way in self.ways for turn in (way[0], *way[1])}
         # (a microsecond has a bound of its own)
         needed |= {turn for life in self.lives for pair in zip(life.turns, life.turns[1:]) if pair[1].tick - pair[0].tick == 1 for turn in pair}

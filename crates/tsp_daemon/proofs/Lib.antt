@@ -2,6 +2,7 @@ mod DaemonSetting
 pub mod LineLemmas
 pub mod NodeLemmas
 pub mod PageLemmas
+pub mod PagePasts
 pub mod SendLemmas
 pub mod ServeLemmas
 mod SessionFits

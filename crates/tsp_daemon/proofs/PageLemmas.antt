@@ -126,13 +126,15 @@ pub until_marked : (delay n : ℕ) (s : Session) (begun page : Option Page) (cal
     EndsMarks delay (after_turns n s) page calls between now end → MarksUntil delay s begun n calls marks now end
 until_marked delay n s begun page calls marks between now end h e = by_end end (subst (λ (o : Option Page). EndsMarks delay (after_turns n s) o calls between
     now end) h.page_is e) where
-      more : NotesMarks (marks_in_turn delay (after_turns n s) (page_after delay n s begun)) between now → NotesMarks (marks_after delay (suc n) s begun) marks now
+      more : NotesMarks (marks_in_turn delay (after_turns n s) (page_after delay n s begun)) between now →
+          NotesMarks (marks_after delay (suc n) s begun) marks now
       more m = Marks_then _ _ marks between now h.noted m
 
       same : NotesMarks [] between now → NotesMarks (marks_after delay n s begun) marks now
       same m = subst (λ (ms : List Mark). NotesMarks ms marks now) (append-nil (marks_after delay n s begun)) (Marks_then _ _ marks between now h.noted m)
 
-      by_end : (x : ServeEnd) → EndsMarks delay (after_turns n s) (page_after delay n s begun) calls between now x → MarksUntil delay s begun n calls marks now x
+      by_end : (x : ServeEnd) → EndsMarks delay (after_turns n s) (page_after delay n s begun) calls between now x →
+          MarksUntil delay s begun n calls marks now x
       by_end Done m = absurd m
       by_end LinkFault m = same m
       by_end WriteFault m = more m

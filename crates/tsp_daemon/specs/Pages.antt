@@ -10,7 +10,7 @@ use Rattle.tsp_io.specs.{Boards.Mark, declared.origin.Origin.Origin, declared.ti
 use Rattle.tsp_query.specs.Outside.{Paged}
 use Rattle.tsp_page.specs.{Formula.shown_at, Halves.daemon_octets, declared.daemon_half.DaemonHalf.DaemonHalf}
 use Rattle.tsp_page.specs.declared.rank.Rank.{Rank, TheVariants.Nobody, TheVariants.Follows as IsFollower, TheVariants.Leads as IsLeader}
-use Rattle.tsp_rules.specs.{NodeRows.NodePast, Values.Act, Values.Placed, Values.Correct, Values.Become}
+use Rattle.tsp_rules.specs.{NodeRows.NodePast, Values.Act, Values.Placed, Values.Boot, Values.Correct, Values.Become}
 use Rattle.tsp_daemon.specs.declared.end.ServeEnd.{ServeEnd}
 use Rattle.tsp_daemon.specs.declared.end.ServeEnd.TheVariants.{Done, LinkFault, WriteFault, OutOfMemory}
 use Rattle.tsp_daemon.specs.Sessions.{Session, acts_in_turn, after_turns, past_after, turn_tick, waited}
@@ -29,8 +29,9 @@ pub record IsPage (p : Page) : Type 0 where
   pub rest : nat_abs p.half.rest ≤ 2 ^ 61 + 2 ^ 52
   pub began : nat_abs p.offset ≤ 2 ^ 61 + 2 ^ 51
 
--- whether an act changes what the page says: a correction of the clock does, and another role
+-- whether an act changes what the page says: a boot does, a correction of the clock, and another role
 abbrev pub changes_page : Act → Bool
+changes_page Boot = true
 changes_page (Correct amount stepped shown) = true
 changes_page (Become role) = true
 changes_page _ = false

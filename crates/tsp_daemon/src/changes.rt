@@ -4,11 +4,11 @@ ghost use Rattle.tsp_daemon.specs.Pages.{change_page, changes_page, steps_by, st
 
 use tsp_base::act::{Act, Placed};
 
-/// Whether an act changes what the page says: a correction of the clock does, and another role.
+/// Whether an act changes what the page says: a boot does, a correction of the clock, and another role.
 fn changes_page(act: &Act) -> bool
     ensures { result ≡ changes_page act.now }
 {
-    matches!(act, Act::Correct { .. } | Act::Become(_))
+    matches!(act, Act::Boot | Act::Correct { .. } | Act::Become(_))
 }
 
 /// Whether one of these acts does.

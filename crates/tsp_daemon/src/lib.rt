@@ -30,6 +30,9 @@
 //!   right after it, what the node is and whom it follows; how far the target moved since the beginning, by
 //!   slews and steps; how many steps there were; and the least that may be shown, what the page before
 //!   shows at a moment of the counter that isn't before the turn's step (`half_after`).
+//! - After each turn what stands there has the clock of the node's past, and what a turn writes shows no
+//!   less than what stood there before, unless it steps the clock (`pages_tell_of_pasts`,
+//!   `pages_dont_fall`).
 //! - What its node does in these turns keeps all that is promised without premises (`kept`, by
 //!   `HistoryKept`), and there is a setting (networks, rates, wall clocks) of which this speaks
 //!   (`each_daemon_is_set`).

@@ -9,6 +9,7 @@ use Rattle.tsp_rules.specs.NodeRows.{NodePast, for_ports, in_node_step, on, read
 use Rattle.tsp_promises.proofs.GateSteps.{All_after, LeadsAll}
 use Rattle.tsp_progress.specs.{AlarmsFit.Manner, CausesFit.CausesFit, CausesFit.Heard, CausesFit.newest_is, CausesFit.starts_by, CausesFit.stirs}
 use Rattle.tsp_progress.proofs.CauseLeads.{free_puts, gives_up_cause, loops_cause, reposts_cause, rings_cause, sends_cause, takes_cause, took_leads}
+use Rattle.tsp_progress.proofs.NodeWakes.{Anything, any_given}
 use Rattle.tsp_progress.proofs.NodeKeeps.{Each, Family, Keeps, answers_keep, list_each, node_manner, on_each}
 
 -- the acts of a port came in the order that they need
@@ -21,22 +22,22 @@ hearing m x seen = CausesFit seen × Heard seen
 caused-family : Family caused
 caused-family = record { boots = λ m step x seen c. (inr tt, c); aside = λ m d x seen c. c }
 
-causes_keep : Keeps caused hearing
+causes_keep : Keeps caused hearing Anything
 causes_keep = record {
   family = caused-family;
   weaken = λ x past h. h.0;
   sends = sends_cause;
   rings = rings_cause;
-  takes = takes_cause;
-  took = λ from m is. record { run = λ x past h. let k = (took_leads from (Good (Message m)) (ap stirs is)).run x past h in (k.causes, k.heard) };
+  takes = λ steer charge from t ok. takes_cause steer charge from t;
+  took = λ from m is ok. record { run = λ x past h. let k = (took_leads from (Good (Message m)) (ap stirs is)).run x past h in (k.causes, k.heard) };
   gives_up = record { run = λ x past h. gives_up_cause.run x past (record { causes = h.0; heard = h.1 }) };
   abandons = free_puts Abandon refl;
   loops = loops_cause;
-  reposts = reposts_cause;
+  reposts = λ m is. reposts_cause m;
 }
 
 pub answers_caused : (g : NodeGiven) → LeadsAll (Each caused) (answers_all g) (Each caused)
-answers_caused = answers_keep caused hearing causes_keep
+answers_caused g = answers_keep caused hearing Anything causes_keep g (any_given g)
 
 -- a boot, and its quiet time
 

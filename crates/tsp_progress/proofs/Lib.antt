@@ -3,7 +3,11 @@ pub mod AloneProof
 pub mod CauseLeads
 pub mod CauseNodes
 pub mod FreshProof
+pub mod HumbleLeads
+pub mod HumbleNodes
+pub mod HumbleRun
 pub mod InTimeProof
+pub mod LeftChecks
 pub mod LoneProof
 pub mod NeverLateProof
 pub mod NodeKeeps

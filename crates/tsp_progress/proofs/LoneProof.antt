@@ -1,5 +1,6 @@
 -- A node to which nobody sends what stirs hears nothing, and so leads soon.
-use Rattle.std.proofs.Common.{sym, ap, subst, true≢false, ◌∙◌, ◌≡◌, ◌≤◌, ℕ, ◌+◌, ◌==◌, ◌||◌, eqb-true, Bool, true, false, if◌then◌else◌, List, [], ◌∷◌, Option}
+use Rattle.std.proofs.Common.{arith, sym, ap, subst, true≢false, ◌∙◌, ◌≡◌, ◌≤◌, ℕ, ◌+◌, ◌==◌, ◌||◌, eqb-true, Bool, true, false, if◌then◌else◌, List, []}
+use Rattle.std.proofs.Common.{◌∷◌, Option}
 use Rattle.std.proofs.Common.{refl}
 use Rattle.std.proofs.lemmas.Bool.{or_right}
 use Rattle.tsp_rules.specs.Values.{Boot, Took, Post, Datagram, Message, Stamp, Taken, Good, Place, Peer, Port, SLACK}
@@ -9,6 +10,8 @@ use Rattle.tsp_rules.specs.Guards.{is_master}
 use Rattle.tsp_promises.specs.{Fits.Fits, Fits.TookFits, Fits.node_of, Setting.Setting}
 use Rattle.tsp_promises.proofs.{EverywhereLemmas.Everywhere-at, EverywhereLemmas.Everywhere-from, EverywhereLemmas.Everywhere-within}
 use Rattle.tsp_progress.specs.{AlarmsFit.Manner, CausesFit.stirred, CausesFit.stirs_in, FreshLeads.FreshLeadsAt, FreshLeads.first_lead, FreshLeads.untouched}
+use Rattle.tsp_progress.proofs.ProgressProof.{progress_to}
+use Rattle.tsp_progress.specs.{LoneLeads.Led, Wakes.AllWake, Watched.Told}
 use Rattle.tsp_progress.specs.{FreshLeads.untouched_after, LoneLeads.Lone, LoneLeads.LoneLeads, LoneLeads.LoneLeadsAt}
 use Rattle.tsp_progress.specs.{Wakes.Woken, Watched.Attended}
 use Rattle.tsp_progress.proofs.FreshProof.{fresh_leads}
@@ -99,8 +102,10 @@ calm setting c q (l ∷ before) f lone = by_node (node_of l == c) refl (calm set
   by_node false e older = older
 
 lone-at : (c : ℕ) (l : Line) (before world : List Line) → Within (l ∷ before) world → Lone c world → Lone c before
-lone-at c l before world within lone = record { unsent = (Everywhere-within _ (l ∷ before) world lone.unsent within).1;
-    unhanded = (Everywhere-within _ (l ∷ before) world lone.unhanded within).1 }
+lone-at c l before world within lone = record {
+  unsent = (Everywhere-within _ (l ∷ before) world lone.unsent within).1;
+  unhanded = (Everywhere-within _ (l ∷ before) world lone.unhanded within).1;
+}
 
 -- what is so of the node of a line, of a node with its number
 abbrev FreshLeadsOf : (ℕ → Manner) → ℕ → Line → List Line → Port → ℕ → Type 0
@@ -116,4 +121,16 @@ lone_leads m setting late c world f w a slack may strict lone = Everywhere-from 
     let free = calm-untouched q (of c before) (calm setting c q before fits (lone-at c l before world within lone)) is-up in
     let at = Everywhere-at (FreshLeadsAt m late) l before world (fresh_leads m setting late world f w a slack) within in
     subst (λ n. FreshLeadsOf m n l before q late) node (λ may strict start idle s o u. at begins may strict q start idle s o u) may strict start idle stood-is
-        other free)
+    other free)
+
+-- so it is at the end of a history that is told up to then
+pub lone_led : (m : ℕ → Manner) (setting : Setting) (late c t : ℕ) (world : List Line) → Fits setting world → AllWake m world → Attended late world →
+    late ≤ SLACK → (m c).may ≡ true → (m c).strict ≡ false → Lone c world → Told late setting t c world → Led c late setting t world
+lone_led m setting late c t world f all a slack may strict lone told is-up q start idle stood-is past =
+    by_role (is_master (role (view q (of c world)))) refl where
+      by_role : (b : Bool) → is_master (role (view q (of c world))) ≡ b → is_master (role (view q (of c world))) ≡ true
+      by_role true e = e
+      by_role false e =
+          let free = calm-untouched q (of c world) (calm setting c q world f lone) is-up in
+          let soon = (progress_to m setting late t c world f all a slack told).fresh_leads may strict q start idle stood-is e free in
+          absurd (omega (arith, past, soon))

@@ -14,6 +14,9 @@ use Rattle.tsp_rules.specs.NodeRows.{NodePast, NodeRow, abandons_on, for_ports, 
 use Rattle.tsp_rules.specs.{Answers.rings, Answers.takes, RoundRows.corrects, SendRows.due_sends}
 use Rattle.tsp_rules.proofs.{NodeRowLemmas.on_own, NodeRowLemmas.spread_append}
 use Rattle.tsp_promises.proofs.GateSteps.{All_after, All_reading, LeadsAll}
+use Rattle.std.proofs.Common.{◌&&◌, nat_le, nat_lt}
+use Rattle.tsp_rules.specs.Values.{HOPS}
+use Rattle.tsp_rules.specs.GateRows.{hops_in, one_hop_less, same_name}
 use Rattle.tsp_progress.specs.AlarmsFit.{Manner}
 use Rattle.tsp_progress.proofs.Waking.{manner}
 
@@ -63,20 +66,39 @@ module _ (P : Manner → ℕ → List Seen → Type 0) (family : Family P) where
 abbrev pub At : (Manner → ℕ → List Seen → Type 0) → ℕ → Past → Type 0
 At P x past = P (manner past) x past.seen
 
--- each row of a port keeps P; after a datagram was taken H holds
-pub record Keeps (P H : Manner → ℕ → List Seen → Type 0) : Type 0 where
+-- each row of a port keeps P, where what is taken is as Ok says; after a datagram was taken H holds
+pub record Keeps (P H : Manner → ℕ → List Seen → Type 0) (Ok : Place → Taken → Type 0) : Type 0 where
   pub family : Family P
   pub weaken : (x : ℕ) (past : Past) → At H x past → At P x past
   pub sends : Leads (At P) due_sends (At P)
   pub rings : (own wait : Bool) (a : Alarm) → Leads (At P) (rings own wait a) (At P)
-  pub takes : (steer charge : Bool) (from : Place) (t : Taken) → Leads (At P) (takes steer charge from t) (At P)
-  pub took : (from : Place) (m : MessageValue) → m.kind ≡ LoopKind → Leads (At P) (puts (Took from (Good (Message m)))) (At H)
+  pub takes : (steer charge : Bool) (from : Place) (t : Taken) → Ok from t → Leads (At P) (takes steer charge from t) (At P)
+  pub took : (from : Place) (m : MessageValue) → m.kind ≡ LoopKind → Ok from (Good (Message m)) → Leads (At P) (puts (Took from (Good (Message m)))) (At H)
   pub gives_up : Leads (At H) loosens_master (At P)
   pub abandons : Leads (At P) (puts Abandon) (At P)
   pub loops : (q : Port) → Leads (At P) (sends_loops q) (At P)
-  pub reposts : (m : MessageValue) → Leads (At P) (reposts m) (At P)
+  pub reposts : (m : MessageValue) → m.kind ≡ LoopKind → Leads (At P) (reposts m) (At P)
 
-module _ (P H : Manner → ℕ → List Seen → Type 0) (k : Keeps P H) where
+-- only LOOPs are passed on
+abbrev IsLoop : LoopStep → Type 0
+IsLoop (Forward m) = m.kind ≡ LoopKind
+IsLoop _ = Unit {0}
+
+loop-if : (b : Bool) (s t : LoopStep) → IsLoop s → IsLoop t → IsLoop (if b then s else t)
+loop-if true s t p q = p
+loop-if false s t p q = q
+
+judge-loop : (own : List ℕ) (ports : ℕ) (port : Port) (m : MessageValue) → m.kind ≡ LoopKind → IsLoop (judge own ports port m)
+judge-loop own ports port m kind =
+    loop-if (nat_le 2 ports) _ _ (loop-if (same_name m.name own) _ _ (loop-if (nat_lt m.number port.0) GiveUp PassOver tt tt)
+    (loop-if (nat_le 1 (hops_in m.body) && nat_le (hops_in m.body) HOPS) (Forward (one_hop_less m)) PassOver kind tt)) tt
+
+-- what a step is given is as Ok says
+abbrev pub OkGiven : (Place → Taken → Type 0) → NodeGiven → Type 0
+OkGiven Ok NodeTurn = Unit {0}
+OkGiven Ok (GotOn q from t) = Ok from t
+
+module _ (P H : Manner → ℕ → List Seen → Type 0) (Ok : Place → Taken → Type 0) (k : Keeps P H Ok) where
   -- a row of port q
   on_keep : (q : Port) (row : Row) → Leads (At P) row (At P) → LeadsAll (Each P) (on q row) (Each P)
   on_keep = on_each P k.family
@@ -146,21 +168,21 @@ module _ (P H : Manner → ℕ → List Seen → Type 0) (k : Keeps P H) where
 
   -- what comes
 
-  reposts_keep : (m : MessageValue) (q : Port) → LeadsAll (Each P) (reposts_on m q) (Each P)
+  reposts_keep : (m : MessageValue) → m.kind ≡ LoopKind → (q : Port) → LeadsAll (Each P) (reposts_on m q) (Each P)
   unfolding reposts_on
-  reposts_keep m q = record { run = λ x past all. by_case x past all (is_awake_on past q) } where
+  reposts_keep m is q = record { run = λ x past all. by_case x past all (is_awake_on past q) } where
     by_case : (x : ℕ) (past : NodePast) → Each P x past → (b : Bool) → Each P x (spread x past (if b then on q (reposts m) x past else []))
-    by_case x past all true = (on_keep q (reposts m) (k.reposts m)).run x past all
+    by_case x past all true = (on_keep q (reposts m) (k.reposts m is)).run x past all
     by_case x past all false = all
 
   -- while port q has taken a datagram
   abbrev TookOn : Port → ℕ → NodePast → Type 0
   TookOn q x past = Each P x past × H (node_manner past) x (view q past.lines)
 
-  loop_keep : (q : Port) (s : LoopStep) → LeadsAll (TookOn q) (takes_loop_step q s) (Each P)
+  loop_keep : (q : Port) (s : LoopStep) → IsLoop s → LeadsAll (TookOn q) (takes_loop_step q s) (Each P)
   unfolding takes_loop_step forwards nothing_at_all on
-  loop_keep q PassOver = record { run = λ x past h. h.0 }
-  loop_keep q GiveUp = record { run = λ x past h r. by_case x past h r (q.0 == r.0) refl } where
+  loop_keep q PassOver is = record { run = λ x past h. h.0 }
+  loop_keep q GiveUp is = record { run = λ x past h r. by_case x past h r (q.0 == r.0) refl } where
     by_case : (x : ℕ) (past : NodePast) → TookOn q x past → (r : Port) (b : Bool) → (q.0 == r.0) ≡ b →
         P (node_manner past) x (on_port r (spread x past (placed q (loosens_master x (on_port q past))))).seen
     by_case x past h r true e = subst (λ p. P (node_manner past) x (on_port p (spread x past (placed q (loosens_master x (on_port q past))))).seen)
@@ -168,56 +190,62 @@ module _ (P H : Manner → ℕ → List Seen → Type 0) (k : Keeps P H) where
         (subst (λ (z : Past). P (node_manner past) x z.seen) (sym (on_own q x past (loosens_master x (on_port q past))))
         (k.gives_up.run x (on_port q past) h.1))
     by_case x past h r false e = beside P k.family (node_manner past) q r e past.step x (loosens_master x (on_port q past)) past.lines (h.0 r)
-  loop_keep q (Forward m) = record { run = λ x past h. (list_each P k.family (reposts_on m) (other_ports q past) (reposts_keep m)).run x past h.0 }
+  loop_keep q (Forward m) is = record { run = λ x past h. (list_each P k.family (reposts_on m) (other_ports q past) (reposts_keep m is)).run x past h.0 }
 
-  heeds_keep : (q : Port) (m : MessageValue) (b : Bool) → LeadsAll (TookOn q) (heeds_loop q m b) (Each P)
+  heeds_keep : (q : Port) (m : MessageValue) → m.kind ≡ LoopKind → (b : Bool) → LeadsAll (TookOn q) (heeds_loop q m b) (Each P)
   unfolding heeds_loop judges nothing_at_all
-  heeds_keep q m true = record { run = λ x past h. (loop_keep q (judge past.name (length past.ports) q m)).run x past h }
-  heeds_keep q m false = record { run = λ x past h. h.0 }
+  heeds_keep q m is true = record {
+    run = λ x past h. (loop_keep q (judge past.name (length past.ports) q m)
+        (judge-loop past.name (length past.ports) q m is)).run x past h;
+  }
+  heeds_keep q m is false = record { run = λ x past h. h.0 }
 
-  took_keep : (q : Port) (from : Place) (m : MessageValue) → m.kind ≡ LoopKind → LeadsAll (Each P) (on q (puts (Took from (Good (Message m))))) (TookOn q)
+  took_keep : (q : Port) (from : Place) (m : MessageValue) → m.kind ≡ LoopKind → Ok from (Good (Message m)) →
+      LeadsAll (Each P) (on q (puts (Took from (Good (Message m))))) (TookOn q)
   unfolding on
-  took_keep q from m is =
+  took_keep q from m is ok =
       let t = Good (Message m) in
       record {
         run = λ x past all. (
-          (on_keep q (puts (Took from t)) (Leads_to k.weaken (k.took from m is))).run x past all,
+          (on_keep q (puts (Took from t)) (Leads_to k.weaken (k.took from m is ok))).run x past all,
           subst (λ (z : Past). H (node_manner past) x z.seen) (sym (on_own q x past (puts (Took from t) x (on_port q past))))
-              ((k.took from m is).run x (on_port q past) (all q)),
+              ((k.took from m is ok).run x (on_port q past) (all q)),
         );
       }
 
-  takes_loop_keep : (q : Port) (from : Place) (m : MessageValue) → m.kind ≡ LoopKind → LeadsAll (Each P) (takes_loop q from m) (Each P)
+  takes_loop_keep : (q : Port) (from : Place) (m : MessageValue) → m.kind ≡ LoopKind → Ok from (Good (Message m)) →
+      LeadsAll (Each P) (takes_loop q from m) (Each P)
   unfolding takes_loop
-  takes_loop_keep q from m is = All_after (on q (puts (Took from (Good (Message m))))) (reading_all (hears_on from q) (heeds_loop q m))
-      (took_keep q from m is) (All_reading (hears_on from q) (heeds_loop q m) (heeds_keep q m))
+  takes_loop_keep q from m is ok = All_after (on q (puts (Took from (Good (Message m))))) (reading_all (hears_on from q) (heeds_loop q m))
+      (took_keep q from m is ok) (All_reading (hears_on from q) (heeds_loop q m) (heeds_keep q m is))
 
-  takes_message_keep : (q : Port) (from : Place) (m : MessageValue) → LeadsAll (Each P) (takes_message q from m) (Each P)
+  takes_message_keep : (q : Port) (from : Place) (m : MessageValue) → Ok from (Good (Message m)) → LeadsAll (Each P) (takes_message q from m) (Each P)
   unfolding takes_message
-  takes_message_keep q from m = record {
+  takes_message_keep q from m ok = record {
     run = λ x past all.
         let row = takes (steers q x past) (in_charge q x past) from (Good (Message m)) in
-        (stirring_keep q (stirred_ports q m.kind) row (k.takes (steers q x past) (in_charge q x past) from (Good (Message m)))).run x past all;
+        (stirring_keep q (stirred_ports q m.kind) row (k.takes (steers q x past) (in_charge q x past) from (Good (Message m)) ok)).run x past all;
   }
 
-  takes_kind_keep : (q : Port) (from : Place) (m : MessageValue) (k : Kind) → m.kind ≡ k → LeadsAll (Each P) (takes_kind q from m k) (Each P)
+  takes_kind_keep : (q : Port) (from : Place) (m : MessageValue) (k : Kind) → m.kind ≡ k → Ok from (Good (Message m)) →
+      LeadsAll (Each P) (takes_kind q from m k) (Each P)
   unfolding takes_kind
-  takes_kind_keep q from m LoopKind is = takes_loop_keep q from m is
-  takes_kind_keep q from m _ is = takes_message_keep q from m
+  takes_kind_keep q from m LoopKind is ok = takes_loop_keep q from m is ok
+  takes_kind_keep q from m _ is ok = takes_message_keep q from m ok
 
-  takes_keep : (q : Port) (from : Place) (t : Taken) → LeadsAll (Each P) (takes_on q from t) (Each P)
+  takes_keep : (q : Port) (from : Place) (t : Taken) → Ok from t → LeadsAll (Each P) (takes_on q from t) (Each P)
   unfolding takes_on
-  takes_keep q from (Good (Message m)) = takes_kind_keep q from m m.kind refl
-  takes_keep q from (Good (Stamp s)) = on_keep q (takes true true from (Good (Stamp s))) (k.takes true true from (Good (Stamp s)))
-  takes_keep q from (Bad fault) = on_keep q (takes true true from (Bad fault)) (k.takes true true from (Bad fault))
+  takes_keep q from (Good (Message m)) ok = takes_kind_keep q from m m.kind refl ok
+  takes_keep q from (Good (Stamp s)) ok = on_keep q (takes true true from (Good (Stamp s))) (k.takes true true from (Good (Stamp s)) ok)
+  takes_keep q from (Bad fault) ok = on_keep q (takes true true from (Bad fault)) (k.takes true true from (Bad fault) ok)
 
-  input_keep : (g : NodeGiven) → LeadsAll (Each P) (input_all g) (Each P)
+  input_keep : (g : NodeGiven) → OkGiven Ok g → LeadsAll (Each P) (input_all g) (Each P)
   unfolding input_all
-  input_keep NodeTurn = nothing_keep
-  input_keep (GotOn q from t) = takes_keep q from t
+  input_keep NodeTurn ok = nothing_keep
+  input_keep (GotOn q from t) ok = takes_keep q from t ok
 
   -- what a node answers
-  pub answers_keep : (g : NodeGiven) → LeadsAll (Each P) (answers_all g) (Each P)
+  pub answers_keep : (g : NodeGiven) → OkGiven Ok g → LeadsAll (Each P) (answers_all g) (Each P)
   unfolding answers_all
-  answers_keep g = All_after (reading_all all_ports (for_ports turns_on)) (input_all g)
-      (All_reading all_ports (for_ports turns_on) (λ ports. list_each P k.family turns_on ports turns_keep)) (input_keep g)
+  answers_keep g ok = All_after (reading_all all_ports (for_ports turns_on)) (input_all g)
+      (All_reading all_ports (for_ports turns_on) (λ ports. list_each P k.family turns_on ports turns_keep)) (input_keep g ok)

@@ -1,18 +1,18 @@
 -- What a node does in a step over all its ports keeps armed what each port's role asks for.
 use Rattle.std.proofs.Common.{sym, subst, ◌≡◌, ℕ, ◌==◌, true, List, [], ◌∷◌, map, refl}
 use Rattle.std.proofs.lemmas.Bool.{or_right}
-use Rattle.tsp_rules.specs.Values.{Boot, Took, Become, Abandon, Quiet, PeerId, Port, Starting, QUIET, Loose, Good, Message}
+use Rattle.tsp_rules.specs.Values.{Boot, Took, Become, Abandon, Quiet, PeerId, Port, Starting, QUIET, Loose, Good, Message, Place, Taken}
 use Rattle.tsp_base.specs.Words.{Acts, Did, Here, Elsewhere, Begins, MessageValue, Past, Seen, Step, Leads, arms, first_port, grown, held, line_of, nothing}
 use Rattle.tsp_base.specs.Words.{others, puts, seen_as, view, ◌followed_by◌}
 use Rattle.tsp_base.proofs.{LeadsLemmas.Leads_either, LeadsLemmas.Leads_from, LeadsLemmas.Leads_nothing, LeadsLemmas.Leads_puts, LeadsLemmas.Leads_then}
-use Rattle.tsp_rules.specs.GateRows.{NodeGiven, all_ports, answers_all, boots_all, boots_on, loosens_master, ports_from, repost, reposts}
+use Rattle.tsp_rules.specs.GateRows.{GotOn, NodeTurn, NodeGiven, all_ports, answers_all, boots_all, boots_on, loosens_master, ports_from, repost, reposts}
 use Rattle.tsp_rules.specs.NodeRows.{NodePast, for_ports, on, reading_all, in_node_step}
 use Rattle.tsp_rules.specs.{CandidateRows.yields, Guards.is_master_at}
 use Rattle.tsp_rules.proofs.{BuiltGate.built_sends_loops, Emits.Posting}
 use Rattle.tsp_promises.proofs.GateSteps.{All_after, LeadsAll}
 use Rattle.tsp_progress.proofs.{PortWakes.calm, PortWakes.rings_far, PortWakes.sends_far, PortWakes.takes_far, PortWakes.yields_far}
 use Rattle.tsp_progress.specs.AlarmsFit.{Manner}
-use Rattle.tsp_progress.proofs.NodeKeeps.{Each, Family, Keeps, answers_keep, list_each, node_manner, on_each}
+use Rattle.tsp_progress.proofs.NodeKeeps.{Each, Family, Keeps, answers_keep, list_each, node_manner, on_each, OkGiven}
 use Rattle.tsp_progress.proofs.Waking.{Awake, Begun, Settled, becomes, far, free_to, keeps, manner, ready, starting_quiets}
 
 -- a port has armed what its role asks for
@@ -61,23 +61,31 @@ reposts_far m = record { run = λ x past h. each x past (others past.own past.pe
   each x past [] h = h
   each x past (p ∷ ps) h = each x (grown x past (repost m p ∷ [])) ps (keeps (repost m p) refl x past h)
 
-awake_keeps : Keeps awake awake
+-- of whatever is taken
+abbrev pub Anything : Place → Taken → Type 0
+Anything from t = Unit {0}
+
+pub any_given : (g : NodeGiven) → OkGiven Anything g
+any_given NodeTurn = tt
+any_given (GotOn q from t) = tt
+
+awake_keeps : Keeps awake awake Anything
 awake_keeps = record {
   family = awake-family;
   weaken = λ x past h. h;
   sends = sends_far;
   rings = rings_far;
-  takes = takes_far;
-  took = λ from m is. far (Took from (Good (Message m))) refl;
+  takes = λ steer charge from t ok. takes_far steer charge from t;
+  took = λ from m is ok. far (Took from (Good (Message m))) refl;
   gives_up = gives_up_far;
   abandons = far Abandon refl;
   loops = λ q. calm {sorts = Posting ∷ []} refl refl (built_sends_loops q tt);
-  reposts = reposts_far;
+  reposts = λ m is. reposts_far m;
 }
 
 -- what a node answers keeps each of its ports awake
 pub answers_awake : (g : NodeGiven) → LeadsAll (Each awake) (answers_all g) (Each awake)
-answers_awake = answers_keep awake awake awake_keeps
+answers_awake g = answers_keep awake awake Anything awake_keeps g (any_given g)
 
 -- a boot
 

@@ -3,10 +3,13 @@ pub mod AloneLeads
 pub mod AloneStands
 pub mod CausesFit
 pub mod FreshLeads
+pub mod Humble
 pub mod InTime
 pub mod LoneLeads
 pub mod Needed
 pub mod NeverLate
+pub mod OneMay
+pub mod OneUse
 pub mod Progress
 pub mod RoundsRecur
 pub mod RunsWake

@@ -126,13 +126,41 @@ pub fn fresh_leads()
         → FreshLeads m late world }
 {}
 
-ghost use Rattle.tsp_progress.specs.LoneLeads.{Lone, LoneLeads};
+ghost use Rattle.tsp_progress.specs.LoneLeads.{Led, Lone, LoneLeads};
 /// So a node that may be master, to which nobody posts a message of a kind that stirs and no octets
 /// come from outside, is master at most 690 s and four times `late` after each of its boots.
 pub fn lone_leads()
     ensures { (m : ℕ → Manner) (setting : Setting) (late c : ℕ) (world : List Line)
         → Fits setting world → Woken m world → Attended late world → late ≤ SLACK
         → (m c).may ≡ true → (m c).strict ≡ false → Lone c world → LoneLeads c late world }
+{}
+
+/// So it is at the end of a history that is told up to a true time.
+pub fn lone_led()
+    ensures { (m : ℕ → Manner) (setting : Setting) (late c t : ℕ) (world : List Line)
+        → Fits setting world → AllWake m world → Attended late world → late ≤ SLACK
+        → (m c).may ≡ true → (m c).strict ≡ false → Lone c world → Told late setting t c world
+        → Led c late setting t world }
+{}
+
+ghost use Rattle.tsp_progress.specs.OneMay.{OneLeads, OneLeadsRun};
+/// So where one node alone may be master, it is master at most 690 s and four times `late` after
+/// each of its boots, in each possible run by any clocks in which nothing seems to come from a peer
+/// that it didn't post: a node that may not be master posts nothing that stirs but LOOPs.
+pub fn one_leads()
+    ensures { OneLeads }
+{}
+
+/// So it is in the run of each possible schedule.
+pub fn one_leads_run()
+    ensures { OneLeadsRun }
+{}
+
+ghost use Rattle.tsp_progress.specs.OneUse.{OneUse};
+/// A run of which all that is asked for holds, and one in which two nodes may be master, of which
+/// all else holds: one of them follows, and doesn't lead.
+pub fn one_use()
+    ensures { OneUse }
 {}
 
 ghost use Rattle.tsp_progress.specs.Progress.{ClockedRunsProgress, RunsProgress};

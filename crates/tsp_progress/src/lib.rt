@@ -21,9 +21,9 @@
 //!
 //! Read `specs/` in this order: `Watched` (what is asked), `SendsEnd`, `AlarmsFit`, `CausesFit` and
 //! `Wakes` (what every run has armed), `RunsWake`, `InTime`, `RoundsRecur`, `NeverLate`, `Stands`,
-//! `AloneStands`, `AloneLeads`, `FreshLeads`, `LoneLeads`, and `Progress`, which puts most of them
-//! together; then `Worked` and `Needed`, small runs. The words of histories are those of
-//! `tsp_promises`.
+//! `AloneStands`, `AloneLeads`, `FreshLeads`, `LoneLeads`, `OneMay`, and `Progress`, which puts
+//! most of them together; then `Worked`, `Needed` and `OneUse`, small runs. The words of histories
+//! are those of `tsp_promises`.
 //!
 //! # What is proved
 //!
@@ -48,15 +48,18 @@
 //!   for at most 1,215 s and five times `late` after its last word (`alone_leads`), or for at most
 //!   690 s and four times `late` after its boot, if that was its last word (`fresh_leads`).
 //! - So where nobody posts a message that stirs to such a node, and no octets come to it from
-//!   outside, it leads within 690 s and four times `late` after each of its boots (`lone_leads`).
+//!   outside, it leads within 690 s and four times `late` after each of its boots (`lone_leads`),
+//!   at the end of the history, too, if that is told so far (`lone_led`).
+//! - So where one node alone may be master, it leads within that time after each of its boots: the
+//!   others post nothing that stirs but LOOPs (`one_leads`, `one_leads_run`).
 //! - All of this holds of the run of each possible schedule that is attended (`runs_progress`), and
 //!   of each possible run by any clocks (`clocked_runs_progress`).
 //! - It says something: a worked run (`prompt_use`), one that leads one tick before the bound
-//!   (`slow_use`), runs that are looked at one tick too late (`late_use`), and histories without
-//!   each premise (`needed`).
+//!   (`slow_use`), runs that are looked at one tick too late (`late_use`), histories without each
+//!   premise (`needed`), and a run in which a second node may be master, and leads (`one_use`).
 //!
-//! Of what takes several nodes nothing is proved: that an answer comes in time, that a network in
-//! which several nodes may be master gets one, that all follow it and agree.
+//! It isn't proved that an answer comes in time, that a network in which several nodes may be
+//! master gets one, or that all follow it and agree.
 #![tactic(auto)]
 
 pub mod laws;
