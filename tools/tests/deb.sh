@@ -255,7 +255,7 @@ fi
 mkdir "$out/source"
 if has dpkg-source; then
     sources=$(make_deb --source "$out/source") || fail 'no source package is made'
-    (cd "$out/source" && dpkg-source --no-check -x "$sources" unpacked && cd unpacked && TSP_PROGRAM=$program dpkg-buildpackage -d -b -us -uc) >"$out/told" 2>&1 ||
+    (cd "$out/source" && dpkg-source --no-check -x "$sources" unpacked && cd unpacked && find . -exec touch -h -d 2001-01-01 {} + && TSP_PROGRAM=$program dpkg-buildpackage -d -b -us -uc) >"$out/told" 2>&1 ||
         fail "of the source package no package becomes: $(tail -n 1 "$out/told")"
     cmp -s "$package" "$out/source/${package##*/}" || fail 'of the source package another package becomes'
     (cd "$out/source/unpacked" && dpkg-buildpackage -d -T clean) >"$out/told" 2>&1 && [ ! -e "$out/source/unpacked/debian/build" ] || fail 'debian/rules cleans nothing'
