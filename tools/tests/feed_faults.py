@@ -67,7 +67,8 @@ class Running:
 
     def __init__(self, page, path):
         environment = dict(os.environ, TSP_CLOCK=page)
-        self.process = subprocess.Popen([os.path.join(HERE, '..', 'tsp-feed'), '--asked', '--socket', path], env=environment, stdout=subprocess.DEVNULL, stderr=subprocess.PIPE)
+        command = [os.path.join(HERE, '..', 'tsp-feed'), '--asked', '--socket', path]
+        self.process = subprocess.Popen(command, env=environment, stdout=subprocess.DEVNULL, stderr=subprocess.PIPE)
         self.lines = []
         self.thread = threading.Thread(target=self.read, daemon=True)
         self.thread.start()

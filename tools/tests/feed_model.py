@@ -87,8 +87,9 @@ def ran(counter):
 
 def main():
     settled, said = ran(RAW)
-    assert max(apart for apart, _ in settled[300:]) < 1.5, f'fed by the raw counter own clocks are {max(apart for apart, _ in settled[300:])} ms apart'
-    assert max(rate for _, rate in settled[300:]) < 80, f'fed by the raw counter chronyd has a rate of {max(rate for _, rate in settled[300:])} parts in a million'
+    apart, rate = (max(values) for values in zip(*settled[300:]))
+    assert apart < 1.5, f'fed by the raw counter own clocks are {apart} ms apart'
+    assert rate < 80, f'fed by the raw counter chronyd has a rate of {rate} parts in a million'
     assert said == ['m leads: samples are sent', 'the daemon counts by no learned rate yet: until then own clocks move by some ten milliseconds in a round, '
                     'or where the master changes'], said
     away, _ = ran(MONOTONIC)
