@@ -16,13 +16,15 @@ acting-added step x [] seen e = e
 acting-added step x (a ∷ rest) seen e = acting-added step x rest _ (acting_after-acts a (acting seen) e)
 
 -- a call in a step that has acted
-pub Performs_acting : {row : Row} {x : ℕ} {port : Port} {before after : Station} {old new : List Placed} → Performs StationStands StationStands row x port before after old new → Performs StandsActing StandsActing row x port before after old new
+pub Performs_acting : {row : Row} {x : ℕ} {port : Port} {before after : Station} {old new : List Placed} →
+    Performs StationStands StationStands row x port before after old new → Performs StandsActing StandsActing row x port before after old new
 Performs_acting {row = row} {x = x} d = record {
   acts = λ past h. d.acts past h.stands;
   stands = λ past h. record { stands = d.stands past h.stands; acted = acting-added past.step x (row x past) past.seen h.acted };
 }
 
-pub taken_after-acts : (d : Deed) (took : Option Received) (before : Bool) (r : Received) → (took ≡ Some r → before ≡ true) → taken_after d took ≡ Some r → acting_after d before ≡ true
+pub taken_after-acts : (d : Deed) (took : Option Received) (before : Bool) (r : Received) → (took ≡ Some r → before ≡ true) → taken_after d took ≡ Some r →
+    acting_after d before ≡ true
 taken_after-acts Begins took before r k e = absurd (none-some r e)
 taken_after-acts (Acts (Took from t)) took before r k e = refl
 taken_after-acts (Acts (Ring alarm)) took before r k e = refl

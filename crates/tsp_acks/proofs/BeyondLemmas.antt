@@ -1,5 +1,6 @@
 -- The peers that come after one, and the rows that are left for them.
-use Rattle.std.proofs.Common.{ap, arith, length-append, ◌≡◌, ℕ, zero, suc, ◌+◌, ◌≤◌, ◌<◌, nat_lt, Bool, true, false, List, [], ◌∷◌, ◌++◌, map, length, cond, Option, Some, None, refl, slice_index_or}
+use Rattle.std.proofs.Common.{ap, arith, length-append, ◌≡◌, ℕ, zero, suc, ◌+◌, ◌≤◌, ◌<◌, nat_lt, Bool, true, false, List, [], ◌∷◌, ◌++◌, map, length, cond}
+use Rattle.std.proofs.Common.{Option, Some, None, refl, slice_index_or}
 use Rattle.std.specs.List.{All, AllPairs, Contains, filter}
 use Rattle.std.proofs.lemmas.{Bool.ltb-true, Bool.lt-ltb, List.length-map, List.get_or-map, List.Kept.AllPairs-from_increasing}
 use Rattle.tsp_rules.specs.Values.{Placed, PeerId, Port}
@@ -43,7 +44,11 @@ Rises (p ∷ ps) = All (λ q. p.0 < q.0) ps × Rises ps
 Rises-pairs : (ps : List PeerId) → AllPairs (λ x y. x < y) (map (λ (p : PeerId). p.0) ps) → Rises ps
 Rises-pairs [] up = tt
 Rises-pairs (p ∷ ps) up = (
-  λ k d l. let e = get_or-map (λ (q : PeerId). q.0) ps k d 0 l in omega (arith, up zero (suc k) 0 (omega arith) (omega (arith, length-map ps (λ (q : PeerId). q.0)))),
+  λ k d l. let e = get_or-map (λ (q : PeerId). q.0) ps k d 0 l in omega (
+    arith,
+    up zero (suc k) 0 (omega arith)
+        (omega (arith, length-map ps (λ (q : PeerId). q.0))),
+  ),
   Rises-pairs ps (λ i j d l within. up (suc i) (suc j) d (omega arith) (omega arith)),
 )
 
@@ -90,7 +95,8 @@ Splits-before after p q ps l s = by_test (is_after after q) refl where
     at (suc k) d within = s.passed k d (omega arith)
   by_test false e = record { between = s.between; is = rw (e, later) s.is; passed = s.passed }
 
-splits_at : (after : Option PeerId) (p : PeerId) (ps : List PeerId) (k : ℕ) → Rises ps → IsAfter after p → k < length ps → slice_index_or ps k p ≡ p → Splits after p ps
+splits_at : (after : Option PeerId) (p : PeerId) (ps : List PeerId) (k : ℕ) → Rises ps → IsAfter after p → k < length ps → slice_index_or ps k p ≡ p →
+    Splits after p ps
 splits_at after p [] k r h within found = absurd (omega arith)
 splits_at after p (q ∷ ps) zero r h within found =
     let here : is_after after q ≡ true = after_true after q (rw found h) in
@@ -111,31 +117,41 @@ Splits-peer after p ps up h c = splits_at after p ps c.0 (Rises-ascending ps up)
 pub Splits-fewer : (after : Option PeerId) (p : PeerId) (ps : List PeerId) → Splits after p ps → length (beyond (Some p) ps) + 1 ≤ length (beyond after ps)
 Splits-fewer after p ps s = rw s.is (omega (arith, length-append s.between (p ∷ beyond (Some p) ps)))
 
-module _ {S T U : Type 0} (fits : Past → S → Type 0) (mid_fits : Past → T → Type 0) (last_fits : Past → U → Type 0) (r : PeerId → Row) (x : ℕ) (port : Port) (first : S) (middle : T) (last : U) (old mid new : List Placed) where
+module _ {S T U : Type 0} (fits : Past → S → Type 0) (mid_fits : Past → T → Type 0) (last_fits : Past → U → Type 0) (r : PeerId →
+    Row) (x : ℕ) (port : Port) (first : S) (middle : T) (last : U) (old mid new : List Placed) where
   -- rows that do nothing stand before the others
-  after_idle : (idle ps : List PeerId) → All (λ q. Performs fits fits (r q) x port first first old old) idle → Performs fits last_fits (for_each r ps) x port first last old new → Performs fits last_fits (for_each r (idle ++ ps)) x port first last old new
+  after_idle : (idle ps : List PeerId) → All (λ q. Performs fits fits (r q) x port first first old old) idle →
+      Performs fits last_fits (for_each r ps) x port first last old new → Performs fits last_fits (for_each r (idle ++ ps)) x port first last old new
   unfolding for_each
   after_idle [] ps k d = d
   after_idle (q ∷ idle) ps k d = Performs_then (k 0 q (omega arith)) (after_idle idle ps (λ i e l. k (suc i) e (omega arith)) d)
 
   -- what is left after a peer: nothing for those before p, then the row of p, then what is left after p
-  pub for_each-beyond : (after : Option PeerId) (p : PeerId) (ps : List PeerId) → Splits after p ps → ((q : PeerId) → IsAfter after q → q.0 < p.0 → Performs fits fits (r q) x port first first old old) → Performs fits mid_fits (r p) x port first middle old mid
-      → Performs mid_fits last_fits (for_each r (beyond (Some p) ps)) x port middle last mid new → Performs fits last_fits (for_each r (beyond after ps)) x port first last old new
+  pub for_each-beyond : (after : Option PeerId) (p : PeerId) (ps : List PeerId) → Splits after p ps →
+      ((q : PeerId) → IsAfter after q → q.0 < p.0 → Performs fits fits (r q) x port first first old old) →
+      Performs fits mid_fits (r p) x port first middle old mid
+      → Performs mid_fits last_fits (for_each r (beyond (Some p) ps)) x port middle last mid new →
+      Performs fits last_fits (for_each r (beyond after ps)) x port first last old new
   unfolding for_each
-  for_each-beyond after p ps s idle here rest = rw s.is (after_idle s.between (p ∷ beyond (Some p) ps) (λ k d l. let w = s.passed k d l in idle _ w.0 w.1) (Performs_then here rest))
+  for_each-beyond after p ps s idle here rest = rw s.is (after_idle s.between (p ∷ beyond (Some p) ps) (λ k d l. let w = s.passed k d l in
+      idle _ w.0 w.1) (Performs_then here rest))
 
 -- nothing is left
-pub for_each-idle : {S : Type 0} (fits : Past → S → Type 0) (r : PeerId → Row) (x : ℕ) (port : Port) (state : S) (old : List Placed) (after : Option PeerId) (ps : List PeerId) →
-    ((q : PeerId) → IsAfter after q → Performs fits fits (r q) x port state state old old) → Performs fits fits (for_each r (beyond after ps)) x port state state old old
+pub for_each-idle : {S : Type 0} (fits : Past → S → Type 0) (r : PeerId → Row) (x : ℕ) (port : Port) (state : S) (old : List Placed) (after : Option PeerId)
+    (ps : List PeerId) →
+    ((q : PeerId) → IsAfter after q → Performs fits fits (r q) x port state state old old) →
+    Performs fits fits (for_each r (beyond after ps)) x port state state old old
 unfolding for_each
 for_each-idle fits r x port state old after [] idle = Performs_nothing
 for_each-idle fits r x port state old after (q ∷ ps) idle = by_test (is_after after q) refl (for_each-idle fits r x port state old after ps idle) where
-  by_test : (b : Bool) → is_after after q ≡ b → Performs fits fits (for_each r (beyond after ps)) x port state state old old → Performs fits fits (for_each r (cond b (q ∷ beyond after ps) (beyond after ps))) x port state state old old
+  by_test : (b : Bool) → is_after after q ≡ b → Performs fits fits (for_each r (beyond after ps)) x port state state old old →
+      Performs fits fits (for_each r (cond b (q ∷ beyond after ps) (beyond after ps))) x port state state old old
   by_test true e d = Performs_then (idle q (true_after after q e)) d
   by_test false e d = d
 
 -- no peer is left
-pub for_each-none : {S : Type 0} (fits : Past → S → Type 0) (r : PeerId → Row) (x : ℕ) (port : Port) (state : S) (old : List Placed) (ps : List PeerId) → length ps ≡ zero → Performs fits fits (for_each r ps) x port state state old old
+pub for_each-none : {S : Type 0} (fits : Past → S → Type 0) (r : PeerId → Row) (x : ℕ) (port : Port) (state : S) (old : List Placed) (ps : List PeerId) →
+    length ps ≡ zero → Performs fits fits (for_each r ps) x port state state old old
 unfolding for_each
 for_each-none fits r x port state old [] e = Performs_nothing
 for_each-none fits r x port state old (p ∷ ps) e = absurd (omega arith)

@@ -11,7 +11,8 @@ use Rattle.tsp_acks.specs.declared.station.Station.{Station}
 use Rattle.tsp_acks.specs.{Changes.ChangesSends, Openings.is_of, Openings.answered_by, Openings.has_open, Stands.StationStands}
 
 -- the open send to a peer ends
-pub Performs_acked : (p : PeerId) {x : ℕ} {port : Port} {before after : Station} {old new : List Placed} → ChangesSends before after → after.begun ≡ before.begun → SetsOnly p None before.sends after.sends →
+pub Performs_acked : (p : PeerId) {x : ℕ} {port : Port} {before after : Station} {old new : List Placed} → ChangesSends before after → after.begun ≡
+    before.begun → SetsOnly p None before.sends after.sends →
     new ≡ old ++ record { port = port; act = Acked p } ∷ [] → Performs StationStands StationStands (puts (Acked p)) x port before after old new
 unfolding puts
 Performs_acked p {x = x} {before = before} {after = after} same count only acts = record {
@@ -53,14 +54,18 @@ has_open-is Date p number x past s h = ap (answers_date number) (sym (h.sends p)
 has_open-is Ack p number x past s h = ap (answers_other number) (sym (h.sends p)) ∙ sym (answers_other-is number (sending_to s.sends p))
 
 -- where the open send is of the right kind, its number decides, and else none is answered
-pub has_open-of : (a : Answer) (p : PeerId) (number x : ℕ) (past : Past) (s : Station) {b : Bool} → is_of (answered_by a) (kind_of (sending_to s.sends p)) ≡ b → StationStands past s →
+pub has_open-of : (a : Answer) (p : PeerId) (number x : ℕ) (past : Past) (s : Station) {b : Bool} → is_of (answered_by a) (kind_of (sending_to s.sends p)) ≡ b →
+    StationStands past s →
     has_open a p number x past ≡ (b && has_number number (sending_to s.sends p))
 has_open-of a p number x past s e h = has_open-is a p number x past s h ∙ ap (λ b. b && has_number number (sending_to s.sends p)) e
 
 -- an ACK ends the send that it names, or nothing
-pub Performs_acknowledges : (p : PeerId) (number : ℕ) {x : ℕ} {port : Port} {before after : Station} {old new : List Placed} (ends : Bool) → ((past : Past) → StationStands past before → has_other p number x past ≡ ends) →
-    (ends ≡ true → Performs StationStands StationStands (puts (Acked p)) x port before after old new) → MatchBool ends (SetsOnly p None before.sends after.sends) (after ≡ before) → (ends ≡ false → new ≡ old) →
+pub Performs_acknowledges : (p : PeerId) (number : ℕ) {x : ℕ} {port : Port} {before after : Station} {old new : List Placed} (ends : Bool) →
+    ((past : Past) → StationStands past before → has_other p number x past ≡ ends) →
+    (ends ≡ true → Performs StationStands StationStands (puts (Acked p)) x port before after old new) →
+    MatchBool ends (SetsOnly p None before.sends after.sends) (after ≡ before) → (ends ≡ false → new ≡ old) →
     Performs StationStands StationStands (acknowledges p number) x port before after old new
 unfolding acknowledges
 Performs_acknowledges p number true t f s g = Performs_then_part (has_other p number) nothing t (f refl)
-Performs_acknowledges p number {before = before} {after = after} false t f s g = let same : after ≡ before = s in rw (same, g refl) (Performs_else_part (has_other p number) (puts (Acked p)) t Performs_nothing)
+Performs_acknowledges p number {before = before} {after = after} false t f s g = let same : after ≡ before = s in
+    rw (same, g refl) (Performs_else_part (has_other p number) (puts (Acked p)) t Performs_nothing)

@@ -1,5 +1,6 @@
 -- Who is among some peers.
-use Rattle.std.proofs.Common.{sym, ap, arith, get_or, eq-eqb, eqb-true, ◌≡◌, ◌≢◌, ◌==◌, ◌||◌, Bool, ℕ, zero, suc, ◌<◌, true, false, List, [], ◌∷◌, length, Result, Ok, Err, is_ok, refl}
+use Rattle.std.proofs.Common.{sym, ap, arith, get_or, eq-eqb, eqb-true, ◌≡◌, ◌≢◌, ◌==◌, ◌||◌, Bool, ℕ, zero, suc, ◌<◌, true, false, List, [], ◌∷◌, length}
+use Rattle.std.proofs.Common.{Result, Ok, Err, is_ok, refl}
 use Rattle.std.specs.{List.Contains, List.Sorted.IsBinarySearchResult, List.Sorted.IsSearchInRange, Ordering.nat_cmp}
 use Rattle.std.proofs.lemmas.Bool.{false≢true, ne_eqb, or_right}
 use Rattle.tsp_rules.specs.Values.{PeerId}
@@ -19,7 +20,8 @@ is_among-nowhere p (q ∷ ps) n =
     rw other (is_among-nowhere p ps (λ i d h. n (suc i) d (omega arith)))
 
 -- a binary search finds who is among them
-pub is_among-searched : (p : PeerId) (ps : List PeerId) (r : Result ℕ ℕ) → IsAscending ps → IsSearchInRange r (length ps) → IsBinarySearchResult (λ (q : PeerId). nat_cmp q.0 p.0) ps r → is_ok r ≡ is_among p ps
+pub is_among-searched : (p : PeerId) (ps : List PeerId) (r : Result ℕ ℕ) → IsAscending ps → IsSearchInRange r (length ps) →
+    IsBinarySearchResult (λ (q : PeerId). nat_cmp q.0 p.0) ps r → is_ok r ≡ is_among p ps
 is_among-searched p ps (Ok i) up bound found = sym (is_among-at p ps i p bound (equal_means (get_or ps i p).0 p.0 (found p)))
 is_among-searched p ps (Err i) up bound found =
     let number = λ (q : PeerId). q.0 in

@@ -10,8 +10,10 @@ pub named : (kind : Kind) (number : ℕ) {m : MessageValue} {name copy : List �
 named kind number is same = is ∙ ap (bare kind number) same
 
 -- it goes to where a datagram came from
-pub Performs_post_back : (to : Place) (kind : Kind) (number x : ℕ) (port : Port) (station : Station) {m : MessageValue} {old new : List Placed} → is_plain kind ≡ true → m ≡ bare kind number station.me.name →
-    new ≡ old ++ record { port = port; act = Post to (Message m) } ∷ [] → Performs StationStands StationStands (posts_back to kind number) x port station station old new
+pub Performs_post_back : (to : Place) (kind : Kind) (number x : ℕ) (port : Port) (station : Station) {m : MessageValue} {old new : List Placed} →
+    is_plain kind ≡ true → m ≡ bare kind number station.me.name →
+    new ≡ old ++ record { port = port; act = Post to (Message m) } ∷ [] → Performs StationStands StationStands (posts_back to kind number) x port station
+    station old new
 unfolding posts_back
 Performs_post_back to kind number x port station {old = old} plain is put = record {
   acts = λ past h. put ∙ ap (λ v. old ++ record { port = port; act = Post to (Message v) } ∷ []) (named kind number is h.name);
@@ -19,8 +21,10 @@ Performs_post_back to kind number x port station {old = old} plain is put = reco
 }
 
 -- it goes to a peer
-pub Performs_post : (p : PeerId) (kind : Kind) (number x : ℕ) (port : Port) (station : Station) {m : MessageValue} {old new : List Placed} → is_plain kind ≡ true → m ≡ bare kind number station.me.name →
-    new ≡ old ++ record { port = port; act = Post (Peer p) (Message m) } ∷ [] → Performs StationStands StationStands (posts p kind number) x port station station old new
+pub Performs_post : (p : PeerId) (kind : Kind) (number x : ℕ) (port : Port) (station : Station) {m : MessageValue} {old new : List Placed} → is_plain kind ≡
+    true → m ≡ bare kind number station.me.name →
+    new ≡ old ++ record { port = port; act = Post (Peer p) (Message m) } ∷ [] → Performs StationStands StationStands (posts p kind number) x port station
+    station old new
 unfolding posts
 Performs_post p kind number x port station {old = old} plain is put = record {
   acts = λ past h. put ∙ ap (λ v. old ++ record { port = port; act = Post (Peer p) (Message v) } ∷ []) (named kind number is h.name);

@@ -1,7 +1,9 @@
 -- How sends that begin keep what a station stands for.
 use Rattle.std.proofs.Common.{sym, ◌∙◌, ap, arith, ◌≡◌, ℕ, ℤ, ◌+◌, ◌%◌, ◌==◌, Bool, true, false, ◌&&◌, if◌then◌else◌, List, [], ◌∷◌, ◌++◌, Some, refl}
-use Rattle.tsp_rules.specs.Values.{Post, Placed, Message, Kind, AdjTime, Conflict, Election, QuitKind, SetDateReq, SetTime, Nothing, TimeBody, PeerId, Peer, Port}
-use Rattle.tsp_base.specs.Words.{Past, plain, carries_time, carries_hops, MessageValue, body_fits, word, Performs, Row, bare, timed, for_each, grown, others, reading, posts, posts_time, post_of, has_own_number, is_correction, is_numbered, is_set_date_request, begun}
+use Rattle.tsp_rules.specs.Values.{Post, Placed, Message, Kind, AdjTime, Conflict, Election, QuitKind, SetDateReq, SetTime, Nothing, TimeBody, PeerId, Peer}
+use Rattle.tsp_rules.specs.Values.{Port}
+use Rattle.tsp_base.specs.Words.{Past, plain, carries_time, carries_hops, MessageValue, body_fits, word, Performs, Row, bare, timed, for_each, grown, others}
+use Rattle.tsp_base.specs.Words.{reading, posts, posts_time, post_of, has_own_number, is_correction, is_numbered, is_set_date_request, begun}
 use Rattle.tsp_base.proofs.{PerformsLemmas.Performs_each_more, RowLemmas.others-more, SendLemmas.open_send-begins}
 use Rattle.tsp_rules.specs.SendRows.{next_number, begins, begins_timed}
 use Rattle.tsp_sends.specs.Slots.{SetsOnly}
@@ -67,7 +69,8 @@ counted : (own : Bool) (n k : ℕ) → k ≡ n % 32768 → (if own then (k + 1) 
 counted true n k e = rw e (count-more n)
 counted false n k e = e
 
-StandsActing_opened : {p : PeerId} {m : MessageValue} {x : ℕ} {port : Port} {before after : Station} {old new : List Placed} → Opened p m x port before after old new →
+StandsActing_opened : {p : PeerId} {m : MessageValue} {x : ℕ} {port : Port} {before after : Station} {old new : List Placed} →
+    Opened p m x port before after old new →
     (past : Past) → StandsActing past before → StandsActing (grown x past (Post (Peer p) (Message m) ∷ [])) after
 StandsActing_opened {p = p} {m = m} {x = x} {before = before} {after = after} o past h = record {
   stands = record {
@@ -90,7 +93,8 @@ StandsActing_opened {p = p} {m = m} {x = x} {before = before} {after = after} o 
 }
 
 -- a send begins by this post
-pub Performs_opened : {p : PeerId} {m : MessageValue} {x : ℕ} {port : Port} {before after : Station} {old new : List Placed} (row : Row) → ((past : Past) → StationStands past before → row x past ≡ Post (Peer p) (Message m) ∷ []) →
+pub Performs_opened : {p : PeerId} {m : MessageValue} {x : ℕ} {port : Port} {before after : Station} {old new : List Placed} (row : Row) →
+    ((past : Past) → StationStands past before → row x past ≡ Post (Peer p) (Message m) ∷ []) →
     Opened p m x port before after old new → Performs StandsActing StandsActing row x port before after old new
 Performs_opened row is o = record {
   acts = λ past h. rw (is past h.stands) o.acts;
@@ -117,7 +121,9 @@ unfolding posts_time
 posts_time-is kind p number t x past station s = ap (λ name. Post (Peer p) (Message (timed kind number t name)) ∷ []) (sym s.name)
 
 -- sends have begun to the others of some peers, and then to one peer more, or not where that is the own one
-pub Performs_begun_more : (kind : Kind) (own p : PeerId) (ps : List PeerId) {x : ℕ} {port : Port} {first middle last : Station} {old mid new : List Placed} → (p.0 ≡ own.0 → ⊥) →
-    Performs StandsActing StandsActing (for_each (begins kind) (others own ps)) x port first middle old mid → Performs StandsActing StandsActing (begins kind p) x port middle last mid new →
+pub Performs_begun_more : (kind : Kind) (own p : PeerId) (ps : List PeerId) {x : ℕ} {port : Port} {first middle last : Station} {old mid new : List Placed} →
+    (p.0 ≡ own.0 → ⊥) →
+    Performs StandsActing StandsActing (for_each (begins kind) (others own ps)) x port first middle old mid →
+    Performs StandsActing StandsActing (begins kind p) x port middle last mid new →
     Performs StandsActing StandsActing (for_each (begins kind) (others own (ps ++ p ∷ []))) x port first last old new
 Performs_begun_more kind own p ps n a b = rw (others-more own p ps n) (Performs_each_more (begins kind) (others own ps) p a b)

@@ -17,7 +17,8 @@ abbrev pub ActsBy : {D : Type 0} → Row → ℕ → Port → Station → Statio
 ActsBy row x port before after acts old new = Performs StationStands StationStands row x port before after (acts old) (acts new)
 
 -- a call says whether the open send to a peer passes a test, ends it if so, which it tells by an Acked, and else changes nothing
-pub record EndsWhere {D : Type 0} (passes : ℕ → Past → Bool) (p : PeerId) (port : Port) (before after : Station) (ended : Bool) (spare : D → ℕ) (acts : D → List Placed) (old new : D) : Type 0 where
+pub record EndsWhere {D : Type 0} (passes : ℕ → Past → Bool) (p : PeerId) (port : Port) (before after : Station) (ended : Bool) (spare : D → ℕ) (acts : D →
+    List Placed) (old new : D) : Type 0 where
   pub test : (x : ℕ) (past : Past) → StationStands past before → passes x past ≡ ended
   pub row : ended ≡ true → (x : ℕ) → ActsBy (puts (Acked p)) x port before after acts old new
   pub sends : MatchBool ended (SetsOnly p None before.sends after.sends) (after ≡ before)

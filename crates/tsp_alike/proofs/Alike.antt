@@ -17,11 +17,14 @@ elsewhere step x deed = Elsewhere (record { step = step; tick = x; deed = deed }
 -- what two ports have seen, the newest first, is alike
 pub data Alike (m : Naming) : List Seen → List Seen → Type 0 where
   -- both begin a life: with the same word, and the same wall clock
-  Booted : (s s' : Step) → SameBoot s s' → (x : ℕ) → (old old' : List Seen) → Alike m (here s x (Acts Boot) ∷ here s x Begins ∷ old) (here s' (x + m.names.shift) (Acts Boot) ∷ here s' (x + m.names.shift) Begins ∷ old')
+  Booted : (s s' : Step) → SameBoot s s' → (x : ℕ) → (old old' : List Seen) → Alike m (here s x (Acts Boot) ∷ here s x Begins ∷
+      old) (here s' (x + m.names.shift) (Acts Boot) ∷ here s' (x + m.names.shift) Begins ∷ old')
   -- both do the same
-  Own : (s s' : Step) (x : ℕ) (deed : Deed) → is_later deed ≡ true → KnowsDeed m deed → {before before' : List Seen} → Alike m before before' → Alike m (here s x deed ∷ before) (here s' (x + m.names.shift) (renamed_deed m.names deed) ∷ before')
+  Own : (s s' : Step) (x : ℕ) (deed : Deed) → is_later deed ≡ true → KnowsDeed m deed → {before before' : List Seen} → Alike m before before' →
+      Alike m (here s x deed ∷ before) (here s' (x + m.names.shift) (renamed_deed m.names deed) ∷ before')
   -- other ports of both do the same; their peers are renamed otherwise
-  Other : (n : Renaming) → n.shift ≡ m.names.shift → (s s' : Step) (x : ℕ) (deed : Deed) → is_later deed ≡ true → {before before' : List Seen} → Alike m before before' → Alike m (elsewhere s x deed ∷ before) (elsewhere s' (x + m.names.shift) (renamed_deed n deed) ∷ before')
+  Other : (n : Renaming) → n.shift ≡ m.names.shift → (s s' : Step) (x : ℕ) (deed : Deed) → is_later deed ≡ true → {before before' : List Seen} →
+      Alike m before before' → Alike m (elsewhere s x deed ∷ before) (elsewhere s' (x + m.names.shift) (renamed_deed n deed) ∷ before')
 
 -- two ports are set up alike: with as many peers, and the others in the same order; where the own number stands among them may differ
 pub record AlikePort (m : Naming) (a b : PortSetup) : Type 0 where

@@ -1,8 +1,10 @@
 -- The lists of peers that rows go through, at alike pasts.
-use Rattle.std.proofs.Common.{ap, ap₂, pos, sym, ◌∙◌, ◌≡◌, ℕ, ◌+◌, ◌==◌, Bool, true, false, not, ◌||◌, if◌then◌else◌, List, [], ◌∷◌, map, filter, refl, None, ◌&&◌}
+use Rattle.std.proofs.Common.{ap, ap₂, pos, sym, ◌∙◌, ◌≡◌, ℕ, ◌+◌, ◌==◌, Bool, true, false, not, ◌||◌, if◌then◌else◌, List, [], ◌∷◌, map, filter, refl, None}
+use Rattle.std.proofs.Common.{◌&&◌}
 use Rattle.std.{proofs.lemmas.Bool.eq-eqb, proofs.lemmas.Bool.eqb-false, proofs.lemmas.Bool.ne_eqb, specs.List.All}
 use Rattle.std.proofs.lemmas.List.Elements.{All-nil, All-cons, All-head, All-tail, All-same, All-weaker, All-filter}
-use Rattle.tsp_base.specs.Words.{Past, in_table, is_among, is_measured, is_rival, others, estimate, Seen, Acts, acting, is_numbered, open_to, posts_of, open_send, sending_at, is_starting}
+use Rattle.tsp_base.specs.Words.{Past, in_table, is_among, is_measured, is_rival, others, estimate, Seen, Acts, acting, is_numbered, open_to, posts_of}
+use Rattle.tsp_base.specs.Words.{open_send, sending_at, is_starting}
 use Rattle.tsp_rules.specs.RoundRows.{Standing, diff_before, estimates, measured_at, near_diffs, round_at, standing}
 use Rattle.tsp_rules.proofs.RowCodes.{Listed, Others, Rivals, Table, Measured}
 use Rattle.tsp_rules.specs.Renames.{Knows, Naming, Renaming, later_sends, renamed_act}
@@ -56,7 +58,8 @@ module _ {m : Naming} (o : PeerId) (u : Unnamed m o) where
   open_to_unnamed (Own s s' x (Acts Boot) ok knows a) = refl
   open_to_unnamed (Own s s' x (Acts (Become r)) ok knows a) = refl
   open_to_unnamed (Own s s' x (Acts (Post (Peer q) (Message msg))) ok knows {before = b} a) =
-      ap (λ z. if z && (is_numbered msg.kind && acting b) then here s x (Acts (Post (Peer q) (Message msg))) ∷ b else open_to o b) (u q knows) ∙ open_to_unnamed a
+      ap (λ z. if z && (is_numbered msg.kind && acting b) then here s x (Acts (Post (Peer q) (Message msg))) ∷ b else open_to o b) (u q knows) ∙
+      open_to_unnamed a
   open_to_unnamed (Own s s' x (Acts (Acked q)) ok knows {before = b} a) =
       ap (λ z. if z then [] else open_to o b) (u q knows) ∙ open_to_unnamed a
   open_to_unnamed (Own s s' x (Acts (Gave q)) ok knows {before = b} a) =
@@ -71,18 +74,22 @@ module _ {m : Naming} (o : PeerId) (u : Unnamed m o) where
   open_send_renamed a = open_send_alike o a ∙ ap (later_sends m.names) (open_send_unnamed a)
 
 -- the renamed peers that pass a test, if renaming doesn't change what it says
-pub filter_renamed : (f : PeerId → PeerId) (t t' : PeerId → Bool) → ((p : PeerId) → t' (f p) ≡ t p) → (ps : List PeerId) → filter t' (map f ps) ≡ map f (filter t ps)
+pub filter_renamed : (f : PeerId → PeerId) (t t' : PeerId → Bool) → ((p : PeerId) → t' (f p) ≡ t p) → (ps : List PeerId) → filter t' (map f ps) ≡
+    map f (filter t ps)
 filter_renamed f t t' same [] = refl
-filter_renamed f t t' same (p ∷ ps) = ap (λ b. if b then f p ∷ filter t' (map f ps) else filter t' (map f ps)) (same p) ∙ by_case (t p) (filter_renamed f t t' same ps) where
-  by_case : (b : Bool) → filter t' (map f ps) ≡ map f (filter t ps) → (if b then f p ∷ filter t' (map f ps) else filter t' (map f ps)) ≡ map f (if b then p ∷ filter t ps else filter t ps)
-  by_case true e = ap (λ z. f p ∷ z) e
-  by_case false e = e
+filter_renamed f t t' same (p ∷ ps) = ap (λ b. if b then f p ∷ filter t' (map f ps) else filter t' (map f ps)) (same p) ∙
+    by_case (t p) (filter_renamed f t t' same ps) where
+      by_case : (b : Bool) → filter t' (map f ps) ≡ map f (filter t ps) → (if b then f p ∷ filter t' (map f ps) else filter t' (map f ps)) ≡
+          map f (if b then p ∷ filter t ps else filter t ps)
+      by_case true e = ap (λ z. f p ∷ z) e
+      by_case false e = e
 
 -- the own number is passed over by a test that is false of it
 pub filter_others : (t : PeerId → Bool) (own : PeerId) → t own ≡ false → (ps : List PeerId) → filter t ps ≡ filter t (others own ps)
 filter_others t own off [] = refl
 filter_others t own off (p ∷ ps) = by_case (p.0 == own.0) refl (filter_others t own off ps) where
-  by_case : (b : Bool) → (p.0 == own.0) ≡ b → filter t ps ≡ filter t (others own ps) → filter t (p ∷ ps) ≡ filter t (if not b then p ∷ others own ps else others own ps)
+  by_case : (b : Bool) → (p.0 == own.0) ≡ b → filter t ps ≡ filter t (others own ps) → filter t (p ∷ ps) ≡
+      filter t (if not b then p ∷ others own ps else others own ps)
   by_case true e k = ap (λ b. if b then p ∷ filter t ps else filter t ps) (ap t (same_peer p own e) ∙ off) ∙ k
   by_case false e k = ap (λ z. if t p then p ∷ z else z) k
 
@@ -90,7 +97,8 @@ filter_others t own off (p ∷ ps) = by_case (p.0 == own.0) refl (filter_others 
 pub among_others : (p own : PeerId) → (p.0 == own.0) ≡ false → (ps : List PeerId) → is_among p ps ≡ is_among p (others own ps)
 among_others p own off [] = refl
 among_others p own off (q ∷ ps) = by_case (q.0 == own.0) refl (among_others p own off ps) where
-  by_case : (b : Bool) → (q.0 == own.0) ≡ b → is_among p ps ≡ is_among p (others own ps) → is_among p (q ∷ ps) ≡ is_among p (if not b then q ∷ others own ps else others own ps)
+  by_case : (b : Bool) → (q.0 == own.0) ≡ b → is_among p ps ≡ is_among p (others own ps) → is_among p (q ∷ ps) ≡
+      is_among p (if not b then q ∷ others own ps else others own ps)
   by_case true e k = ap (λ b. b || is_among p ps) (ap (λ r. r.0 == p.0) (same_peer q own e) ∙ ne_eqb own.0 p.0 (λ s. eqb-false p.0 own.0 off (sym s))) ∙ k
   by_case false e k = ap (λ b. (q.0 == p.0) || b) k
 
@@ -111,7 +119,8 @@ all_among (q ∷ ps) = All-cons (λ p. is_among p (q ∷ ps) ≡ true) q ps (ap 
 -- the standings of known peers
 standings_known : (m : Naming) (seen : List Seen) (ps : List PeerId) → All m.known ps → All (λ s. m.known s.peer) (map (standing seen) ps)
 standings_known m seen [] k = All-nil (λ s. m.known s.peer)
-standings_known m seen (p ∷ ps) k = All-cons (λ s. m.known s.peer) (standing seen p) (map (standing seen) ps) (All-head m.known p ps k) (standings_known m seen ps (All-tail m.known p ps k))
+standings_known m seen (p ∷ ps) k = All-cons (λ s. m.known s.peer) (standing seen p) (map (standing seen) ps) (All-head m.known p ps k)
+    (standings_known m seen ps (All-tail m.known p ps k))
 
 -- setups of ports
 module _ {m : Naming} where
@@ -119,7 +128,8 @@ module _ {m : Naming} where
   others_known {a = a} s = All-weaker (λ p. is_among p (others a.own a.peers) ≡ true) m.known s.known (others a.own a.peers) (all_among (others a.own a.peers))
 
   -- a test that renaming doesn't change, and that is false of the own number, chooses the same peers
-  pub chosen_alike : {a b : PortSetup} → AlikePort m a b → (t t' : PeerId → Bool) → ((p : PeerId) → t' (m.names.peer p) ≡ t p) → t a.own ≡ false → filter t' b.peers ≡ map m.names.peer (filter t a.peers)
+  pub chosen_alike : {a b : PortSetup} → AlikePort m a b → (t t' : PeerId → Bool) → ((p : PeerId) → t' (m.names.peer p) ≡ t p) → t a.own ≡ false →
+      filter t' b.peers ≡ map m.names.peer (filter t a.peers)
   chosen_alike {a = a} {b = b} s t t' same off =
       filter_others t' b.own (ap t' s.own ∙ same a.own ∙ off) b.peers
       ∙ ap (filter t') s.others_are
@@ -128,7 +138,8 @@ module _ {m : Naming} where
 
   -- and it chooses known peers
   pub chosen_known : {a b : PortSetup} → AlikePort m a b → (t : PeerId → Bool) → t a.own ≡ false → All m.known (filter t a.peers)
-  chosen_known {a = a} s t off = All-same m.known (filter t a.peers) (filter t (others a.own a.peers)) (filter_others t a.own off a.peers) (All-filter t m.known (others a.own a.peers) (others_known s))
+  chosen_known {a = a} s t off = All-same m.known (filter t a.peers) (filter t (others a.own a.peers)) (filter_others t a.own off a.peers)
+      (All-filter t m.known (others a.own a.peers) (others_known s))
 
   -- another peer than the port itself is one of the port's peers on both sides or on neither
   pub is_among_alike : {a b : PortSetup} → AlikePort m a b → (p : PeerId) → (p.0 == a.own.0) ≡ false → is_among (m.names.peer p) b.peers ≡ is_among p a.peers
@@ -142,9 +153,12 @@ module _ {m : Naming} where
 module _ {m : Naming} {p q : Past} (a : AlikePast m p q) (x : ℕ) where
   pub list_same : {fact fact' : ℕ → Past → List PeerId} → Listed m fact fact' → fact' (x + m.names.shift) q ≡ map m.names.peer (fact x p)
   list_same Others = a.setup.others_are
-  list_same Rivals = chosen_alike a.setup (λ r. is_rival r p.seen) (λ r. is_rival r q.seen) (λ r. is_rival_alike r a.seen) (is_rival_unnamed p.own a.setup.apart a.seen)
-  list_same Table = chosen_alike a.setup (λ r. in_table r p.seen) (λ r. in_table r q.seen) (λ r. in_table_alike r a.seen) (in_table_unnamed p.own a.setup.apart a.seen)
-  list_same Measured = chosen_alike a.setup (λ r. is_measured r p.seen) (λ r. is_measured r q.seen) (λ r. is_measured_alike r a.seen) (is_measured_unnamed p.own a.setup.apart a.seen)
+  list_same Rivals = chosen_alike a.setup (λ r. is_rival r p.seen) (λ r. is_rival r q.seen) (λ r. is_rival_alike r a.seen)
+      (is_rival_unnamed p.own a.setup.apart a.seen)
+  list_same Table = chosen_alike a.setup (λ r. in_table r p.seen) (λ r. in_table r q.seen) (λ r. in_table_alike r a.seen)
+      (in_table_unnamed p.own a.setup.apart a.seen)
+  list_same Measured = chosen_alike a.setup (λ r. is_measured r p.seen) (λ r. is_measured r q.seen) (λ r. is_measured_alike r a.seen)
+      (is_measured_unnamed p.own a.setup.apart a.seen)
 
   -- they are known
   pub list_known : {fact fact' : ℕ → Past → List PeerId} → Listed m fact fact' → All m.known (fact x p)
@@ -155,7 +169,8 @@ module _ {m : Naming} {p q : Past} (a : AlikePast m p q) (x : ℕ) where
 
 module _ {m : Naming} where
   -- the result of a round
-  standings_alike : {seen seen' : List Seen} → Alike m seen seen' → (ps : List PeerId) → map (standing seen') (map m.names.peer ps) ≡ map (renamed_standing m.names) (map (standing seen) ps)
+  standings_alike : {seen seen' : List Seen} → Alike m seen seen' → (ps : List PeerId) → map (standing seen') (map m.names.peer ps) ≡
+      map (renamed_standing m.names) (map (standing seen) ps)
   standings_alike a [] = refl
   standings_alike {seen = z} {seen' = z'} a (p ∷ ps) =
       ap (λ e. record { peer = m.names.peer p; best = e } ∷ map (standing z') (map m.names.peer ps)) (estimate_alike p a)
@@ -168,7 +183,8 @@ module _ {m : Naming} where
   round_at_known {p = p} a x = standings_known m p.seen (measured_at x p) (list_known a x Measured)
 
 -- an act for each renamed peer
-pub acts_renamed : (n : Renaming) (act act' : PeerId → Act) → ((r : PeerId) → act' (n.peer r) ≡ renamed_act n (act r)) → (rs : List PeerId) → map act' (map n.peer rs) ≡ map (renamed_act n) (map act rs)
+pub acts_renamed : (n : Renaming) (act act' : PeerId → Act) → ((r : PeerId) → act' (n.peer r) ≡ renamed_act n (act r)) → (rs : List PeerId) →
+    map act' (map n.peer rs) ≡ map (renamed_act n) (map act rs)
 acts_renamed n act act' same [] = refl
 acts_renamed n act act' same (r ∷ rs) = ap₂ ◌∷◌ (same r) (acts_renamed n act act' same rs)
 

@@ -1,7 +1,8 @@
 -- Rows that put acts put the same at alike pasts, but for the names of peers and later ticks; so every derived row moves.
 use Rattle.std.proofs.lemmas.List.Elements.{All-nil, All-cons, All-head, All-tail, All-append}
 use Rattle.std.proofs.{lemmas.List.map-append, lemmas.Bool.and_parts}
-use Rattle.std.proofs.Common.{ap, ap₂, true≢false, arith, ◌∙◌, ◌≡◌, ℕ, ◌+◌, ◌%◌, ◌^◌, ℤ, ◌+ℤ◌, ◌-ℤ◌, Bool, true, false, if◌then◌else◌, List, [], ◌∷◌, map, refl, sym, subst, ◌==◌, not, ◌++◌, All, Option, None, Some}
+use Rattle.std.proofs.Common.{ap, ap₂, true≢false, arith, ◌∙◌, ◌≡◌, ℕ, ◌+◌, ◌%◌, ◌^◌, ℤ, ◌+ℤ◌, ◌-ℤ◌, Bool, true, false, if◌then◌else◌, List, [], ◌∷◌, map, refl}
+use Rattle.std.proofs.Common.{sym, subst, ◌==◌, not, ◌++◌, All, Option, None, Some}
 use Rattle.tsp_rules.specs.Guards.{is_in_range, target_at, delay, is_due, is_own, may_stand_at}
 use Rattle.tsp_rules.specs.SendRows.{begins_settime, may_set, repeats, open_at, peers_at}
 use Rattle.tsp_rules.{specs.CommonRows.posts_reply, specs.CommonRows.replies, specs.CommonRows.master_name_in, proofs.GuardFacts.same_peer}
@@ -10,36 +11,45 @@ use Rattle.tsp_rules.proofs.EmitsBuilt.{nothing_owed, nothing_measured}
 use Rattle.tsp_rules.specs.ClockRows.{adjusts, is_step, sets}
 use Rattle.tsp_rules.specs.Renames.{Renaming, Naming, renamed_act, renamed_place, renamed_role, Knows, Wakes, known_place, later_send, later_sends}
 use Rattle.tsp_rules.specs.RoundRows.{asks, Standing, abandons, close_act, closes, closes_with, corrects_by, corrects_peer, estimates, mean_by, moves, round_at}
-use Rattle.tsp_rules.specs.Values.{Act, Post, Correct, Arm, Message, Stamp, SetTime, PeerId, Peer, Request, Reply, Role, Follow, Ring, Abandon, Alarm, Window, CloseAlarm, Place, Stranger, SPAN}
-use Rattle.tsp_rules.proofs.RowCodes.{Value, Leaf, Fact, Valued, Puts, Takes, Arms, Posts, ToOthers, PostsBack, PostsTime, PostsReply, PostsName, Repeats, SettimeBegins, Loops, Reposts, Asks, Samples, Adjusts, Sets, RoleAt, DelayAt, OwnAt, TargetAt, RequestAt, TicketAt, NextNumber, MasterName, Others, is_plain, Test, yes, no, Due, MayStand, MayBeAsked, IsOwn}
+use Rattle.tsp_rules.specs.Values.{Act, Post, Correct, Arm, Message, Stamp, SetTime, PeerId, Peer, Request, Reply, Role, Follow, Ring, Abandon, Alarm, Window}
+use Rattle.tsp_rules.specs.Values.{CloseAlarm, Place, Stranger, SPAN}
+use Rattle.tsp_rules.proofs.RowCodes.{Value, Leaf, Fact, Valued, Puts, Takes, Arms, Posts, ToOthers, PostsBack, PostsTime, PostsReply, PostsName, Repeats}
+use Rattle.tsp_rules.proofs.RowCodes.{SettimeBegins, Loops, Reposts, Asks, Samples, Adjusts, Sets, RoleAt, DelayAt, OwnAt, TargetAt, RequestAt, TicketAt}
+use Rattle.tsp_rules.proofs.RowCodes.{NextNumber, MasterName, Others, is_plain, Test, yes, no, Due, MayStand, MayBeAsked, IsOwn}
 use Rattle.tsp_rules.proofs.Built.{Built, Empty, At, Then, Either, If, Reading, ReadingValue, Each, EachSend, Closes, More, Wider}
-use Rattle.tsp_base.specs.Words.{Past, plain, arms, bare, nothing, others, post_of, posts, posts_back, posts_time, posts_to_others, puts, shown, timed, word, either_by, reading, kept_name, role, Step, Acts, Row, Seen, added, grown, ◌followed_by◌, for_each, Estimate, Sending, open_send}
+use Rattle.tsp_base.specs.Words.{Past, plain, arms, bare, nothing, others, post_of, posts, posts_back, posts_time, posts_to_others, puts, shown, timed, word}
+use Rattle.tsp_base.specs.Words.{either_by, reading, kept_name, role, Step, Acts, Row, Seen, added, grown, ◌followed_by◌, for_each, Estimate, Sending}
+use Rattle.tsp_base.specs.Words.{open_send}
 use Rattle.tsp_alike.proofs.{Alike.AlikePast, Alike.Alike, Alike.Own, Alike.Moves, Alike.MovesAt, Renamed.renamed_standing}
 use Rattle.tsp_alike.proofs.NodesAlike.{later_known}
 use Rattle.tsp_alike.proofs.PortAlike.{Facts, facts_alike, role_alike, role_known, open_send_alike}
 use Rattle.tsp_alike.proofs.RoundsAlike.{request_open_alike, plain_alike, shown_alike, word_alike, target_alike, ticket_alike}
 use Rattle.tsp_alike.proofs.TestsAlike.{is_in_range_alike, may_set_alike, can_adjust_alike, due_stands, test_same}
-use Rattle.tsp_alike.proofs.ListsAlike.{list_known, Unnamed, list_same, open_send_renamed, open_send_unnamed, round_at_alike, round_at_known, acts_renamed, mapped_known, same-estimates}
+use Rattle.tsp_alike.proofs.ListsAlike.{list_known, Unnamed, list_same, open_send_renamed, open_send_unnamed, round_at_alike, round_at_known, acts_renamed}
+use Rattle.tsp_alike.proofs.ListsAlike.{mapped_known, same-estimates}
 use Rattle.tsp_group.specs.{declared.group.Group.Group, Groups.group_of}
 
 -- how moving rows are put together
 
 module _ {m : Naming} where
-  added-alike : (s s' : Step) (x : ℕ) (acts : List Act) → All (Knows m) acts → {seen seen' : List Seen} → Alike m seen seen' → Alike m (added s x acts seen) (added s' (x + m.names.shift) (map (renamed_act m.names) acts) seen')
+  added-alike : (s s' : Step) (x : ℕ) (acts : List Act) → All (Knows m) acts → {seen seen' : List Seen} → Alike m seen seen' →
+      Alike m (added s x acts seen) (added s' (x + m.names.shift) (map (renamed_act m.names) acts) seen')
   added-alike s s' x [] known a = a
   added-alike s s' x (act ∷ acts) known a =
       let first = All-head (Knows m) act acts known in
       added-alike s s' x acts (All-tail (Knows m) act acts known) (Own s s' x (Acts act) (later_known m act first) first a)
 
   -- pasts to which acts were added that move are alike again
-  pub grown_alike : (x : ℕ) (p q : Past) (acts acts' : List Act) → AlikePast m p q → MovesAt m acts acts' → AlikePast m (grown x p acts) (grown (x + m.names.shift) q acts')
+  pub grown_alike : (x : ℕ) (p q : Past) (acts acts' : List Act) → AlikePast m p q → MovesAt m acts acts' →
+      AlikePast m (grown x p acts) (grown (x + m.names.shift) q acts')
   grown_alike x p q acts acts' a k = record {
     setup = a.setup;
     name = a.name;
     may = a.may;
     strict = a.strict;
     stands = a.stands;
-    seen = subst (λ l. Alike m (added p.step x acts p.seen) (added q.step (x + m.names.shift) l q.seen)) (sym k.same) (added-alike p.step q.step x acts k.known a.seen);
+    seen = subst (λ l. Alike m (added p.step x acts p.seen) (added q.step (x + m.names.shift) l q.seen)) (sym k.same)
+        (added-alike p.step q.step x acts k.known a.seen);
   }
 
   pub none_move : MovesAt m [] []
@@ -58,38 +68,50 @@ module _ {m : Naming} where
         let mid' : Past = grown (x + m.names.shift) q (r' (x + m.names.shift) q) in
         let next = l.at x mid mid' (grown_alike x p q (r x p) (r' (x + m.names.shift) q) a first) in
         record {
-          same = ap (λ z. z ++ s' (x + m.names.shift) mid') first.same ∙ ap (λ z. map (renamed_act m.names) (r x p) ++ z) next.same ∙ sym (map-append (renamed_act m.names) (r x p) (s x mid));
+          same = ap (λ z. z ++ s' (x + m.names.shift) mid') first.same ∙ ap (λ z. map (renamed_act m.names) (r x p) ++ z) next.same ∙
+              sym (map-append (renamed_act m.names) (r x p) (s x mid));
           known = All-append (Knows m) (r x p) (s x mid) first.known next.known;
         };
   }
 
   -- a row that a test chooses, which says the same on both sides
   pub either_moves : (t t' : ℕ → Past → Bool) (r r' s s' : Row) → ((x : ℕ) (p q : Past) → AlikePast m p q → t' (x + m.names.shift) q ≡ t x p) →
-      ((x : ℕ) (p q : Past) → AlikePast m p q → t x p ≡ true → Moves m r r') → ((x : ℕ) (p q : Past) → AlikePast m p q → t x p ≡ false → Moves m s s') → Moves m (either_by t r s) (either_by t' r' s')
+      ((x : ℕ) (p q : Past) → AlikePast m p q → t x p ≡ true → Moves m r r') → ((x : ℕ) (p q : Past) → AlikePast m p q → t x p ≡ false → Moves m s s') →
+      Moves m (either_by t r s) (either_by t' r' s')
   unfolding either_by
   either_moves t t' r r' s s' same k l = record {
-    at = λ x p q a. subst (λ b. MovesAt m (if t x p then r x p else s x p) (if b then r' (x + m.names.shift) q else s' (x + m.names.shift) q)) (sym (same x p q a)) (by_case x p q a (t x p) refl);
+    at = λ x p q a. subst (λ b. MovesAt m (if t x p then r x p else s x p) (if b then r' (x + m.names.shift) q else s' (x + m.names.shift) q))
+        (sym (same x p q a)) (by_case x p q a (t x p) refl);
   } where
-    by_case : (x : ℕ) (p q : Past) → AlikePast m p q → (b : Bool) → t x p ≡ b → MovesAt m (if b then r x p else s x p) (if b then r' (x + m.names.shift) q else s' (x + m.names.shift) q)
+    by_case : (x : ℕ) (p q : Past) → AlikePast m p q → (b : Bool) → t x p ≡ b → MovesAt m (if b then r x p else s x p)
+        (if b then r' (x + m.names.shift) q else s' (x + m.names.shift) q)
     by_case x p q a true e = (k x p q a e).at x p q a
     by_case x p q a false e = (l x p q a e).at x p q a
 
   -- a row for each of some known peers
-  pub each_moves : (row row' : PeerId → Row) → ((p : PeerId) → m.known p → Moves m (row p) (row' (m.names.peer p))) → (ps : List PeerId) → All m.known ps → Moves m (for_each row ps) (for_each row' (map m.names.peer ps))
+  pub each_moves : (row row' : PeerId → Row) → ((p : PeerId) → m.known p → Moves m (row p) (row' (m.names.peer p))) → (ps : List PeerId) → All m.known ps →
+      Moves m (for_each row ps) (for_each row' (map m.names.peer ps))
   unfolding for_each
   each_moves row row' k [] known = nothing_moves
-  each_moves row row' k (p ∷ ps) known = then_moves (row p) (row' (m.names.peer p)) (for_each row ps) (for_each row' (map m.names.peer ps)) (k p (All-head m.known p ps known)) (each_moves row row' k ps (All-tail m.known p ps known))
+  each_moves row row' k (p ∷ ps) known = then_moves (row p) (row' (m.names.peer p)) (for_each row ps) (for_each row' (map m.names.peer ps))
+      (k p (All-head m.known p ps known)) (each_moves row row' k ps (All-tail m.known p ps known))
 
--- a row for each peer is a row for each other one, if it does nothing for the port's own number; what holds of the past on the way is kept by the rows of the others
-pub skips_own : (row : PeerId → Row) (x : ℕ) (own : PeerId) (Holds : Past → Type 0) (Other : PeerId → Type 0) → ((p : Past) → Holds p → (r : PeerId) → (r.0 == own.0) ≡ true → row r x p ≡ []) →
-    ((r : PeerId) → Other r → (p : Past) → Holds p → Holds (grown x p (row r x p))) → (ps : List PeerId) → All Other (others own ps) → (p : Past) → Holds p → for_each row ps x p ≡ for_each row (others own ps) x p
+-- a row for each peer is a row for each other one, if it does nothing for the port's own number; what holds of the past on the way is kept by the rows of the
+-- others
+pub skips_own : (row : PeerId → Row) (x : ℕ) (own : PeerId) (Holds : Past → Type 0) (Other : PeerId → Type 0) →
+    ((p : Past) → Holds p → (r : PeerId) → (r.0 == own.0) ≡ true → row r x p ≡ []) →
+    ((r : PeerId) → Other r → (p : Past) → Holds p → Holds (grown x p (row r x p))) → (ps : List PeerId) → All Other (others own ps) → (p : Past) → Holds p →
+    for_each row ps x p ≡ for_each row (others own ps) x p
 unfolding for_each ◌followed_by◌
 skips_own row x own Holds Other none keeps [] known p h = refl
-skips_own row x own Holds Other none keeps (r ∷ ps) known p h = by_case (r.0 == own.0) refl known (λ k q i. skips_own row x own Holds Other none keeps ps k q i) where
-  by_case : (b : Bool) → (r.0 == own.0) ≡ b → All Other (if not b then r ∷ others own ps else others own ps) → (All Other (others own ps) → (q : Past) → Holds q → for_each row ps x q ≡ for_each row (others own ps) x q) →
-      row r x p ++ for_each row ps x (grown x p (row r x p)) ≡ for_each row (if not b then r ∷ others own ps else others own ps) x p
-  by_case true e k rest = ap (λ z. z ++ for_each row ps x (grown x p z)) (none p h r e) ∙ rest k p h
-  by_case false e k rest = ap (λ z. row r x p ++ z) (rest (All-tail Other r (others own ps) k) (grown x p (row r x p)) (keeps r (All-head Other r (others own ps) k) p h))
+skips_own row x own Holds Other none keeps (r ∷ ps) known p h = by_case (r.0 == own.0) refl known (λ k q i. skips_own row x own Holds Other none keeps ps k q i)
+  where
+    by_case : (b : Bool) → (r.0 == own.0) ≡ b → All Other (if not b then r ∷ others own ps else others own ps) →
+        (All Other (others own ps) → (q : Past) → Holds q → for_each row ps x q ≡ for_each row (others own ps) x q) →
+        row r x p ++ for_each row ps x (grown x p (row r x p)) ≡ for_each row (if not b then r ∷ others own ps else others own ps) x p
+    by_case true e k rest = ap (λ z. z ++ for_each row ps x (grown x p z)) (none p h r e) ∙ rest k p h
+    by_case false e k rest = ap (λ z. row r x p ++ z) (rest (All-tail Other r (others own ps) k) (grown x p (row r x p))
+        (keeps r (All-head Other r (others own ps) k) p h))
 
 -- facts that rows read are the same at alike pasts, but for the names of peers and later ticks
 name_in_role : (n : Renaming) (r : Role) (own kept : List ℕ) → master_name_in (renamed_role n r) own kept ≡ master_name_in r own kept
@@ -142,12 +164,14 @@ module _ {m : Naming} {p q : Past} (a : AlikePast m p q) (x : ℕ) where
   only_if false true e k = absurd (true≢false e)
 
   -- the value that a correction shows
-  shown_if : (amount : ℤ) (b : Bool) → (if b then target_at (x + m.names.shift) q +ℤ amount else shown (plain q.seen) (x + m.names.shift)) ≡ (if b then target_at x p +ℤ amount else shown (plain p.seen) x)
+  shown_if : (amount : ℤ) (b : Bool) → (if b then target_at (x + m.names.shift) q +ℤ amount else shown (plain q.seen) (x + m.names.shift)) ≡
+      (if b then target_at x p +ℤ amount else shown (plain p.seen) x)
   shown_if amount true = ap (λ t. t +ℤ amount) (target_alike (plain_alike a.seen) x)
   shown_if amount false = shown_alike (plain_alike a.seen) x
 
   pub leaf_at : {few : List Sort} {k c : ℕ} {r r' : Row} → Leaf m nothing_owed few k c r r' → MovesAt m (r x p) (r' (x + m.names.shift) q)
-  unfolding puts arms posts posts_to_others posts_back posts_time replies posts_reply repeats begins_settime reading either_by nothing sends_loops reposts asks adjusts sets
+  unfolding puts arms posts posts_to_others posts_back posts_time replies posts_reply repeats begins_settime reading either_by nothing sends_loops reposts asks
+      adjusts sets
   leaf_at (Puts act plain known) = one refl known
   leaf_at (Takes from t owed) = one refl tt
   leaf_at (Arms alarm long known) =
@@ -204,7 +228,8 @@ module _ {m : Naming} where
   test-yes MayBeAsked x p q a e = a.stands (and_parts p.may _ (and_parts _ (may_stand_at x p) e).1).0
   test-yes _ x p q a e = tt
 
-  known-place : (from : Place) (x : ℕ) (p q : Past) → AlikePast m p q → Rattle.tsp_rules.specs.Renames.comes_place m from → is_own from x p ≡ false → known_place m from
+  known-place : (from : Place) (x : ℕ) (p q : Past) → AlikePast m p q → Rattle.tsp_rules.specs.Renames.comes_place m from → is_own from x p ≡ false →
+      known_place m from
   known-place (Peer r) x p q a comes e = a.setup.heard r comes e
   known-place Stranger x p q a comes e = tt
 
@@ -212,43 +237,60 @@ module _ {m : Naming} where
   test-no (IsOwn from comes) x p q a e = known-place from x p q a comes e
   test-no _ x p q a e = tt
 
-  reading-moves : {A : Type 0} (f : A → A) (fact fact' : ℕ → Past → A) (rows rows' : A → Row) → ((x : ℕ) (p q : Past) → AlikePast m p q → fact' (x + m.names.shift) q ≡ f (fact x p)) →
+  reading-moves : {A : Type 0} (f : A → A) (fact fact' : ℕ → Past → A) (rows rows' : A → Row) →
+      ((x : ℕ) (p q : Past) → AlikePast m p q → fact' (x + m.names.shift) q ≡ f (fact x p)) →
       ((x : ℕ) (p q : Past) → AlikePast m p q → Moves m (rows (fact x p)) (rows' (f (fact x p)))) → Moves m (reading fact rows) (reading fact' rows')
   unfolding reading
-  reading-moves f fact fact' rows rows' same k = record { at = λ x p q a. subst (λ v. MovesAt m (rows (fact x p) x p) (rows' v (x + m.names.shift) q)) (sym (same x p q a)) ((k x p q a).at x p q a) }
+  reading-moves f fact fact' rows rows' same k = record {
+    at = λ x p q a. subst (λ v. MovesAt m (rows (fact x p) x p) (rows' v (x + m.names.shift) q))
+        (sym (same x p q a)) ((k x p q a).at x p q a);
+  }
 
-  one-send : (row row' : PeerId → Option Sending → Row) → ((p : PeerId) → row p None ≡ nothing) → ((p : PeerId) → row' p None ≡ nothing) → ((p : PeerId) → m.known p → (s : Sending) → Moves m (row p (Some s)) (row' (m.names.peer p) (Some (later_send m.names s)))) →
+  one-send : (row row' : PeerId → Option Sending → Row) → ((p : PeerId) → row p None ≡ nothing) → ((p : PeerId) → row' p None ≡ nothing) →
+      ((p : PeerId) → m.known p → (s : Sending) → Moves m (row p (Some s)) (row' (m.names.peer p) (Some (later_send m.names s)))) →
       (r : PeerId) → m.known r → Moves m (reading (open_at r) (row r)) (reading (open_at (m.names.peer r)) (row' (m.names.peer r)))
-  one-send row row' none none' k r known = reading-moves (later_sends m.names) (open_at r) (open_at (m.names.peer r)) (row r) (row' (m.names.peer r)) (λ x p q a. open_send_alike r a.seen) (λ x p q a. by_case (open_at r x p)) where
-    by_case : (o : Option Sending) → Moves m (row r o) (row' (m.names.peer r) (later_sends m.names o))
-    by_case None = rw (none r, none' (m.names.peer r)) nothing_moves
-    by_case (Some s) = k r known s
+  one-send row row' none none' k r known = reading-moves (later_sends m.names) (open_at r) (open_at (m.names.peer r)) (row r) (row' (m.names.peer r))
+      (λ x p q a. open_send_alike r a.seen) (λ x p q a. by_case (open_at r x p)) where
+        by_case : (o : Option Sending) → Moves m (row r o) (row' (m.names.peer r) (later_sends m.names o))
+        by_case None = rw (none r, none' (m.names.peer r)) nothing_moves
+        by_case (Some s) = k r known s
 
   all-renamed : (ps : List PeerId) → All m.known ps → All (Renamed m) (map m.names.peer ps)
   all-renamed [] known = All-nil (Renamed m)
-  all-renamed (p ∷ ps) known = All-cons (Renamed m) (m.names.peer p) (map m.names.peer ps) (record { peer = p; known = All-head m.known p ps known; is = refl }) (all-renamed ps (All-tail m.known p ps known))
+  all-renamed (p ∷ ps) known = All-cons (Renamed m) (m.names.peer p) (map m.names.peer ps) (record { peer = p; known = All-head m.known p ps known; is = refl })
+      (all-renamed ps (All-tail m.known p ps known))
 
-  none-first : (row : PeerId → Option Sending → Row) → ((p : PeerId) → row p None ≡ nothing) → (x : ℕ) (own : PeerId) → Unnamed m own → (p : Past) → First m p → (r : PeerId) → (r.0 == own.0) ≡ true → reading (open_at r) (row r) x p ≡ []
+  none-first : (row : PeerId → Option Sending → Row) → ((p : PeerId) → row p None ≡ nothing) → (x : ℕ) (own : PeerId) → Unnamed m own → (p : Past) → First m p →
+      (r : PeerId) → (r.0 == own.0) ≡ true → reading (open_at r) (row r) x p ≡ []
   unfolding reading nothing
   none-first row none x own apart p h r e =
-      subst (λ o. row o (open_send o p.seen) x p ≡ []) (sym (same_peer r own e)) (ap (λ s. row own s x p) (open_send_unnamed own apart h.alike.seen) ∙ ap (λ z. z x p) (none own))
+      subst (λ o. row o (open_send o p.seen) x p ≡ []) (sym (same_peer r own e)) (ap (λ s. row own s x p) (open_send_unnamed own apart h.alike.seen) ∙
+      ap (λ z. z x p) (none own))
 
-  none-second : (row : PeerId → Option Sending → Row) → ((p : PeerId) → row p None ≡ nothing) → (x : ℕ) (own own' : PeerId) → own' ≡ m.names.peer own → Unnamed m own → (q : Past) → Second m q → (r : PeerId) → (r.0 == own'.0) ≡ true → reading (open_at r) (row r) x q ≡ []
+  none-second : (row : PeerId → Option Sending → Row) → ((p : PeerId) → row p None ≡ nothing) → (x : ℕ) (own own' : PeerId) → own' ≡ m.names.peer own →
+      Unnamed m own → (q : Past) → Second m q → (r : PeerId) → (r.0 == own'.0) ≡ true → reading (open_at r) (row r) x q ≡ []
   unfolding reading nothing
   none-second row none x own own' is apart q h r e =
-      subst (λ o. row o (open_send o q.seen) x q ≡ []) (sym (same_peer r own' e ∙ is)) (ap (λ s. row (m.names.peer own) s x q) (open_send_renamed own apart h.alike.seen) ∙ ap (λ z. z x q) (none (m.names.peer own)))
+      subst (λ o. row o (open_send o q.seen) x q ≡ []) (sym (same_peer r own' e ∙ is))
+      (ap (λ s. row (m.names.peer own) s x q) (open_send_renamed own apart h.alike.seen) ∙ ap (λ z. z x q) (none (m.names.peer own)))
 
   first-grown : (x : ℕ) (row row' : Row) → Moves m row row' → (p : Past) → First m p → First m (grown x p (row x p))
-  first-grown x row row' k p h = record { other = grown (x + m.names.shift) h.other (row' (x + m.names.shift) h.other); alike = grown_alike x p h.other _ _ h.alike (k.at x p h.other h.alike) }
+  first-grown x row row' k p h = record {
+    other = grown (x + m.names.shift) h.other (row' (x + m.names.shift) h.other);
+    alike = grown_alike x p h.other _ _ h.alike (k.at x p h.other h.alike);
+  }
 
-  second-grown : (x : ℕ) (two one : PeerId → Row) → ((r : PeerId) → m.known r → Moves m (one r) (two (m.names.peer r))) → (r : PeerId) → Renamed m r → (q : Past) → Second m q → Second m (grown (x + m.names.shift) q (two r (x + m.names.shift) q))
+  second-grown : (x : ℕ) (two one : PeerId → Row) → ((r : PeerId) → m.known r → Moves m (one r) (two (m.names.peer r))) → (r : PeerId) → Renamed m r →
+      (q : Past) → Second m q → Second m (grown (x + m.names.shift) q (two r (x + m.names.shift) q))
   second-grown x two one k r named q h = record {
     other = grown x h.other (one named.peer x h.other);
-    alike = subst (λ z. AlikePast m (grown x h.other (one named.peer x h.other)) (grown (x + m.names.shift) q (two z (x + m.names.shift) q))) (sym named.is) (grown_alike x h.other q _ _ h.alike ((k named.peer named.known).at x h.other q h.alike));
+    alike = subst (λ z. AlikePast m (grown x h.other (one named.peer x h.other)) (grown (x + m.names.shift) q (two z (x + m.names.shift) q))) (sym named.is)
+        (grown_alike x h.other q _ _ h.alike ((k named.peer named.known).at x h.other q h.alike));
   }
 
   -- a row for each peer that has an open send
-  sends-move : (row row' : PeerId → Option Sending → Row) → ((p : PeerId) → row p None ≡ nothing) → ((p : PeerId) → row' p None ≡ nothing) → ((p : PeerId) → m.known p → (s : Sending) → Moves m (row p (Some s)) (row' (m.names.peer p) (Some (later_send m.names s)))) →
+  sends-move : (row row' : PeerId → Option Sending → Row) → ((p : PeerId) → row p None ≡ nothing) → ((p : PeerId) → row' p None ≡ nothing) →
+      ((p : PeerId) → m.known p → (s : Sending) → Moves m (row p (Some s)) (row' (m.names.peer p) (Some (later_send m.names s)))) →
       Moves m (reading peers_at (for_each (λ p. reading (open_at p) (row p)))) (reading peers_at (for_each (λ p. reading (open_at p) (row' p))))
   unfolding reading
   sends-move row row' none none' k = record {
@@ -258,9 +300,12 @@ module _ {m : Naming} where
         let c : ℕ = m.names.shift in
         let both : (r : PeerId) → m.known r → Moves m (one r) (two (m.names.peer r)) = one-send row row' none none' k in
         let ours = skips_own one x p.own (First m) m.known (λ p' h r e. none-first row none x p.own a.setup.apart p' h r e)
-        (λ r known p' h. first-grown x (one r) (two (m.names.peer r)) (both r known) p' h) p.peers (list_known a x Others) p (record { other = q; alike = a }) in
-        let theirs = skips_own two (x + c) q.own (Second m) (Renamed m) (λ q' h r e. none-second row' none' (x + c) p.own q.own a.setup.own a.setup.apart q' h r e)
-        (λ r named q' h. second-grown x two one both r named q' h) q.peers (subst (λ l. All (Renamed m) l) (sym a.setup.others_are) (all-renamed (others p.own p.peers) (list_known a x Others))) q (record { other = p; alike = a }) in
+        (λ r known p' h. first-grown x (one r) (two (m.names.peer r)) (both r known) p' h) p.peers (list_known a x Others) p (record { other = q; alike = a })
+        in
+        let theirs = skips_own two (x + c) q.own (Second m) (Renamed m) (λ q' h r e. none-second row' none' (x + c) p.own q.own a.setup.own a.setup.apart q' h r
+        e)
+        (λ r named q' h. second-grown x two one both r named q' h) q.peers (subst (λ l. All (Renamed m) l) (sym a.setup.others_are)
+        (all-renamed (others p.own p.peers) (list_known a x Others))) q (record { other = p; alike = a }) in
         let each = (each_moves one two both (others p.own p.peers) (list_known a x Others)).at x p q a in
         record {
           same = theirs ∙ ap (λ l. for_each two l (x + c) q) a.setup.others_are ∙ each.same ∙ ap (map (renamed_act m.names)) (sym ours);
@@ -271,42 +316,53 @@ module _ {m : Naming} where
   puts-moves : (act : Act) → is_plain act ≡ true → Knows m act → Moves m (puts act) (puts (renamed_act m.names act))
   puts-moves act plain known = record { at = λ x p q a. leaf_at a x (Puts act plain known) }
 
-  each-standing : (mean : ℤ) → ((p : PeerId) → m.known p → (best : Option Estimate) → Moves m (corrects_by mean p best) (corrects_by mean (m.names.peer p) best)) → (round : List Standing) → All (λ (s : Standing). m.known s.peer) round →
+  each-standing : (mean : ℤ) → ((p : PeerId) → m.known p → (best : Option Estimate) →
+      Moves m (corrects_by mean p best) (corrects_by mean (m.names.peer p) best)) → (round : List Standing) → All (λ (s : Standing). m.known s.peer) round →
       Moves m (for_each (corrects_peer mean) round) (for_each (corrects_peer mean) (map (renamed_standing m.names) round))
   unfolding for_each corrects_peer
   each-standing mean k [] known = nothing_moves
-  each-standing mean k (s ∷ round) known = then_moves _ _ _ _ (k s.peer (All-head (λ (s : Standing). m.known s.peer) s round known) s.best) (each-standing mean k round (All-tail (λ (s : Standing). m.known s.peer) s round known))
+  each-standing mean k (s ∷ round) known = then_moves _ _ _ _ (k s.peer (All-head (λ (s : Standing). m.known s.peer) s round known) s.best)
+      (each-standing mean k round (All-tail (λ (s : Standing). m.known s.peer) s round known))
 
   -- a round closes
-  closing : (own : Bool) → ((mean : ℤ) → Moves m (moves own mean) (moves own mean)) → ((mean : ℤ) (p : PeerId) → m.known p → (best : Option Estimate) → Moves m (corrects_by mean p best) (corrects_by mean (m.names.peer p) best)) →
-      (round : List Standing) → All (λ (s : Standing). m.known s.peer) round → (g : Group) → Moves m (closes_with own g round) (closes_with own g (map (renamed_standing m.names) round))
+  closing : (own : Bool) → ((mean : ℤ) → Moves m (moves own mean) (moves own mean)) → ((mean : ℤ) (p : PeerId) → m.known p → (best : Option Estimate) →
+      Moves m (corrects_by mean p best) (corrects_by mean (m.names.peer p) best)) →
+      (round : List Standing) → All (λ (s : Standing). m.known s.peer) round → (g : Group) →
+      Moves m (closes_with own g round) (closes_with own g (map (renamed_standing m.names) round))
   unfolding closes_with abandons
   closing own moved corrected round known g =
       let mean : ℤ = mean_by own g in
       either_moves _ _ _ _ _ _ (λ x p q a. can_adjust_alike a mean x)
-      (λ x p q a e. then_moves _ _ _ _ (puts-moves (close_act own g) refl tt) (then_moves _ _ _ _ (moved mean) (each-standing mean (corrected mean) round known)))
+      (λ x p q a e. then_moves _ _ _ _ (puts-moves (close_act own g) refl tt) (then_moves _ _ _ _ (moved mean)
+      (each-standing mean (corrected mean) round known)))
       (λ x p q a e. puts-moves Abandon refl tt)
 
-  closes-move : (own : Bool) → ((mean : ℤ) → Moves m (moves own mean) (moves own mean)) → ((mean : ℤ) (p : PeerId) → m.known p → (best : Option Estimate) → Moves m (corrects_by mean p best) (corrects_by mean (m.names.peer p) best)) → Moves m (reading round_at (closes own)) (reading round_at (closes own))
+  closes-move : (own : Bool) → ((mean : ℤ) → Moves m (moves own mean) (moves own mean)) → ((mean : ℤ) (p : PeerId) → m.known p → (best : Option Estimate) →
+      Moves m (corrects_by mean p best) (corrects_by mean (m.names.peer p) best)) → Moves m (reading round_at (closes own)) (reading round_at (closes own))
   unfolding closes
-  closes-move own moved corrected = reading-moves (map (renamed_standing m.names)) round_at round_at (closes own) (closes own) (λ x p q a. round_at_alike a x) (λ x p q a.
+  closes-move own moved corrected = reading-moves (map (renamed_standing m.names)) round_at round_at (closes own) (closes own) (λ x p q a. round_at_alike a x)
+      (λ x p q a.
       then_moves _ _ _ _ (puts-moves (Ring CloseAlarm) refl tt)
-      (subst (λ e. Moves m (closes_with own (group_of SPAN (estimates (round_at x p))) (round_at x p)) (closes_with own (group_of SPAN e) (map (renamed_standing m.names) (round_at x p)))) (sym (same-estimates m.names (round_at x p)))
+      (subst (λ e. Moves m (closes_with own (group_of SPAN (estimates (round_at x p))) (round_at x p))
+      (closes_with own (group_of SPAN e) (map (renamed_standing m.names) (round_at x p)))) (sym (same-estimates m.names (round_at x p)))
       (closing own moved corrected (round_at x p) (round_at_known a x) (group_of SPAN (estimates (round_at x p))))))
 
   pub moves_built : {sorts : List Sort} {k c : ℕ} {r r' : Row} → Built m nothing_owed sorts k c r r' → Moves m r r'
   moves_built Empty = nothing_moves
   moves_built (At leaf e) = record { at = λ x p q a. leaf_at a x leaf }
   moves_built (Then d e) = then_moves _ _ _ _ (moves_built d) (moves_built e)
-  moves_built (Either test d e) = either_moves _ _ _ _ _ _ (λ x p q a. test_same a x test) (λ x p q a holds. moves_built (d (test-yes test x p q a holds))) (λ x p q a fails. moves_built (e (test-no test x p q a fails)))
+  moves_built (Either test d e) = either_moves _ _ _ _ _ _ (λ x p q a. test_same a x test) (λ x p q a holds. moves_built (d (test-yes test x p q a holds)))
+      (λ x p q a fails. moves_built (e (test-no test x p q a fails)))
   moves_built (If true b' same d e) = rw same (moves_built (d refl))
   moves_built (If false b' same d e) = rw same (moves_built e)
   moves_built (Reading {f = f} rows fact d) =
       reading-moves f _ _ _ _ (λ x p q a. fact_same a x fact) (λ x p q a. moves_built (d _ (fact_told a x fact)))
   moves_built (ReadingValue {f = f} rows fact d) =
       reading-moves f _ _ _ _ (λ x p q a. value_same a x fact) (λ x p q a. moves_built (d _ tt))
-  moves_built (Each row list d) = reading-moves (map m.names.peer) _ _ _ _ (λ x p q a. list_same a x list) (λ x p q a. each_moves _ _ (λ p known. moves_built (d p known)) _ (list_known a x list))
+  moves_built (Each row list d) = reading-moves (map m.names.peer) _ _ _ _ (λ x p q a. list_same a x list)
+      (λ x p q a. each_moves _ _ (λ p known. moves_built (d p known)) _ (list_known a x list))
   moves_built (EachSend row row' none none' d) = sends-move row row' none none' (λ p known s. moves_built (d p known s tt))
-  moves_built (Closes own e moved corrected) = closes-move own (λ mean. moves_built (moved mean)) (λ mean p known best. moves_built (corrected mean p known best (nothing_measured mean best)))
+  moves_built (Closes own e moved corrected) = closes-move own (λ mean. moves_built (moved mean))
+      (λ mean p known best. moves_built (corrected mean p known best (nothing_measured mean best)))
   moves_built (More d le) = moves_built d
   moves_built (Wider e d) = moves_built d

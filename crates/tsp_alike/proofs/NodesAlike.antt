@@ -1,13 +1,16 @@
 -- Rows over ports do alike on pasts that are alike.
-use Rattle.std.proofs.Common.{sym, ap, ap₂, subst, inl, inr, true≢false, eqb-true, ◌∙◌, ◌≡◌, ℕ, ◌+◌, ◌<◌, ◌==◌, Bool, true, false, not, ◌||◌, if◌then◌else◌, List, [], ◌∷◌, ◌++◌, length, map, All, slice_index_or, refl, arith, nat_le, nat_lt, ◌&&◌, filter}
+use Rattle.std.proofs.Common.{sym, ap, ap₂, subst, inl, inr, true≢false, eqb-true, ◌∙◌, ◌≡◌, ℕ, ◌+◌, ◌<◌, ◌==◌, Bool, true, false, not, ◌||◌, if◌then◌else◌}
+use Rattle.std.proofs.Common.{List, [], ◌∷◌, ◌++◌, length, map, All, slice_index_or, refl, arith, nat_le, nat_lt, ◌&&◌, filter}
 use Rattle.std.proofs.{lemmas.Bool.or_cases, lemmas.List.map-append, Math.Bool.or-true}
 use Rattle.std.proofs.lemmas.List.Elements.{All-nil, All-cons, All-head, All-tail, All-append}
 use Rattle.tsp_rules.specs.Values.{Act, Boot, Placed, PeerId, Port, Kind, Place, Peer, Stranger, Correct, Ring}
 use Rattle.tsp_rules.specs.NodeRows.{NodePast, NodeRow, PortSetup, no_port, nothing_at_all, on, on_port, spread, ◌and_then◌, for_ports}
 use Rattle.tsp_rules.specs.Renames.{Naming, Renaming, Knows, renamed_act, renamed_place}
-use Rattle.tsp_rules.specs.GateRows.{any_port, ends_probes, follows_on, goes_on, has_rung, hears_on, in_charge, is_awake_on, is_last_probe, leads_clock, leads_on, lower_ports, other_ports, ports_from, steers, stirred_ports, waits}
+use Rattle.tsp_rules.specs.GateRows.{any_port, ends_probes, follows_on, goes_on, has_rung, hears_on, in_charge, is_awake_on, is_last_probe, leads_clock}
+use Rattle.tsp_rules.specs.GateRows.{leads_on, lower_ports, other_ports, ports_from, steers, stirred_ports, waits}
 use Rattle.tsp_rules.specs.{Guards.is_follow, Guards.is_master, Guards.is_starting_role, RoundRows.corrects, RoundRows.is_correct}
-use Rattle.tsp_base.specs.Words.{Deed, Begins, Acts, Step, Line, Row, first_port, is_shared, joined, line_of, placed, seen_as, view, is_among, others, role, sets_date}
+use Rattle.tsp_base.specs.Words.{Deed, Begins, Acts, Step, Line, Row, first_port, is_shared, joined, line_of, placed, seen_as, view, is_among, others, role}
+use Rattle.tsp_base.specs.Words.{sets_date}
 use Rattle.tsp_alike.proofs.{RoundsAlike.is_going_alike, ListsAlike.among_others, PortAlike.role_alike}
 use Rattle.tsp_alike.specs.AlikeNodes.{AlikeConfigs, AlikeLines, AlikeNodes, namings, AllKnown, Booted, Both, KnowsDeed, StepsAlike, TellsApart, is_later}
 use Rattle.tsp_alike.specs.AlikeNodes.{naming_of, renamed_deed, renamed_placed}
@@ -33,16 +36,21 @@ others-apart own p [] e = absurd (true≢false (sym e))
 others-apart own p (q ∷ peers) e = by_case (q.0 == own.0) refl (others-apart own p peers) where
   by_case : (b : Bool) → (q.0 == own.0) ≡ b → (is_among p (others own peers) ≡ true → (p.0 == own.0) ≡ false) → (p.0 == own.0) ≡ false
   by_case true is rest = rest (subst (λ b. is_among p (if not b then q ∷ others own peers else others own peers) ≡ true) is e)
-  by_case false is rest = elim (or_cases (q.0 == p.0) (is_among p (others own peers)) (subst (λ b. is_among p (if not b then q ∷ others own peers else others own peers) ≡ true) is e)) [
-    | inl same ↦ subst (λ k. (k == own.0) ≡ false) (eqb-true q.0 p.0 same) is
-    | inr there ↦ rest there
-  ]
+  by_case false is rest = elim (or_cases (q.0 == p.0) (is_among p (others own peers))
+      (subst (λ b. is_among p (if not b then q ∷ others own peers else others own peers) ≡ true) is e)) [
+        | inl same ↦ subst (λ k. (k == own.0) ≡ false) (eqb-true q.0 p.0 same) is
+        | inr there ↦ rest there
+      ]
 
 module _ (ms : Port → Naming) (shift : ℕ) (shifts : (q : Port) → (ms q).names.shift ≡ shift) where
-  own-line : (q r : Port) (s s' : Step) (x : ℕ) (deed : Deed) → is_later deed ≡ true → KnowsDeed (ms r) deed → (b : Bool) → (r.0 == q.0) ≡ b → (lines lines' : List Line) → Alike (ms q) (view q lines) (view q lines') →
-      Alike (ms q) (seen_as (b || is_shared deed) (line_of s x r deed).did ∷ view q lines) (seen_as (b || is_shared (renamed_deed (ms r).names deed)) (line_of s' (x + shift) r (renamed_deed (ms r).names deed)).did ∷ view q lines')
-  own-line q r s s' x Begins later known true e lines lines' a = subst (λ n. Alike (ms q) (here s x Begins ∷ view q lines) (here s' (x + n) Begins ∷ view q lines')) (shifts q) (Own s s' x Begins refl tt a)
-  own-line q r s s' x Begins later known false e lines lines' a = subst (λ n. Alike (ms q) (here s x Begins ∷ view q lines) (here s' (x + n) Begins ∷ view q lines')) (shifts q) (Own s s' x Begins refl tt a)
+  own-line : (q r : Port) (s s' : Step) (x : ℕ) (deed : Deed) → is_later deed ≡ true → KnowsDeed (ms r) deed → (b : Bool) → (r.0 == q.0) ≡ b →
+      (lines lines' : List Line) → Alike (ms q) (view q lines) (view q lines') →
+      Alike (ms q) (seen_as (b || is_shared deed) (line_of s x r deed).did ∷ view q lines) (seen_as (b || is_shared (renamed_deed (ms r).names deed))
+      (line_of s' (x + shift) r (renamed_deed (ms r).names deed)).did ∷ view q lines')
+  own-line q r s s' x Begins later known true e lines lines' a = subst (λ n. Alike (ms q) (here s x Begins ∷ view q lines) (here s' (x + n) Begins ∷
+      view q lines')) (shifts q) (Own s s' x Begins refl tt a)
+  own-line q r s s' x Begins later known false e lines lines' a = subst (λ n. Alike (ms q) (here s x Begins ∷ view q lines) (here s' (x + n) Begins ∷
+      view q lines')) (shifts q) (Own s s' x Begins refl tt a)
   own-line q r s s' x (Acts act) later known true e lines lines' a =
       let same : r ≡ q = ap (λ (k : ℕ). record { 0 = k }) (eqb-true r.0 q.0 e) in
       subst (λ k. Alike (ms q) (here s x (Acts act) ∷ view q lines) (here s' (x + shift) (Acts (renamed_act (ms k).names act)) ∷ view q lines')) (sym same)
@@ -51,25 +59,33 @@ module _ (ms : Port → Naming) (shift : ℕ) (shifts : (q : Port) → (ms q).na
   own-line q r s s' x (Acts act) later known false e lines lines' a =
       let one = unshared act later in
       let two = unshared-renamed (ms r).names act later in
-      subst (λ b. Alike (ms q) (seen_as b (line_of s x r (Acts act)).did ∷ view q lines) (seen_as (is_shared (Acts (renamed_act (ms r).names act))) (line_of s' (x + shift) r (Acts (renamed_act (ms r).names act))).did ∷ view q lines')) (sym one)
-      (subst (λ b. Alike (ms q) (elsewhere s x (Acts act) ∷ view q lines) (seen_as b (line_of s' (x + shift) r (Acts (renamed_act (ms r).names act))).did ∷ view q lines')) (sym two)
-      (subst (λ n. Alike (ms q) (elsewhere s x (Acts act) ∷ view q lines) (elsewhere s' (x + n) (Acts (renamed_act (ms r).names act)) ∷ view q lines')) (shifts q)
+      subst (λ b. Alike (ms q) (seen_as b (line_of s x r (Acts act)).did ∷ view q lines) (seen_as (is_shared (Acts (renamed_act (ms r).names act)))
+      (line_of s' (x + shift) r (Acts (renamed_act (ms r).names act))).did ∷ view q lines')) (sym one)
+      (subst (λ b. Alike (ms q) (elsewhere s x (Acts act) ∷ view q lines) (seen_as b (line_of s' (x + shift) r (Acts (renamed_act (ms r).names act))).did ∷
+      view q lines')) (sym two)
+      (subst (λ n. Alike (ms q) (elsewhere s x (Acts act) ∷ view q lines) (elsewhere s' (x + n) (Acts (renamed_act (ms r).names act)) ∷ view q lines'))
+      (shifts q)
       (Other (ms r).names (shifts r ∙ sym (shifts q)) s s' x (Acts act) later a)))
 
   -- what a port sees of lines that are alike is alike
   pub view_alike : (q : Port) (lines lines' : List Line) → AlikeLines ms shift lines lines' → Alike (ms q) (view q lines) (view q lines')
   view_alike q _ _ (Booted s s' cause x old old') =
-      subst (λ b. Alike (ms q) (seen_as b (line_of s x first_port (Acts Boot)).did ∷ seen_as b (line_of s x first_port Begins).did ∷ view q old) (seen_as b (line_of s' (x + shift) first_port (Acts Boot)).did ∷ seen_as b (line_of s' (x + shift) first_port Begins).did ∷ view q old'))
+      subst (λ b. Alike (ms q) (seen_as b (line_of s x first_port (Acts Boot)).did ∷ seen_as b (line_of s x first_port Begins).did ∷
+      view q old) (seen_as b (line_of s' (x + shift) first_port (Acts Boot)).did ∷ seen_as b (line_of s' (x + shift) first_port Begins).did ∷ view q old'))
       (sym (or-true (0 == q.0)))
-      (subst (λ n. Alike (ms q) (here s x (Acts Boot) ∷ here s x Begins ∷ view q old) (here s' (x + n) (Acts Boot) ∷ here s' (x + n) Begins ∷ view q old')) (shifts q) (PortBooted s s' cause x (view q old) (view q old')))
-  view_alike q _ _ (Both s s' x r deed later known {before} {before'} a) = own-line q r s s' x deed later known (r.0 == q.0) refl before before' (view_alike q before before' a)
+      (subst (λ n. Alike (ms q) (here s x (Acts Boot) ∷ here s x Begins ∷ view q old) (here s' (x + n) (Acts Boot) ∷ here s' (x + n) Begins ∷ view q old'))
+      (shifts q) (PortBooted s s' cause x (view q old) (view q old')))
+  view_alike q _ _ (Both s s' x r deed later known {before} {before'} a) = own-line q r s s' x deed later known (r.0 == q.0) refl before before'
+      (view_alike q before before' a)
 
   -- lines to which acts are added are alike again
-  pub joined_alike : (s s' : Step) (x : ℕ) (acts : List Placed) → AllKnown ms acts → {lines lines' : List Line} → AlikeLines ms shift lines lines' → AlikeLines ms shift (joined s x acts lines) (joined s' (x + shift) (map (renamed_placed (λ q. (ms q).names)) acts) lines')
+  pub joined_alike : (s s' : Step) (x : ℕ) (acts : List Placed) → AllKnown ms acts → {lines lines' : List Line} → AlikeLines ms shift lines lines' →
+      AlikeLines ms shift (joined s x acts lines) (joined s' (x + shift) (map (renamed_placed (λ q. (ms q).names)) acts) lines')
   joined_alike s s' x [] known a = a
   joined_alike s s' x (p ∷ rest) known a =
       let first = All-head (λ (k : Placed). Knows (ms k.port) k.act) p rest known in
-      joined_alike s s' x rest (All-tail (λ (k : Placed). Knows (ms k.port) k.act) p rest known) (Both s s' x p.port (Acts p.act) (later_known (ms p.port) p.act first) first a)
+      joined_alike s s' x rest (All-tail (λ (k : Placed). Knows (ms k.port) k.act) p rest known)
+      (Both s s' x p.port (Acts p.act) (later_known (ms p.port) p.act first) first a)
 
 -- acts of a port, each in its place
 placed-renamed : (rs : Port → Renaming) (q : Port) (acts : List Act) → placed q (map (renamed_act (rs q)) acts) ≡ map (renamed_placed rs) (placed q acts)
@@ -78,7 +94,8 @@ placed-renamed rs q (a ∷ acts) = ap (λ l. record { port = q; act = renamed_ac
 
 placed-known : (ms : Port → Naming) (q : Port) (acts : List Act) → All (Knows (ms q)) acts → AllKnown ms (placed q acts)
 placed-known ms q [] known = All-nil (λ (a : Placed). Knows (ms a.port) a.act)
-placed-known ms q (a ∷ acts) known = All-cons (λ (a : Placed). Knows (ms a.port) a.act) (record { port = q; act = a }) (placed q acts) (All-head (Knows (ms q)) a acts known) (placed-known ms q acts (All-tail (Knows (ms q)) a acts known))
+placed-known ms q (a ∷ acts) known = All-cons (λ (a : Placed). Knows (ms a.port) a.act) (record { port = q; act = a }) (placed q acts)
+    (All-head (Knows (ms q)) a acts known) (placed-known ms q acts (All-tail (Knows (ms q)) a acts known))
 
 -- how a node is set up in a life, what its ports' peers are called otherwise, and by how much its ticks are later there
 pub record Life : Type 0 where
@@ -234,7 +251,8 @@ ports_same k _ _ e = let bad : ⊥ = omega (arith, e) in absurd bad
 -- each has a number below theirs
 pub ports_below : (k n : ℕ) (a : List PortSetup) → k + length a ≡ n → All (λ (q : Port). q.0 < n) (ports_from k a)
 ports_below k n [] e = All-nil (λ (q : Port). q.0 < n)
-ports_below k n (s ∷ a) e = All-cons (λ (q : Port). q.0 < n) (record { 0 = k }) (ports_from (k + 1) a) (omega (arith, e)) (ports_below (k + 1) n a (omega (arith, e)))
+ports_below k n (s ∷ a) e = All-cons (λ (q : Port). q.0 < n) (record { 0 = k }) (ports_from (k + 1) a) (omega (arith, e))
+    (ports_below (k + 1) n a (omega (arith, e)))
 
 -- whether a test holds of one of some ports
 any-same : (t t' : Port → Bool) → ((q : Port) → t' q ≡ t q) → (qs : List Port) → any_port t' qs ≡ any_port t qs

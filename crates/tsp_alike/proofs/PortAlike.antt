@@ -1,5 +1,6 @@
 -- Facts of a port at alike pasts: role, alarms, hold, what a step took, table, backers, rivals, and its numbered sends.
-use Rattle.std.proofs.Common.{◌∷◌, ap₂, sym, ap, true≢false, ◌∙◌, ◌≡◌, ℕ, ◌+◌, Bool, true, false, if◌then◌else◌, List, map, Option, None, Some, is_some, refl, ◌==◌, ◌&&◌, []}
+use Rattle.std.proofs.Common.{◌∷◌, ap₂, sym, ap, true≢false, ◌∙◌, ◌≡◌, ℕ, ◌+◌, Bool, true, false, if◌then◌else◌, List, map, Option, None, Some, is_some, refl}
+use Rattle.std.proofs.Common.{◌==◌, ◌&&◌, []}
 use Rattle.tsp_rules.specs.Values.{Role, Stamp, Request, Probe, CloseAlarm, Boot, Back, Took, Become, Arm, Ring, Late, Backer, Join, Leave, Rival, Quit, Alarm}
 use Rattle.tsp_rules.specs.Values.{Window, Quiet, PeerId, Place, Peer, Stranger, Follow, HOLD, ELECT_MIN, Post, Acked, Gave, Correct, Message}
 use Rattle.tsp_rules.specs.Renames.{Renaming, Naming, Knows, renamed_place, renamed_role, known_role, later_sends}
@@ -10,7 +11,8 @@ use Rattle.tsp_base.specs.Words.{probes, open_to, posts_of, message_at, sending_
 use Rattle.tsp_base.specs.Words.{is_acknowledged, correcting_of, last_taken, Dating, dating_of, last_date, last_asked, Step, message_of, sending_of}
 use Rattle.tsp_alike.proofs.Alike.{Alike, Booted, Own, Other, here}
 use Rattle.tsp_alike.specs.AlikeNodes.{renamed_deed, KnowsDeed}
-use Rattle.tsp_alike.proofs.Renamed.{sending_later, later, later_deadlines, renamed_back, renamed_held, renamed_taken, renamed_said, le_after, past_later, later_date, renamed_correcting}
+use Rattle.tsp_alike.proofs.Renamed.{sending_later, later, later_deadlines, renamed_back, renamed_held, renamed_taken, renamed_said, le_after, past_later}
+use Rattle.tsp_alike.proofs.Renamed.{later_date, renamed_correcting}
 
 -- what a deed does to a fact, with other names
 module _ (n : Renaming) where
@@ -55,7 +57,8 @@ module _ (n : Renaming) where
 
 -- the same, where peers are told apart or known
 module _ (m : Naming) where
-  window_with : (d : Deadlines) (a : Alarm) (at : ℕ) → Knows m (Arm a at) → (is_some d.window ≡ true → m.stands) → is_some (with_deadline d a (Some at)).window ≡ true → m.stands
+  window_with : (d : Deadlines) (a : Alarm) (at : ℕ) → Knows m (Arm a at) → (is_some d.window ≡ true → m.stands) →
+      is_some (with_deadline d a (Some at)).window ≡ true → m.stands
   window_with d Window at knows k e = knows
   window_with d _ at knows k e = k e
 
@@ -71,7 +74,8 @@ module _ (m : Naming) where
   window_deed (Acts (Late a)) was knows k e = window_off was a k e
   window_deed _ was knows k e = k e
 
-  back_renamed : (o : Option (ℕ × PeerId)) (x : ℕ) (p : PeerId) → may_back_after (renamed_back m.names o) (x + m.names.shift) (m.names.peer p) ≡ may_back_after o x p
+  back_renamed : (o : Option (ℕ × PeerId)) (x : ℕ) (p : PeerId) → may_back_after (renamed_back m.names o) (x + m.names.shift) (m.names.peer p) ≡
+      may_back_after o x p
   back_renamed None x p = refl
   back_renamed (Some b) x p = let e = m.same b.1 p in let l = le_after b.0 HOLD x m.names.shift in rw (e, l) refl
 
@@ -177,7 +181,8 @@ module _ {m : Naming} where
   armed_alike (Own s s' x d ok knows {before = b} a) = ap (armed_after (renamed_deed m.names d)) (armed_alike a) ∙ armed_deed m.names d (armed b)
   armed_alike (Other n shift s s' x d ok a) = armed_alike a
 
-  pub deadline_alike : {seen seen' : List Seen} → Alike m seen seen' → (alarm : Alarm) → deadline (armed seen') alarm ≡ later m.names (deadline (armed seen) alarm)
+  pub deadline_alike : {seen seen' : List Seen} → Alike m seen seen' → (alarm : Alarm) → deadline (armed seen') alarm ≡
+      later m.names (deadline (armed seen) alarm)
   deadline_alike {seen = z} a alarm = ap (λ d. deadline d alarm) (armed_alike a) ∙ deadline_later m.names (armed z) alarm
 
   -- only a port that may stand for election waits for the end of the window
@@ -187,11 +192,13 @@ module _ {m : Naming} where
   window_stands (Other n shift s s' x d ok a) e = window_stands a e
 
   -- the hold
-  pub may_back_alike : {seen seen' : List Seen} → Alike m seen seen' → (x : ℕ) (p : PeerId) → may_back (held seen') (x + m.names.shift) (m.names.peer p) ≡ may_back (held seen) x p
+  pub may_back_alike : {seen seen' : List Seen} → Alike m seen seen' → (x : ℕ) (p : PeerId) → may_back (held seen') (x + m.names.shift) (m.names.peer p) ≡
+      may_back (held seen) x p
   may_back_alike {seen = z} a x p = ap (λ h. may_back h (x + m.names.shift) (m.names.peer p)) (ap (λ (f : Facts). f.held) (facts_alike a)) ∙ back_renamed m
       (held z).back x p
 
-  pub may_stand_alike : {seen seen' : List Seen} → Alike m seen seen' → (x : ℕ) (own : PeerId) → may_stand (held seen') (x + m.names.shift) (m.names.peer own) ≡ may_stand (held seen) x own
+  pub may_stand_alike : {seen seen' : List Seen} → Alike m seen seen' → (x : ℕ) (own : PeerId) → may_stand (held seen') (x + m.names.shift) (m.names.peer own) ≡
+      may_stand (held seen) x own
   may_stand_alike {seen = z} a x own = ap (λ h. may_stand h (x + m.names.shift) (m.names.peer own)) (ap (λ (f : Facts). f.held) (facts_alike a))
       ∙ stand_renamed m (held z) x own
 
@@ -218,14 +225,16 @@ module _ {m : Naming} where
 -- no place in both, or places of own deeds that are alike
 pub data AlikePlaces (m : Naming) : List Seen → List Seen → Type 0 where
   Nowhere : AlikePlaces m [] []
-  There : (s s' : Step) (x : ℕ) (deed : Deed) → {before before' : List Seen} → Alike m before before' → AlikePlaces m (here s x deed ∷ before) (here s' (x + m.names.shift) (renamed_deed m.names deed) ∷ before')
+  There : (s s' : Step) (x : ℕ) (deed : Deed) → {before before' : List Seen} → Alike m before before' →
+      AlikePlaces m (here s x deed ∷ before) (here s' (x + m.names.shift) (renamed_deed m.names deed) ∷ before')
 
 pub message_renamed : (n : Renaming) (d : Deed) → message_of (renamed_deed n d) ≡ message_of d
 message_renamed n (Acts (Post to (Message msg))) = refl
 message_renamed n _ = refl
 
 -- one of two places, by a test that says the same in both pasts
-pub either_place : (m : Naming) → (b b' : Bool) → b' ≡ b → {p p' q q' : List Seen} → AlikePlaces m p p' → AlikePlaces m q q' → AlikePlaces m (if b then p else q) (if b' then p' else q')
+pub either_place : (m : Naming) → (b b' : Bool) → b' ≡ b → {p p' q q' : List Seen} → AlikePlaces m p p' → AlikePlaces m q q' →
+    AlikePlaces m (if b then p else q) (if b' then p' else q')
 either_place m true true e first second = first
 either_place m false false e first second = second
 either_place m true false e first second = absurd (true≢false (sym e))
@@ -236,20 +245,25 @@ module _ {m : Naming} where
   message_at_alike Nowhere = refl
   message_at_alike (There s s' x d a) = message_renamed m.names d
 
-  pub sending_at_alike : {place place' : List Seen} → AlikePlaces m place place' → (posts : ℕ) → sending_at place' posts ≡ later_sends m.names (sending_at place posts)
+  pub sending_at_alike : {place place' : List Seen} → AlikePlaces m place place' → (posts : ℕ) → sending_at place' posts ≡
+      later_sends m.names (sending_at place posts)
   sending_at_alike Nowhere posts = refl
-  sending_at_alike (There s s' x d a) posts = ap (λ o. sending_of o (x + m.names.shift) posts) (message_renamed m.names d) ∙ sending_later m.names (message_of d) x posts
+  sending_at_alike (There s s' x d a) posts = ap (λ o. sending_of o (x + m.names.shift) posts) (message_renamed m.names d) ∙
+      sending_later m.names (message_of d) x posts
 
 -- the same for one peer, where peers are told apart
 module _ (m : Naming) where
-  date_if : (b : Bool) (x number : ℕ) (was : Option Dating) → (if b then Some (record { at = x + m.names.shift; number = number }) else later_date m.names was) ≡ later_date m.names (if b then Some (record { at = x; number = number }) else was)
+  date_if : (b : Bool) (x number : ℕ) (was : Option Dating) → (if b then Some (record { at = x + m.names.shift; number = number }) else later_date m.names was)
+      ≡ later_date m.names (if b then Some (record { at = x; number = number }) else was)
   date_if true x number was = refl
   date_if false x number was = refl
 
-  dating_renamed : (p : PeerId) (x : ℕ) (o : Option Said) (was : Option Dating) → dating_of (m.names.peer p) (x + m.names.shift) (renamed_said m.names o) (later_date m.names was) ≡ later_date m.names (dating_of p x o was)
+  dating_renamed : (p : PeerId) (x : ℕ) (o : Option Said) (was : Option Dating) →
+      dating_of (m.names.peer p) (x + m.names.shift) (renamed_said m.names o) (later_date m.names was) ≡ later_date m.names (dating_of p x o was)
   dating_renamed p x None was = refl
   dating_renamed p x (Some s) was =
-      ap (λ b. if b && is_date_request s.message.kind then Some (record { at = x + m.names.shift; number = s.message.number }) else later_date m.names was) (m.same s.from p)
+      ap (λ b. if b && is_date_request s.message.kind then Some (record { at = x + m.names.shift; number = s.message.number }) else later_date m.names was)
+      (m.same s.from p)
       ∙ date_if ((s.from.0 == p.0) && is_date_request s.message.kind) x s.message.number was
 
 module _ {m : Naming} where
@@ -277,7 +291,8 @@ module _ {m : Naming} where
   posts_of_alike p (Other n shift s s' x d ok a) = posts_of_alike p a
 
   pub open_send_alike : (p : PeerId) → {seen seen' : List Seen} → Alike m seen seen' → open_send (m.names.peer p) seen' ≡ later_sends m.names (open_send p seen)
-  open_send_alike p {seen = z} {seen' = z'} a = ap (sending_at (open_to (m.names.peer p) z')) (posts_of_alike p a) ∙ sending_at_alike (open_to_alike p a) (posts_of p z)
+  open_send_alike p {seen = z} {seen' = z'} a = ap (sending_at (open_to (m.names.peer p) z')) (posts_of_alike p a) ∙
+      sending_at_alike (open_to_alike p a) (posts_of p z)
 
   -- the last correction of a peer
   pub last_to_alike : (p : PeerId) → {seen seen' : List Seen} → Alike m seen seen' → AlikePlaces m (last_to p seen) (last_to (m.names.peer p) seen')
@@ -302,7 +317,8 @@ module _ {m : Naming} where
   last_post_alike p (Other n shift s s' x d ok a) = last_post_alike p a
 
   -- whether the open send corrects
-  corrects_alike : (p : PeerId) → {seen seen' : List Seen} → Alike m seen seen' → corrects_by (message_at (open_to (m.names.peer p) seen')) ≡ corrects_by (message_at (open_to p seen))
+  corrects_alike : (p : PeerId) → {seen seen' : List Seen} → Alike m seen seen' → corrects_by (message_at (open_to (m.names.peer p) seen')) ≡
+      corrects_by (message_at (open_to p seen))
   corrects_alike p a = ap corrects_by (message_at_alike (open_to_alike p a))
 
   pub is_acknowledged_alike : (p : PeerId) → {seen seen' : List Seen} → Alike m seen seen' → is_acknowledged (m.names.peer p) seen' ≡ is_acknowledged p seen

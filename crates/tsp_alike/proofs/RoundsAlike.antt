@@ -1,6 +1,7 @@
 -- Facts of a node and of a port's rounds at alike pasts: word, ticket and clock are the same; ticks are later.
 use Rattle.std.proofs.lemmas.Int.{ints}
-use Rattle.std.proofs.Common.{if◌then◌else◌, Some, ap, ap₂, arith, sym, true≢false, ◌∙◌, ◌≡◌, ℕ, ◌+◌, ◌-◌, ◌/◌, ◌%◌, ℤ, pos, ◌+ℤ◌, ◌-ℤ◌, true, List, refl, ◌∷◌, [], ◌==◌, int_lt, Bool, false, ◌&&◌, Option, None, is_some}
+use Rattle.std.proofs.Common.{if◌then◌else◌, Some, ap, ap₂, arith, sym, true≢false, ◌∙◌, ◌≡◌, ℕ, ◌+◌, ◌-◌, ◌/◌, ◌%◌, ℤ, pos, ◌+ℤ◌, ◌-ℤ◌, true, List, refl, ◌∷◌}
+use Rattle.std.proofs.Common.{[], ◌==◌, int_lt, Bool, false, ◌&&◌, Option, None, is_some}
 use Rattle.tsp_base.specs.RoundFacts.{is_measured_after, word_asked_by}
 use Rattle.tsp_base.specs.Words.{Deed, Begins, Acts, Seen, plain, word, word_after, wall, wall_after, boot_tick, corrects, ticket, moved, target, last_correct}
 use Rattle.tsp_base.specs.Words.{eased, rest, rest_at, shown, Step, Did, correct_tick, is_going, is_starting, is_measured, exchange, exchange_after}
@@ -108,7 +109,8 @@ better_placeless (Some early) late = by_case (int_lt late.trip early.trip) where
   by_case false = refl
 
 -- what the best sample says after one more, if that is of the same peer
-after_placeless : (same : Bool) (was : Option Sampled) (late : Sampled) → placeless (if same then Some (better was late) else was) ≡ (if same then Some (better (placeless was) (record late { place = [] })) else placeless was)
+after_placeless : (same : Bool) (was : Option Sampled) (late : Sampled) → placeless (if same then Some (better was late) else was) ≡
+    (if same then Some (better (placeless was) (record late { place = [] })) else placeless was)
 after_placeless true was late = better_placeless was late
 after_placeless false was late = refl
 
@@ -133,21 +135,26 @@ module _ (n : Renaming) where
 
 -- the same for one peer, where peers are told apart
 module _ (m : Naming) where
-  is_measured_deed : (p : PeerId) (d : Deed) (starts was : Bool) → is_measured_after (m.names.peer p) (renamed_deed m.names d) starts was ≡ is_measured_after p d starts was
+  is_measured_deed : (p : PeerId) (d : Deed) (starts was : Bool) → is_measured_after (m.names.peer p) (renamed_deed m.names d) starts was ≡
+      is_measured_after p d starts was
   is_measured_deed p (Acts (Arm CloseAlarm at)) starts was = refl
   is_measured_deed p (Acts (Post (Peer q) (Stamp (Request word counter)))) starts was = ap (λ b. if b && starts then true else was) (m.same q p)
   is_measured_deed p (Acts (Leave q)) starts was = ap (λ b. if b then false else was) (m.same q p)
   is_measured_deed p _ starts was = refl
 
-  exchange_deed : (p : PeerId) (c : ℕ) (d : Deed) → {z z' was was' : List Seen} → AlikePlaces m z z' → AlikePlaces m was was' → AlikePlaces m (exchange_after p c d z was) (exchange_after (m.names.peer p) c (renamed_deed m.names d) z' was')
+  exchange_deed : (p : PeerId) (c : ℕ) (d : Deed) → {z z' was was' : List Seen} → AlikePlaces m z z' → AlikePlaces m was was' →
+      AlikePlaces m (exchange_after p c d z was) (exchange_after (m.names.peer p) c (renamed_deed m.names d) z' was')
   exchange_deed p c (Acts Boot) now k = Nowhere
   exchange_deed p c (Acts (Become r)) now k = Nowhere
   exchange_deed p c (Acts (Arm CloseAlarm at)) now k = Nowhere
   exchange_deed p c (Acts (Ring CloseAlarm)) now k = Nowhere
   exchange_deed p c (Acts (Late CloseAlarm)) now k = Nowhere
   exchange_deed p c (Acts Abandon) now k = Nowhere
-  exchange_deed p c (Acts (Post (Peer q) (Stamp (Request word counter)))) now k = either_place m ((q.0 == p.0) && (counter == c)) (((m.names.peer q).0 == (m.names.peer p).0) && (counter == c)) (ap (λ b. b && (counter == c)) (m.same q p)) now k
-  exchange_deed p c (Acts (Sample q counter diff err ticket)) now k = either_place m ((q.0 == p.0) && (counter == c)) (((m.names.peer q).0 == (m.names.peer p).0) && (counter == c)) (ap (λ b. b && (counter == c)) (m.same q p)) Nowhere k
+  exchange_deed p c (Acts (Post (Peer q) (Stamp (Request word counter)))) now k =
+      either_place m ((q.0 == p.0) && (counter == c)) (((m.names.peer q).0 == (m.names.peer p).0) && (counter == c))
+      (ap (λ b. b && (counter == c)) (m.same q p)) now k
+  exchange_deed p c (Acts (Sample q counter diff err ticket)) now k = either_place m ((q.0 == p.0) && (counter == c))
+      (((m.names.peer q).0 == (m.names.peer p).0) && (counter == c)) (ap (λ b. b && (counter == c)) (m.same q p)) Nowhere k
   exchange_deed p c _ now k = k
 
 module _ {m : Naming} where
@@ -162,7 +169,8 @@ module _ {m : Naming} where
   is_measured_alike p (Other n shift s s' x d ok a) = is_measured_alike p a
 
   -- open exchanges
-  pub exchange_alike : (p : PeerId) (c : ℕ) → {seen seen' : List Seen} → Alike m seen seen' → AlikePlaces m (exchange p c seen) (exchange (m.names.peer p) c seen')
+  pub exchange_alike : (p : PeerId) (c : ℕ) → {seen seen' : List Seen} → Alike m seen seen' →
+      AlikePlaces m (exchange p c seen) (exchange (m.names.peer p) c seen')
   exchange_alike p c (Booted s s' boot x old old') = Nowhere
   exchange_alike p c (Own s s' x d ok knows a) = exchange_deed m p c d (There s s' x d a) (exchange_alike p c a)
   exchange_alike p c (Other n shift s s' x d ok a) = exchange_alike p c a
@@ -187,7 +195,8 @@ module _ {m : Naming} where
 
   best_deed : (p : PeerId) (d : Deed) (s s' : Step) (x : ℕ) → {seen seen' : List Seen} → Alike m seen seen' → (was was' : Option Sampled) →
       placeless was' ≡ placeless was →
-      placeless (best_after (m.names.peer p) (renamed_deed m.names d) (here s' (x + m.names.shift) (renamed_deed m.names d) ∷ seen') seen' was') ≡ placeless (best_after p d (here s x d ∷ seen) seen was)
+      placeless (best_after (m.names.peer p) (renamed_deed m.names d) (here s' (x + m.names.shift) (renamed_deed m.names d) ∷ seen') seen' was') ≡
+      placeless (best_after p d (here s x d ∷ seen) seen was)
   best_deed p (Acts Boot) s s' x a was was' e = refl
   best_deed p (Acts (Become r)) s s' x a was was' e = refl
   best_deed p (Acts (Arm CloseAlarm at)) s s' x a was was' e = refl
@@ -196,7 +205,8 @@ module _ {m : Naming} where
       let of : ℤ → List Seen → Sampled = sampled counter diff err ticket in
       let trip = target (plain z) x -ℤ target_there (exchange p counter z) in
       let trip' = target (plain z') (x + m.names.shift) -ℤ target_there (exchange (m.names.peer p) counter z') in
-      after_placeless ((m.names.peer q).0 == (m.names.peer p).0) was' (of trip' (here s' (x + m.names.shift) (Acts (Sample (m.names.peer q) counter diff err ticket)) ∷ z'))
+      after_placeless ((m.names.peer q).0 == (m.names.peer p).0) was' (of trip' (here s' (x + m.names.shift)
+      (Acts (Sample (m.names.peer q) counter diff err ticket)) ∷ z'))
       ∙ ap (λ same. if same then Some (better (placeless was') (of trip' [])) else placeless was') (m.same q p)
       ∙ ap₂ (λ w t. if q.0 == p.0 then Some (better w (of t [])) else w) e (trip_alike a p counter x)
       ∙ sym (after_placeless (q.0 == p.0) was (of trip (here s x (Acts (Sample q counter diff err ticket)) ∷ z)))

@@ -1,14 +1,20 @@
 -- Tests of alarms, roles, the hold and peers say the same at alike pasts.
-use Rattle.std.proofs.Common.{ap, ap₂, ◌∙◌, sym, ◌≡◌, ℕ, ◌+◌, ◌*◌, ◌==◌, nat_lt, Bool, not, ◌&&◌, ◌||◌, length, Option, None, Some, is_some, refl, true, false, ◌%◌, nat_le, ℤ, ◌+ℤ◌, List, [], ◌∷◌, map}
+use Rattle.std.proofs.Common.{ap, ap₂, ◌∙◌, sym, ◌≡◌, ℕ, ◌+◌, ◌*◌, ◌==◌, nat_lt, Bool, not, ◌&&◌, ◌||◌, length, Option, None, Some, is_some, refl, true, false}
+use Rattle.std.proofs.Common.{◌%◌, nat_le, ℤ, ◌+ℤ◌, List, [], ◌∷◌, map}
 use Rattle.std.proofs.{lemmas.List.length-map, lemmas.Bool.and_right}
 use Rattle.tsp_rules.specs.Renames.{Renaming, Naming, renamed_place, renamed_role, later_send, later_sends}
 use Rattle.tsp_rules.specs.SendRows.{answers_election, answers_other, is_quit, may_correct, may_set}
 use Rattle.tsp_rules.specs.{DateRows.answers_date, DateRows.are_settled, DateRows.is_last, GateRows.is_last_probe}
 use Rattle.tsp_rules.specs.{SlaveRows.is_by, SlaveRows.is_next, ClockRows.can_adjust, CommonRows.is_idle}
-use Rattle.tsp_rules.specs.Values.{Alarm, Probe, CloseAlarm, ResolveAlarm, PeerId, Place, Peer, Stranger, Role, Follow, Window, GAP, REUSE, DATEHOLD, LAST, TRIES, RETRY}
-use Rattle.tsp_rules.specs.Guards.{is_armed, is_due, is_follow, is_heard, is_master, is_met, is_over, is_own, is_starting_role, may_stand_at, is_clock_value, is_in_range, table_at}
-use Rattle.tsp_rules.proofs.RowCodes.{Test, Table, Due, InTime, Armed, MayStand, MayBack, MayJoin, MayCorrect, MayBeAsked, MayPassOn, MayDate, Follows, HasWon, HasMore, HasElection, HasOther, HasDate, HasQuit, IsAwake, IsGoing, IsMaster, IsSlave, IsNewRival, IsFree, IsHeard, IsOwn, IsLeft, IsSendDue, IsSpent, IsRepeated, IsDated, TakesAmount, TakesValue}
-use Rattle.tsp_base.specs.Words.{Past, deadline, armed, backers, held, is_correction, may_stand, role, plain, correct_tick, Correcting, Dating, is_past, last_asked, last_date, last_post, last_taken, open_send, Sending}
+use Rattle.tsp_rules.specs.Values.{Alarm, Probe, CloseAlarm, ResolveAlarm, PeerId, Place, Peer, Stranger, Role, Follow, Window, GAP, REUSE, DATEHOLD, LAST}
+use Rattle.tsp_rules.specs.Values.{TRIES, RETRY}
+use Rattle.tsp_rules.specs.Guards.{is_armed, is_due, is_follow, is_heard, is_master, is_met, is_over, is_own, is_starting_role, may_stand_at, is_clock_value}
+use Rattle.tsp_rules.specs.Guards.{is_in_range, table_at}
+use Rattle.tsp_rules.proofs.RowCodes.{Test, Table, Due, InTime, Armed, MayStand, MayBack, MayJoin, MayCorrect, MayBeAsked, MayPassOn, MayDate, Follows, HasWon}
+use Rattle.tsp_rules.proofs.RowCodes.{HasMore, HasElection, HasOther, HasDate, HasQuit, IsAwake, IsGoing, IsMaster, IsSlave, IsNewRival, IsFree, IsHeard, IsOwn}
+use Rattle.tsp_rules.proofs.RowCodes.{IsLeft, IsSendDue, IsSpent, IsRepeated, IsDated, TakesAmount, TakesValue}
+use Rattle.tsp_base.specs.Words.{Past, deadline, armed, backers, held, is_correction, may_stand, role, plain, correct_tick, Correcting, Dating, is_past}
+use Rattle.tsp_base.specs.Words.{last_asked, last_date, last_post, last_taken, open_send, Sending}
 use Rattle.tsp_alike.proofs.{ListsAlike.is_among_alike, ListsAlike.list_same, Alike.AlikePast}
 use Rattle.tsp_alike.proofs.RoundsAlike.{correct_tick_alike, target_alike, ticket_alike, plain_alike, is_going_alike, some_later}
 use Rattle.tsp_alike.proofs.Renamed.{later_date, renamed_correcting, met_later, over_later, le_after, lt_after, lt_until, past_later}
@@ -63,11 +69,14 @@ module _ {m : Naming} {p q : Past} (a : AlikePast m p q) where
 
   -- the own number isn't heard as another peer, whether or not it is among the peers
   pub hears_alike : (r : PeerId) (x : ℕ) →
-      (is_heard (m.names.peer r) (x + m.names.shift) q && not (is_own (Peer (m.names.peer r)) (x + m.names.shift) q)) ≡ (is_heard r x p && not (is_own (Peer r) x p))
-  hears_alike r x = ap (λ b. is_heard (m.names.peer r) (x + m.names.shift) q && not b) (is_own_alike (Peer r) x) ∙ by_case (is_own (Peer r) x p) (is_heard_alike r x) where
-    by_case : (b : Bool) → (b ≡ false → is_heard (m.names.peer r) (x + m.names.shift) q ≡ is_heard r x p) → (is_heard (m.names.peer r) (x + m.names.shift) q && not b) ≡ (is_heard r x p && not b)
-    by_case true same = and_right (is_heard (m.names.peer r) (x + m.names.shift) q) false refl ∙ sym (and_right (is_heard r x p) false refl)
-    by_case false same = ap (λ b. b && true) (same refl)
+      (is_heard (m.names.peer r) (x + m.names.shift) q && not (is_own (Peer (m.names.peer r)) (x + m.names.shift) q)) ≡
+      (is_heard r x p && not (is_own (Peer r) x p))
+  hears_alike r x = ap (λ b. is_heard (m.names.peer r) (x + m.names.shift) q && not b) (is_own_alike (Peer r) x) ∙
+      by_case (is_own (Peer r) x p) (is_heard_alike r x) where
+        by_case : (b : Bool) → (b ≡ false → is_heard (m.names.peer r) (x + m.names.shift) q ≡ is_heard r x p) →
+            (is_heard (m.names.peer r) (x + m.names.shift) q && not b) ≡ (is_heard r x p && not b)
+        by_case true same = and_right (is_heard (m.names.peer r) (x + m.names.shift) q) false refl ∙ sym (and_right (is_heard r x p) false refl)
+        by_case false same = ap (λ b. b && true) (same refl)
 
   -- whether the last probe of a round has rung
   pub is_last_probe_alike : is_last_probe q ≡ is_last_probe p
@@ -118,7 +127,8 @@ module _ {m : Naming} {p q : Past} (a : AlikePast m p q) where
   can_adjust_alike amount x = ap (λ t. is_clock_value (t +ℤ amount)) (target_alike (plain_alike a.seen) x)
 
   long_since : (x : ℕ) → is_past (correct_tick (plain q.seen)) GAP (x + m.names.shift) ≡ is_past (correct_tick (plain p.seen)) GAP x
-  long_since x = ap (λ o. is_past o GAP (x + m.names.shift)) (correct_tick_alike m.names refl (plain_alike a.seen)) ∙ past_later m.names (correct_tick (plain p.seen)) GAP x
+  long_since x = ap (λ o. is_past o GAP (x + m.names.shift)) (correct_tick_alike m.names refl (plain_alike a.seen)) ∙
+      past_later m.names (correct_tick (plain p.seen)) GAP x
 
   is_next_alike : (number x : ℕ) → is_next number (x + m.names.shift) q ≡ is_next number x p
   is_next_alike number x = ap₂ ◌&&◌ (ap (λ k. number == k) (ticket_alike (plain_alike a.seen))) (long_since x)

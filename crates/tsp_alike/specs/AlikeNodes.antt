@@ -54,9 +54,11 @@ pub record SameBoot (s s' : Step) : Type 0 where
 pub data AlikeLines (ms : Port → Naming) (shift : ℕ) : List Line → List Line → Type 0 where
   -- both begin a life, with the same word and the same wall clock
   Booted : (s s' : Step) → SameBoot s s' → (x : ℕ) → (old old' : List Line) →
-      AlikeLines ms shift (line_of s x first_port (Acts Boot) ∷ line_of s x first_port Begins ∷ old) (line_of s' (x + shift) first_port (Acts Boot) ∷ line_of s' (x + shift) first_port Begins ∷ old')
+      AlikeLines ms shift (line_of s x first_port (Acts Boot) ∷ line_of s x first_port Begins ∷ old) (line_of s' (x + shift) first_port (Acts Boot) ∷
+      line_of s' (x + shift) first_port Begins ∷ old')
   -- both do the same
-  Both : (s s' : Step) (x : ℕ) (q : Port) (deed : Deed) → is_later deed ≡ true → KnowsDeed (ms q) deed → {before before' : List Line} → AlikeLines ms shift before before' →
+  Both : (s s' : Step) (x : ℕ) (q : Port) (deed : Deed) → is_later deed ≡ true → KnowsDeed (ms q) deed → {before before' : List Line} →
+      AlikeLines ms shift before before' →
       AlikeLines ms shift (line_of s x q deed ∷ before) (line_of s' (x + shift) q (renamed_deed (ms q).names deed) ∷ before')
 
 -- the namings of a node's ports
@@ -94,14 +96,16 @@ abbrev pub AllKnown : (Port → Naming) → List Placed → Type 0
 AllKnown ms acts = All (λ (a : Placed). Knows (ms a.port) a.act) acts
 
 -- a node's acts in a step: the second node's are the first one's in the other names, they name only known peers, and leave pasts that are alike
-pub record StepsAlike (rs : Port → Renaming) (apart : (q : Port) → TellsApart (rs q)) (shift : ℕ) (x : ℕ) (p p' : NodePast) (acts acts' : List Placed) : Type 0 where
-  pub same : acts' ≡ map (renamed_placed rs) acts
-  pub known : AllKnown (namings rs apart p) acts
-  pub after : AlikeNodes rs apart shift (spread x p acts) (spread (x + shift) p' acts')
+pub record StepsAlike (rs : Port → Renaming) (apart : (q : Port) → TellsApart (rs q)) (shift : ℕ) (x : ℕ) (p p' : NodePast) (acts acts' : List Placed) : Type 0
+  where
+    pub same : acts' ≡ map (renamed_placed rs) acts
+    pub known : AllKnown (namings rs apart p) acts
+    pub after : AlikeNodes rs apart shift (spread x p acts) (spread (x + shift) p' acts')
 
 -- a node's answers to the same are the same, in the other names, and leave pasts that are alike again
 abbrev pub AnswersAreAlike : Type 0
-AnswersAreAlike = (rs : Port → Renaming) (apart : (q : Port) → TellsApart (rs q)) (shift : ℕ) (g : NodeGiven) (x : ℕ) (p p' : NodePast) → AlikeNodes rs apart shift p p' → ComesOn p g →
+AnswersAreAlike = (rs : Port → Renaming) (apart : (q : Port) → TellsApart (rs q)) (shift : ℕ) (g : NodeGiven) (x : ℕ) (p p' : NodePast) →
+    AlikeNodes rs apart shift p p' → ComesOn p g →
     StepsAlike rs apart shift x p p' (answers_all g x p) (answers_all (renamed_given rs g) (x + shift) p')
 
 -- two nodes that are set up alike
@@ -114,14 +118,17 @@ pub record AlikeConfigs (rs : Port → Renaming) (shift : ℕ) (p p' : NodePast)
   pub setups : (q : Port) → q.0 < length p.ports → AlikeSetup (rs q) (port_setup q p) (port_setup q p')
 
 -- the acts with which two nodes begin a life, whatever either did before it: a Boot, and then the same, in the other names
-pub record BootsAlike (rs : Port → Renaming) (apart : (q : Port) → TellsApart (rs q)) (shift : ℕ) (x : ℕ) (p p' : NodePast) (acts acts' : List Placed) : Type 0 where
-  pub rest : List Placed
-  pub is : acts ≡ record { port = first_port; act = Boot } ∷ rest
-  pub known : AllKnown (namings rs apart p) rest
-  pub same : acts' ≡ map (renamed_placed rs) acts
-  pub after : AlikeNodes rs apart shift (spread x p acts) (spread (x + shift) p' acts')
+pub record BootsAlike (rs : Port → Renaming) (apart : (q : Port) → TellsApart (rs q)) (shift : ℕ) (x : ℕ) (p p' : NodePast) (acts acts' : List Placed) : Type 0
+  where
+    pub rest : List Placed
+    pub is : acts ≡ record { port = first_port; act = Boot } ∷ rest
+    pub known : AllKnown (namings rs apart p) rest
+    pub same : acts' ≡ map (renamed_placed rs) acts
+    pub after : AlikeNodes rs apart shift (spread x p acts) (spread (x + shift) p' acts')
 
 -- two nodes that are set up alike, and boot with the same word and wall clock, begin alike
 abbrev pub BootsAreAlike : Type 0
-BootsAreAlike = (rs : Port → Renaming) (apart : (q : Port) → TellsApart (rs q)) (shift x : ℕ) (s s' : Step) (p p' : NodePast) → AlikeConfigs rs shift p p' → SameBoot s s' →
-    BootsAlike rs apart shift x (in_node_step s x p) (in_node_step s' (x + shift) p') (boots_all x (in_node_step s x p)) (boots_all (x + shift) (in_node_step s' (x + shift) p'))
+BootsAreAlike = (rs : Port → Renaming) (apart : (q : Port) → TellsApart (rs q)) (shift x : ℕ) (s s' : Step) (p p' : NodePast) → AlikeConfigs rs shift p p' →
+    SameBoot s s' →
+    BootsAlike rs apart shift x (in_node_step s x p) (in_node_step s' (x + shift) p') (boots_all x (in_node_step s x p))
+    (boots_all (x + shift) (in_node_step s' (x + shift) p'))

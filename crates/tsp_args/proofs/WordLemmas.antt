@@ -27,7 +27,8 @@ pub no_colon : (ip : List ℕ) → length ip ≡ 4 → All (λ x. x < 2 ^ 8) ip 
 no_colon ip e h k = grind (arith, All-contains IsDigitOrDot (ipv4_text ip) 58 (All-ipv4_text ip (octet_at ip e h)) k)
 
 -- four octets of one text are the same
-pub same_ip : (ip jp text : List ℕ) → length ip ≡ 4 → All (λ x. x < 2 ^ 8) ip → length jp ≡ 4 → All (λ x. x < 2 ^ 8) jp → text ≡ ipv4_text ip → text ≡ ipv4_text jp → ip ≡ jp
+pub same_ip : (ip jp text : List ℕ) → length ip ≡ 4 → All (λ x. x < 2 ^ 8) ip → length jp ≡ 4 → All (λ x. x < 2 ^ 8) jp → text ≡ ipv4_text ip → text ≡
+    ipv4_text jp → ip ≡ jp
 same_ip ip jp text e h f k p q =
     let one : IsDotted text ip = rw p (IsDotted-ipv4_text ip e (octet_at ip e h)) in
     let other : IsDotted text jp = rw q (IsDotted-ipv4_text jp f (octet_at jp f k)) in
@@ -40,7 +41,8 @@ addr_of_parts ip port a p q = rw (p, q) refl
 -- a word is one address's
 pub addr_text-injective : (a b : Addr) → IsAddr a → IsAddr b → addr_text a ≡ addr_text b → a ≡ b
 addr_text-injective a b h k e =
-    let cut = marks_apart 58 (ipv4_text a.ip) (ipv4_text b.ip) (decimal a.port) (decimal b.port) (no_colon a.ip h.four h.octets) (no_colon b.ip k.four k.octets) e in
+    let cut = marks_apart 58 (ipv4_text a.ip) (ipv4_text b.ip) (decimal a.port) (decimal b.port) (no_colon a.ip h.four h.octets) (no_colon b.ip k.four k.octets)
+    e in
     let ip = same_ip a.ip b.ip (ipv4_text a.ip) h.four h.octets k.four k.octets refl cut.0 in
     let port = decimal_injective a.port b.port (omega (arith, h.short)) (omega (arith, k.short)) cut.1 in
     addr_of_parts a.ip a.port b ip port
@@ -63,7 +65,8 @@ peer_words-next : (ps : List (List Addr)) (p : List Addr) → peer_words ((ps ++
 peer_words-next [] p = simp append-nil
 peer_words-next (q ∷ ps) p = rw (led_words-next (ps ++ p ∷ [])) (simp append_assoc)
 
-pub words-next : {V : Type 0} (f : V → List Addr) (vs : List V) (v : V) → peer_words (map f (vs ++ v ∷ []) ++ [] ∷ []) ≡ peer_words (map f vs ++ f v ∷ []) ++ codes "+" ∷ []
+pub words-next : {V : Type 0} (f : V → List Addr) (vs : List V) (v : V) → peer_words (map f (vs ++ v ∷ []) ++ [] ∷ []) ≡ peer_words (map f vs ++ f v ∷ []) ++
+    codes "+" ∷ []
 words-next f vs v = rw (map-append f vs (v ∷ [])) (peer_words-next (map f vs) (f v))
 
 -- peers by port, the last ones apart
@@ -133,21 +136,24 @@ led_words-injective [] (q ∷ qs) h k e = absurd (cc)
 led_words-injective (p ∷ ps) [] h k e = absurd (cc)
 led_words-injective (p ∷ ps) (q ∷ qs) h k e =
     let tail : map addr_text p ++ led_words ps ≡ map addr_text q ++ led_words qs = cc in
-    front_once ps qs (led_words-injective ps qs (back_of p (all_peers ps) h) (back_of q (all_peers qs) k)) p q (front_of p (all_peers ps) h) (front_of q (all_peers qs) k) tail
+    front_once ps qs (led_words-injective ps qs (back_of p (all_peers ps) h) (back_of q (all_peers qs) k)) p q (front_of p (all_peers ps) h)
+    (front_of q (all_peers qs) k) tail
 
 -- words are those of one list of ports
 pub peer_words-injective : (ps qs : List (List Addr)) → ArePeers ps → ArePeers qs → peer_words ps ≡ peer_words qs → ps ≡ qs
 peer_words-injective [] qs h k e = absurd (omega (arith, h.some))
 peer_words-injective (p ∷ ps) [] h k e = absurd (omega (arith, k.some))
 peer_words-injective (p ∷ ps) (q ∷ qs) h k e =
-    front_once ps qs (led_words-injective ps qs (back_of p (all_peers ps) h.addrs) (back_of q (all_peers qs) k.addrs)) p q (front_of p (all_peers ps) h.addrs) (front_of q (all_peers qs) k.addrs) e
+    front_once ps qs (led_words-injective ps qs (back_of p (all_peers ps) h.addrs) (back_of q (all_peers qs) k.addrs)) p q (front_of p (all_peers ps) h.addrs)
+    (front_of q (all_peers qs) k.addrs) e
 
 -- one more address
 pub peers-add : (ps qs : List (List Addr)) (a : Addr) → IsAddr a → all_peers qs ≡ all_peers ps ++ a ∷ [] → 1 ≤ length qs → ArePeers ps → ArePeers qs
 peers-add ps qs a h e some k = record { some = some; addrs = rw e (All-push IsAddr (all_peers ps) a k.addrs h) }
 
 -- a word among words of which each is a plus or an address
-pub word_at : {S : Type 0} (f : S → List ℕ) (ws : List S) (k : ℕ) (w : S) → k < length ws → w ≡ slice_index_or ws k w → All IsPeerWord (map f ws) → IsPeerWord (f w)
+pub word_at : {S : Type 0} (f : S → List ℕ) (ws : List S) (k : ℕ) (w : S) → k < length ws → w ≡ slice_index_or ws k w → All IsPeerWord (map f ws) →
+    IsPeerWord (f w)
 word_at f [] k w b i h = absurd (omega arith)
 word_at f (v ∷ ws) zero w b i h = let e : w ≡ v = i in rw e (All-head IsPeerWord (f v) (map f ws) h)
 word_at f (v ∷ ws) (suc k) w b i h = word_at f ws k w (omega (arith, b)) i (All-tail IsPeerWord (f v) (map f ws) h)
@@ -157,12 +163,14 @@ rest_from : {S : Type 0} (ws : List S) (k : ℕ) → slice_range ws k (length ws
 rest_from ws k = take_all (length ws - k) (drop k ws) (omega (arith, length-drop k ws))
 
 -- a word and those behind it
-pub one_word : {S : Type 0} (f : S → List ℕ) (ws : List S) (a : S) → 1 ≤ length ws → a ≡ slice_index_or ws 0 a → map f ws ≡ f a ∷ map f (slice_range ws 1 (length ws))
+pub one_word : {S : Type 0} (f : S → List ℕ) (ws : List S) (a : S) → 1 ≤ length ws → a ≡ slice_index_or ws 0 a → map f ws ≡ f a ∷
+    map f (slice_range ws 1 (length ws))
 one_word f [] a h p = absurd (omega arith)
 one_word f (w ∷ rest) a h p = let here : a ≡ w = p in rw (rest_from (w ∷ rest) 1, here) refl
 
 -- four words and those behind them
-pub four_words : {S : Type 0} (f : S → List ℕ) (ws : List S) (a b c d : S) → 4 ≤ length ws → a ≡ slice_index_or ws 0 a → b ≡ slice_index_or ws 1 b → c ≡ slice_index_or ws 2 c → d ≡ slice_index_or ws 3 d
+pub four_words : {S : Type 0} (f : S → List ℕ) (ws : List S) (a b c d : S) → 4 ≤ length ws → a ≡ slice_index_or ws 0 a → b ≡ slice_index_or ws 1 b → c ≡
+    slice_index_or ws 2 c → d ≡ slice_index_or ws 3 d
     → map f ws ≡ f a ∷ f b ∷ f c ∷ f d ∷ map f (slice_range ws 4 (length ws))
 four_words f (w ∷ x ∷ y ∷ z ∷ rest) a b c d h p q r s =
     let one : a ≡ w = p in
@@ -177,12 +185,14 @@ no_words [] h = refl
 no_words (w ∷ ws) h = absurd (omega arith)
 
 -- what follows `serve`, of equal parts
-pub serve_of_parts : (local : Addr) (name : List ℕ) (candidacy : Candidacy) (turns : ℕ) (ports : List (List Addr)) (s : ServeWords) → local ≡ s.local → name ≡ s.name → candidacy ≡ s.candidacy → turns ≡ s.turns → ports ≡ s.ports
+pub serve_of_parts : (local : Addr) (name : List ℕ) (candidacy : Candidacy) (turns : ℕ) (ports : List (List Addr)) (s : ServeWords) → local ≡ s.local → name ≡
+    s.name → candidacy ≡ s.candidacy → turns ≡ s.turns → ports ≡ s.ports
     → record { local = local; name = name; candidacy = candidacy; turns = turns; ports = ports } ≡ s
 serve_of_parts local name candidacy turns ports s l n k t p = rw (l, n, k, t, p) refl
 
 -- two words and more are a question's, where they are neither a daemon's nor a storm's
-pub asks : (Holds : Command → Type 0) (word first : List ℕ) (more : List (List ℕ)) (c : Command) → word ≢ codes "serve" → word ≢ codes "storm" → IsCommand c → word ∷ first ∷ more ≡ words_of c
+pub asks : (Holds : Command → Type 0) (word first : List ℕ) (more : List (List ℕ)) (c : Command) → word ≢ codes "serve" → word ≢ codes "storm" → IsCommand c →
+    word ∷ first ∷ more ≡ words_of c
     → ((a : Addr) (q : Query) → IsAddr a → IsQuery q → word ≡ query_word q → first ≡ addr_text a → more ≡ query_rest q → Holds (Ask a q)) → Holds c
 asks Holds word first more (Serve s) n m h e f = let w : word ≡ codes "serve" = cc in absurd (n w)
 asks Holds word first more (Ask a q) n m h e f =

@@ -29,14 +29,24 @@ once-new l h acted s a t new = λ post c other older past rest first begun acts 
     let b = send-number (node_of l) post older first begun sends in
     let o = send-number (node_of c) other rest first begun other_sends in
     let mine : TakesSend l h b.number = record { post = post; older = older; first = first; begun = begun; acts = acts; of_send = sends; at = b.at } in
-    let theirs : TakesSend c past o.number = record { post = other; older = rest; first = first; begun = begun; acts = other_acts; of_send = other_sends; at = o.at } in
+    let theirs : TakesSend c past o.number = record {
+      post = other;
+      older = rest;
+      first = first;
+      begun = begun;
+      acts = other_acts;
+      of_send = other_sends;
+      at = o.at;
+    } in
     let equal : b.number ≡ o.number =
-    one-number h (node_of post) (node_of other) post.port other.port (post ∷ older) (other ∷ rest) (Here first ∷ begun) (Here first ∷ begun) b.number o.number acts.brings.place
+    one-number h (node_of post) (node_of other) post.port other.port (post ∷ older) (other ∷ rest) (Here first ∷ begun) (Here first ∷
+    begun) b.number o.number acts.brings.place
     (Within-through (other ∷ rest) past h other_acts.brings.place (Within-tail c past h w)) b.at o.at refl in
     let same : o.number ≡ s = sym equal ∙ takes-one l h b.number s mine t in
     parted o.number s acted same (a.complete c past o.number w theirs) new
 
-other-send : (k : ℕ) (post : Line) (older : List Line) (first start : Did) (begun past : List Seen) → OfSend k post older first begun → Here first ∷ begun ≡ Here start ∷ past → OfSend k post older start past
+other-send : (k : ℕ) (post : Line) (older : List Line) (first start : Did) (begun past : List Seen) → OfSend k post older first begun → Here first ∷ begun ≡
+    Here start ∷ past → OfSend k post older start past
 other-send k post older first start begun past sends e = record { message = sends.message; deed = sends.deed; numbered = sends.numbered; is = sends.is ∙ e }
 
 -- a send that a Correct has taken is taken twice
@@ -44,11 +54,15 @@ pub once-again : (l : Line) (h : List Line) (acted : List ℕ) (s : ℕ) → Act
 once-again l h acted s a t old once =
     let x = a.sound s old in
     let seen : Here x.takes.first ∷ x.takes.begun ≡ Here t.first ∷ t.begun =
-    one-place h (node_of x.takes.post) (node_of t.post) x.takes.post.port t.post.port (x.takes.post ∷ x.takes.older) (t.post ∷ t.older) (Here x.takes.first ∷ x.takes.begun) (Here t.first ∷ t.begun) s
-    (Within-through (x.takes.post ∷ x.takes.older) x.past h x.takes.acts.brings.place (Within-tail x.correct x.past h x.place)) t.acts.brings.place x.takes.at t.at in
-    let deeds : Acts (Post (Peer (peer_of (node_of l))) (Message t.of_send.message)) ≡ Acts (Post (Peer (peer_of (node_of l))) (Message t.acts.brings.message)) = sym t.of_send.deed ∙ t.acts.brings.deed in
+    one-place h (node_of x.takes.post) (node_of t.post) x.takes.post.port t.post.port (x.takes.post ∷ x.takes.older) (t.post ∷ t.older) (Here x.takes.first ∷
+    x.takes.begun) (Here t.first ∷ t.begun) s
+    (Within-through (x.takes.post ∷ x.takes.older) x.past h x.takes.acts.brings.place (Within-tail x.correct x.past h x.place)) t.acts.brings.place x.takes.at
+    t.at in
+    let deeds : Acts (Post (Peer (peer_of (node_of l))) (Message t.of_send.message)) ≡
+    Acts (Post (Peer (peer_of (node_of l))) (Message t.acts.brings.message)) = sym t.of_send.deed ∙ t.acts.brings.deed in
     let message : t.of_send.message ≡ t.acts.brings.message = message-same deeds in
-    once t.post x.correct x.takes.post t.older x.past x.takes.older t.first t.begun t.acts (subst (λ (m : MessageValue). is_numbered m.kind ≡ true) message t.of_send.numbered) x.place x.takes.acts t.of_send
+    once t.post x.correct x.takes.post t.older x.past x.takes.older t.first t.begun t.acts (subst (λ (m : MessageValue). is_numbered m.kind ≡
+    true) message t.of_send.numbered) x.place x.takes.acts t.of_send
     (other-send (node_of x.correct) x.takes.post x.takes.older x.takes.first t.first x.takes.begun t.begun x.takes.of_send seen)
 
 -- no Correct in an empty history
@@ -96,29 +110,35 @@ acted-more l h acted s a t = record { sound = λ k i. known k (is_in k acted) re
   all c past k (inr w) u = in-more k s acted ∙ or_left (is_in k acted) ((s == k) || false) (a.complete c past k w u)
 
 -- an Acked that ends a send which is no correction
-pub confirmed-other : (l : Line) (h : List Line) (p : PeerId) (s : ℕ) → l.did.deed ≡ Acts (Acked p) → PostedAt (node_of l) l.port h (open_to p (view l.port (of (node_of l) h))) s → Corrects h s false → ConfirmedAt l h
+pub confirmed-other : (l : Line) (h : List Line) (p : PeerId) (s : ℕ) → l.did.deed ≡ Acts (Acked p) →
+    PostedAt (node_of l) l.port h (open_to p (view l.port (of (node_of l) h))) s → Corrects h s false → ConfirmedAt l h
 confirmed-other l h p s deed at other = λ q first older m e o d k.
     let peer : p ≡ q = acked-same (sym deed ∙ e) in
-    let opened_is : Here first ∷ older ≡ open_to p (view l.port (of (node_of l) h)) = sym (subst (λ (r : PeerId). open_to r (view l.port (of (node_of l) h)) ≡ Here first ∷ older) (sym peer) o) in
+    let opened_is : Here first ∷ older ≡ open_to p (view l.port (of (node_of l) h)) =
+    sym (subst (λ (r : PeerId). open_to r (view l.port (of (node_of l) h)) ≡ Here first ∷ older) (sym peer) o) in
     let same : Here first ∷ older ≡ Here at.line.did ∷ view l.port (of (node_of l) at.before) = opened_is ∙ at.is in
     let did : first ≡ at.line.did = here-same same in
-    let kind : is_correction m.kind ≡ false = other at.line at.before q m at.within (subst (λ (f : Did). f.deed ≡ Acts (Post (Peer q) (Message m))) did d) at.number in
+    let kind : is_correction m.kind ≡ false = other at.line at.before q m at.within (subst (λ (f : Did). f.deed ≡ Acts (Post (Peer q) (Message m))) did d)
+    at.number in
     absurd (true≢false (sym k ∙ kind))
 
 -- an Acked that ends a correction which a Correct has taken
-pub confirmed-yes : (l : Line) (h : List Line) (acted : List ℕ) (p : PeerId) (s : ℕ) → ActedIs h acted → l.did.deed ≡ Acts (Acked p) → PostedAt (node_of l) l.port h (open_to p (view l.port (of (node_of l) h))) s → is_in s acted ≡ true →
+pub confirmed-yes : (l : Line) (h : List Line) (acted : List ℕ) (p : PeerId) (s : ℕ) → ActedIs h acted → l.did.deed ≡ Acts (Acked p) →
+    PostedAt (node_of l) l.port h (open_to p (view l.port (of (node_of l) h))) s → is_in s acted ≡ true →
     ConfirmedAt l h
 confirmed-yes l h acted p s a deed at old = λ q first older m e o d k.
     let x = a.sound s old in
     let t = x.takes in
     let peer : p ≡ q = acked-same (sym deed ∙ e) in
-    let opened_is : open_to p (view l.port (of (node_of l) h)) ≡ Here first ∷ older = subst (λ (r : PeerId). open_to r (view l.port (of (node_of l) h)) ≡ Here first ∷ older) (sym peer) o in
+    let opened_is : open_to p (view l.port (of (node_of l) h)) ≡ Here first ∷ older = subst (λ (r : PeerId). open_to r (view l.port (of (node_of l) h)) ≡
+    Here first ∷ older) (sym peer) o in
     let seen : Here t.first ∷ t.begun ≡ Here first ∷ older =
     one-place h (node_of t.post) (node_of l) t.post.port l.port (t.post ∷ t.older) h (Here t.first ∷ t.begun) (open_to p (view l.port (of (node_of l) h))) s
     (Within-through (t.post ∷ t.older) x.past h t.acts.brings.place (Within-tail x.correct x.past h x.place)) (Within-all h) t.at at ∙ opened_is in
     let did : t.first ≡ first = here-same seen in
     let b = send-number (node_of x.correct) t.post t.older t.first t.begun t.of_send in
-    let deeds : Acts (Post (Peer (peer_of (node_of x.correct))) (Message b.message)) ≡ Acts (Post (Peer q) (Message m)) = sym b.deed ∙ (ap (λ (f : Did). f.deed) did ∙ d) in
+    let deeds : Acts (Post (Peer (peer_of (node_of x.correct))) (Message b.message)) ≡ Acts (Post (Peer q) (Message m)) = sym b.deed ∙
+    (ap (λ (f : Did). f.deed) did ∙ d) in
     let to : peer_of (node_of x.correct) ≡ q = peer-same deeds in
     let node : node_of x.correct ≡ q.0 = ap (λ (r : PeerId). r.0) to in
     let mine : Here t.first ∷ t.begun ≡ Here t.at.line.did ∷ view t.post.port (of (node_of t.post) t.at.before) = t.at.is in
@@ -133,33 +153,47 @@ confirmed-yes l h acted p s a deed at old = λ q first older m e o d k.
       older = t.older;
       acts = t.acts;
       from = sym t.at.node ∙ (ap (λ (f : Did). f.step.node) lines ∙ at.node);
-      of_send = subst (λ (n : ℕ). OfSend n t.post t.older first older) node (other-send (node_of x.correct) t.post t.older t.first first t.begun older t.of_send seen);
+      of_send = subst (λ (n : ℕ). OfSend n t.post t.older first older) node (other-send (node_of x.correct) t.post t.older t.first first t.begun older t.of_send
+          seen);
     }
 
 -- an Acked that ends a correction which no Correct has taken
-pub confirmed-not : (l : Line) (h : List Line) (acted : List ℕ) (p : PeerId) (s : ℕ) → ActedIs h acted → l.did.deed ≡ Acts (Acked p) → PostedAt (node_of l) l.port h (open_to p (view l.port (of (node_of l) h))) s → Corrects h s true → is_in s acted ≡ false →
+pub confirmed-not : (l : Line) (h : List Line) (acted : List ℕ) (p : PeerId) (s : ℕ) → ActedIs h acted → l.did.deed ≡ Acts (Acked p) →
+    PostedAt (node_of l) l.port h (open_to p (view l.port (of (node_of l) h))) s → Corrects h s true → is_in s acted ≡ false →
     ConfirmedAt l h → ⊥
 confirmed-not l h acted p s a deed at corrects new f =
     let rest : List Seen = view l.port (of (node_of l) at.before) in
     let o = opened p (view l.port (of (node_of l) h)) at.line.did rest at.is in
     let kind : is_correction o.message.kind ≡ true = corrects at.line at.before p o.message at.within o.begins.deed at.number in
     let x = f p at.line.did rest o.message deed at.is o.begins.deed kind in
-    let sends : OfSend (node_of x.correct) x.post x.older at.line.did rest = subst (λ (n : ℕ). OfSend n x.post x.older at.line.did rest) (sym x.node) x.of_send in
+    let sends : OfSend (node_of x.correct) x.post x.older at.line.did rest = subst (λ (n : ℕ). OfSend n x.post x.older at.line.did rest) (sym x.node) x.of_send
+    in
     let b = send-number (node_of x.correct) x.post x.older at.line.did rest sends in
-    let theirs : TakesSend x.correct x.past b.number = record { post = x.post; older = x.older; first = at.line.did; begun = rest; acts = x.acts; of_send = sends; at = b.at } in
+    let theirs : TakesSend x.correct x.past b.number = record {
+      post = x.post;
+      older = x.older;
+      first = at.line.did;
+      begun = rest;
+      acts = x.acts;
+      of_send = sends;
+      at = b.at;
+    } in
     let same : b.number ≡ s =
-    one-number h (node_of x.post) (node_of l) x.post.port l.port (x.post ∷ x.older) h (Here at.line.did ∷ rest) (open_to p (view l.port (of (node_of l) h))) b.number s
+    one-number h (node_of x.post) (node_of l) x.post.port l.port (x.post ∷ x.older) h (Here at.line.did ∷ rest) (open_to p (view l.port (of (node_of l) h)))
+    b.number s
     (Within-through (x.post ∷ x.older) x.past h x.acts.brings.place (Within-tail x.correct x.past h x.place)) (Within-all h) b.at at (sym at.is) in
     parted b.number s acted same (a.complete x.correct x.past b.number x.place theirs) new
 
 -- an Acked that ends a send which no Correct has taken
-pub confirmed-rest : (l : Line) (h : List Line) (acted : List ℕ) (p : PeerId) (s : ℕ) (b : Bool) → ActedIs h acted → l.did.deed ≡ Acts (Acked p) → PostedAt (node_of l) l.port h (open_to p (view l.port (of (node_of l) h))) s → Corrects h s b → is_in s acted ≡ false →
+pub confirmed-rest : (l : Line) (h : List Line) (acted : List ℕ) (p : PeerId) (s : ℕ) (b : Bool) → ActedIs h acted → l.did.deed ≡ Acts (Acked p) →
+    PostedAt (node_of l) l.port h (open_to p (view l.port (of (node_of l) h))) s → Corrects h s b → is_in s acted ≡ false →
     MatchBool (not b) (ConfirmedAt l h) (ConfirmedAt l h → ⊥)
 confirmed-rest l h acted p s true a deed at corrects new = confirmed-not l h acted p s a deed at corrects new
 confirmed-rest l h acted p s false a deed at corrects new = confirmed-other l h p s deed at corrects
 
 -- a line takes a send again, or for the first time
-pub once-decides : (l : Line) (h : List Line) (acted : List ℕ) (r : Option ℕ) → ActedIs h acted → TakesAs l h r → MatchBool (is_unknown r acted) (OnceAt is_numbered l h) (OnceAt is_numbered l h → ⊥)
+pub once-decides : (l : Line) (h : List Line) (acted : List ℕ) (r : Option ℕ) → ActedIs h acted → TakesAs l h r →
+    MatchBool (is_unknown r acted) (OnceAt is_numbered l h) (OnceAt is_numbered l h → ⊥)
 once-decides l h acted None a t = once-none l h t
 once-decides l h acted (Some s) a t = by_case (is_in s acted) refl where
   by_case : (b : Bool) → is_in s acted ≡ b → MatchBool (not b) (OnceAt is_numbered l h) (OnceAt is_numbered l h → ⊥)
@@ -170,12 +204,15 @@ pub acted-next : (l : Line) (h : List Line) (acted : List ℕ) (r : Option ℕ) 
 acted-next l h acted None a t = acted-same l h acted a t
 acted-next l h acted (Some s) a t = acted-more l h acted s a t
 
-pub takes-well : (l : Line) (h : List Line) (b : Bool) → OnceAt is_numbered l h → MatchBool b (ConfirmedAt l h) (ConfirmedAt l h → ⊥) → MatchBool b (TakesWell l h) (TakesWell l h → ⊥)
+pub takes-well : (l : Line) (h : List Line) (b : Bool) → OnceAt is_numbered l h → MatchBool b (ConfirmedAt l h) (ConfirmedAt l h → ⊥) →
+    MatchBool b (TakesWell l h) (TakesWell l h → ⊥)
 takes-well l h true once c = record { taken = once; confirmed = c }
 takes-well l h false once c = λ w. c w.confirmed
 
-pub acts-decide : (premises : Premises) (setting : Setting) (l : Line) (h : List Line) (b : Bool) → SpacedAt l h → (premises.honest ≡ true → ObeysAt setting l h) →
-    MatchBool b (AllKept premises → TakesWell l h) ((AllKept premises → TakesWell l h) → ⊥) → MatchBool b (ActsAt premises setting l h) (ActsAt premises setting l h → ⊥)
+pub acts-decide : (premises : Premises) (setting : Setting) (l : Line) (h : List Line) (b : Bool) → SpacedAt l h →
+    (premises.honest ≡ true → ObeysAt setting l h) →
+    MatchBool b (AllKept premises → TakesWell l h) ((AllKept premises → TakesWell l h) → ⊥) →
+    MatchBool b (ActsAt premises setting l h) (ActsAt premises setting l h → ⊥)
 acts-decide premises setting l h true spaced obeyed t = record { spaced = spaced; obeyed = obeyed; takes = t }
 acts-decide premises setting l h false spaced obeyed t = λ a. t a.takes
 
@@ -183,7 +220,10 @@ pub acts-all : (premises : Premises) (setting : Setting) (h : List Line) → Act
 acts-all premises setting h a = Everywhere-from (ActsAt premises setting) h (λ l s w. record {
   spaced = Everywhere-at SpacedAt l s h a.spaced w;
   obeyed = λ honest. Everywhere-at (ObeysAt setting) l s h (a.obeyed honest) w;
-  takes = λ kept. record { taken = Everywhere-at (OnceAt is_numbered) l s h (a.taken kept) w; confirmed = Everywhere-at ConfirmedAt l s h (a.confirmed kept) w };
+  takes = λ kept. record {
+    taken = Everywhere-at (OnceAt is_numbered) l s h (a.taken kept) w;
+    confirmed = Everywhere-at ConfirmedAt l s h (a.confirmed kept) w;
+  };
 })
 
 pub acts-part : (premises : Premises) (setting : Setting) (h : List Line) → Everywhere (ActsAt premises setting) h → ActsOnce premises setting h

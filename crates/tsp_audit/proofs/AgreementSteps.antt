@@ -1,5 +1,6 @@
 -- How an agreement grows by a line.
-use Rattle.std.proofs.Common.{sym, ap, subst, subst₂, ◌∙◌, arith, inl, inr, get_or, take, eqb-true, true≢false, ◌≡◌, ◌==◌, ◌<◌, ◌≤◌, ◌+◌, ℕ, ℤ, pos, Bool, true, false, MatchBool, is_some, is_none, Option, None, Some, List, [], ◌∷◌, ◌++◌, length, refl, set}
+use Rattle.std.proofs.Common.{sym, ap, subst, subst₂, ◌∙◌, arith, inl, inr, get_or, take, eqb-true, true≢false, ◌≡◌, ◌==◌, ◌<◌, ◌≤◌, ◌+◌, ℕ, ℤ, pos, Bool, true}
+use Rattle.std.proofs.Common.{false, MatchBool, is_some, is_none, Option, None, Some, List, [], ◌∷◌, ◌++◌, length, refl, set}
 use Rattle.std.proofs.{Math.ListN.get_or-append, Math.Seq.get_or-append_seam, lemmas.Bool.cases_lt}
 use Rattle.std.proofs.lemmas.List.{get_or-set_other, get_or-set_same, length-append, length-set}
 use Rattle.tsp_rules.specs.Values.{Act, Post, Message, AdjTime, PeerId, Peer, Port}
@@ -15,7 +16,8 @@ use Rattle.tsp_history.specs.Rounds.{Bests, SeenAt, TripsTell, trip_at}
 use Rattle.tsp_audit.proofs.Alike.{first-same, none-first, peer-same, rest-same}
 
 -- one blank node more
-pub blank-more : (count : ℕ) (states : List NodeState) (s : NodeState) → AreBlank count states → ((n : ℕ) → NodeIs n [] s) → AreBlank (count + 1) (states ++ s ∷ [])
+pub blank-more : (count : ℕ) (states : List NodeState) (s : NodeState) → AreBlank count states → ((n : ℕ) → NodeIs n [] s) →
+    AreBlank (count + 1) (states ++ s ∷ [])
 blank-more count states s a blank = record { many = omega (arith, length-append states (s ∷ []), a.many); blank = each } where
   each : (k : ℕ) (t : NodeState) → IsAtPlace (states ++ s ∷ []) k t → (n : ℕ) → NodeIs n [] t
   each k t at = elim (cases_lt k (length states)) [
@@ -32,7 +34,8 @@ not-equal a b e same = true≢false (sym (subst (λ (k : ℕ). (a == k) ≡ true
   eq-self k = search arith
 
 -- the line's node has changed, the others stay
-pub all-next : (h : List Line) (l : Line) (states : List NodeState) (s : NodeState) (i : ℕ) → AllAre h states → node_of l ≡ i → i < length states → NodeIs i (l ∷ h) s → AllAre (l ∷ h) (set states i s)
+pub all-next : (h : List Line) (l : Line) (states : List NodeState) (s : NodeState) (i : ℕ) → AllAre h states → node_of l ≡ i → i < length states →
+    NodeIs i (l ∷ h) s → AllAre (l ∷ h) (set states i s)
 all-next h l states s i a node lt is = λ n t at. by_node n t at (i == n) refl where
   by_node : (n : ℕ) (t : NodeState) → IsAtPlace (set states i s) n t → (b : Bool) → (i == n) ≡ b → NodeIs n (l ∷ h) t
   by_node n t at true e =
@@ -42,7 +45,11 @@ all-next h l states s i a node lt is = λ n t at. by_node n t at (i == n) refl w
   by_node n t at false e =
       let other : n ≡ i → ⊥ = not-equal i n e in
       let still : (node_of l == n) ≡ false = subst (λ (k : ℕ). (k == n) ≡ false) (sym node) e in
-      let old : IsAtPlace states n t = record { below = omega (arith, at.below, length-set states i s); is = sym (get_or-set_other states i n s t other) ∙ at.is } in
+      let old : IsAtPlace states n t = record {
+        below = omega (arith, at.below, length-set states i s);
+        is = sym (get_or-set_other states i n s t other) ∙
+            at.is;
+      } in
       node-still n l h t (still-other n l h still) (a n t old)
 
 -- a line of another node changes nothing
@@ -66,7 +73,8 @@ trips-next h l trips many tell = λ k before w. by_place k before w where
       get_or-append trips (trip_at l h ∷ []) (pos 0) (length before) lt ∙ tell k before w
 
 -- the agreement of a line more
-pub agreement-next : (count : ℕ) (h : List Line) (l : Line) (a b : AgreementTracker) → AgreementIs count h a → b.trips.items ≡ a.trips.items ++ trip_at l h ∷ [] → FirstIs (from_act (l ∷ h)) b.last → AllAre (l ∷ h) b.nodes.items → length b.nodes.items ≡ length a.nodes.items → AgreementIs count (l ∷ h) b
+pub agreement-next : (count : ℕ) (h : List Line) (l : Line) (a b : AgreementTracker) → AgreementIs count h a → b.trips.items ≡ a.trips.items ++ trip_at l h ∷
+    [] → FirstIs (from_act (l ∷ h)) b.last → AllAre (l ∷ h) b.nodes.items → length b.nodes.items ≡ length a.nodes.items → AgreementIs count (l ∷ h) b
 agreement-next count h l a b is trips last nodes many = record {
   few = is.few;
   many = many ∙ is.many;
@@ -76,7 +84,8 @@ agreement-next count h l a b is trips last nodes many = record {
   nodes_are = nodes;
 }
 
-pub agreement-blank : (count : ℕ) (a : AgreementTracker) → count ≤ 64 → AreBlank count a.nodes.items → a.trips.items ≡ [] → a.last ≡ None → AgreementIs count [] a
+pub agreement-blank : (count : ℕ) (a : AgreementTracker) → count ≤ 64 → AreBlank count a.nodes.items → a.trips.items ≡ [] → a.last ≡ None →
+    AgreementIs count [] a
 agreement-blank count a few blank trips last = record {
   few = few;
   many = blank.many;
@@ -87,7 +96,8 @@ agreement-blank count a few blank trips last = record {
 }
 
 -- an ADJTIME rests on what the last Close had
-pub rests-told : (l : Line) (seen : List Seen) (p : PeerId) (m : MessageValue) (b : Bool) → l.did.deed ≡ Acts (Post (Peer p) (Message m)) → m.kind ≡ AdjTime → acting seen ≡ true → MatchBool b (RestsOn p seen) (RestsOn p seen → ⊥) →
+pub rests-told : (l : Line) (seen : List Seen) (p : PeerId) (m : MessageValue) (b : Bool) → l.did.deed ≡ Acts (Post (Peer p) (Message m)) → m.kind ≡ AdjTime →
+    acting seen ≡ true → MatchBool b (RestsOn p seen) (RestsOn p seen → ⊥) →
     MatchBool b (RestsOnSample l seen) (RestsOnSample l seen → ⊥)
 rests-told l seen p m true deed kind act good = λ q o close older d k t closes.
     let deeds : Acts (Post (Peer p) (Message m)) ≡ Acts (Post (Peer q) (Message o)) = sym deed ∙ d in
@@ -95,7 +105,8 @@ rests-told l seen p m true deed kind act good = λ q o close older d k t closes.
     subst (λ (r : PeerId). is_some (best r older) ≡ true) who (good close older closes)
 rests-told l seen p m false deed kind act bad = λ f. bad (λ close older closes. f p m close older deed kind act closes)
 
-pub sample-told : (ns : List HistoryLine) (n : ℕ) (q : Port) (p : PeerId) (i : ℕ) (o : Option Best) (b : Bool) → SeenAt ns n q (closed (view q (of n (history_of ns)))) i → Bests (take i ns) n q (best p (view q (of n (history_of (take i ns))))) o → b ≡ is_some o →
+pub sample-told : (ns : List HistoryLine) (n : ℕ) (q : Port) (p : PeerId) (i : ℕ) (o : Option Best) (b : Bool) →
+    SeenAt ns n q (closed (view q (of n (history_of ns)))) i → Bests (take i ns) n q (best p (view q (of n (history_of (take i ns))))) o → b ≡ is_some o →
     MatchBool b (RestsOn p (view q (of n (history_of ns)))) (RestsOn p (view q (of n (history_of ns))) → ⊥)
 sample-told ns n q p i None true s none e = absurd (true≢false e)
 sample-told ns n q p i None false s none e = λ f. true≢false (sym (f (line_of s.noted).did (view q (of n (history_of (take i ns)))) s.is) ∙ ap is_some none)
@@ -106,10 +117,14 @@ sample-told ns n q p i (Some b) true s best_is e = λ close older closes.
 sample-told ns n q p i (Some b) false s best_is e = absurd (true≢false (sym e))
 
 -- the clocks after an act tell whether it keeps that clocks agree
-pub agrees-told : (header : HeaderValue) (setting : Setting) (count : ℕ) (l : Line) (h : List Line) (a : AgreementTracker) (act : Act) (b : Bool) → HasClocks header setting → Numbered count (l ∷ h) → AgreementIs count (l ∷ h) a → RestsOnSample l (view l.port (of (node_of l) h)) → l.did.deed ≡ Acts act →
-    MatchBool b (AllAgree header l.did.step.at 0 a.nodes.items) (AllAgree header l.did.step.at 0 a.nodes.items → ⊥) → MatchBool b (AgreedAt setting l h) (AgreedAt setting l h → ⊥)
-agrees-told header setting count l h a act true has numbered is rests deed good = record { rests = rests; clocks = λ d e. clocks-agree header setting count (l ∷ h) a l.did.step.at has numbered is good }
-agrees-told header setting count l h a act false has numbered is rests deed bad = λ c. bad (clocks-back header setting count (l ∷ h) a l.did.step.at has is (c.clocks act deed))
+pub agrees-told : (header : HeaderValue) (setting : Setting) (count : ℕ) (l : Line) (h : List Line) (a : AgreementTracker) (act : Act) (b : Bool) →
+    HasClocks header setting → Numbered count (l ∷ h) → AgreementIs count (l ∷ h) a → RestsOnSample l (view l.port (of (node_of l) h)) → l.did.deed ≡ Acts act →
+    MatchBool b (AllAgree header l.did.step.at 0 a.nodes.items) (AllAgree header l.did.step.at 0 a.nodes.items → ⊥) →
+    MatchBool b (AgreedAt setting l h) (AgreedAt setting l h → ⊥)
+agrees-told header setting count l h a act true has numbered is rests deed good =
+    record { rests = rests; clocks = λ d e. clocks-agree header setting count (l ∷ h) a l.did.step.at has numbered is good }
+agrees-told header setting count l h a act false has numbered is rests deed bad =
+    λ c. bad (clocks-back header setting count (l ∷ h) a l.did.step.at has is (c.clocks act deed))
 
 pub all-bounded : (h : List Line) (states : List NodeState) → AllAre h states → AllBounded states
 all-bounded h states a = λ n s at. (a n s at).bounded

@@ -37,15 +37,22 @@ by_port : (l : Line) (h : List Line) (n : ℕ) (q : Port) → (node_of l == n) �
 by_port l h n q node false s e = inl (rw s at e)
 by_port l h n q node true s e = elim (standing l.did.deed l.did.step.node (is_unbacked (view q (of n h))) (rw s at e)) [
   | inl k ↦ inl k
-  | inr k ↦ inr (record { is = k; node = eqb-true (node_of l) n node; port = port-same l.port q (or-false (l.port.0 == q.0) (is_shared l.did.deed) s (own-deed l.did.deed k)) })
+  | inr k ↦ inr (record {
+    is = k;
+    node = eqb-true (node_of l) n node;
+    port = port-same l.port q (or-false (l.port.0 == q.0) (is_shared l.did.deed) s
+        (own-deed l.did.deed k));
+  })
 ]
 
-by_node : (l : Line) (h : List Line) (n : ℕ) (q : Port) (b : Bool) → (node_of l == n) ≡ b → is_unbacked (view q (of n (l ∷ h))) ≡ true → (is_unbacked (view q (of n h)) ≡ true) ⊎ Stands l n q
+by_node : (l : Line) (h : List Line) (n : ℕ) (q : Port) (b : Bool) → (node_of l == n) ≡ b → is_unbacked (view q (of n (l ∷ h))) ≡ true →
+    (is_unbacked (view q (of n h)) ≡ true) ⊎ Stands l n q
 by_node l h n q true same e = by_port l h n q same ((l.port.0 == q.0) || is_shared l.did.deed) refl (rw same at e)
 by_node l h n q false same e = inl (rw same at e)
 
 -- an unbacked candidate was one before, or this line makes it one
-pub unbacked-more : (l : Line) (h : List Line) (n : ℕ) (q : Port) → is_unbacked (view q (of n (l ∷ h))) ≡ true → (is_unbacked (view q (of n h)) ≡ true) ⊎ Stands l n q
+pub unbacked-more : (l : Line) (h : List Line) (n : ℕ) (q : Port) → is_unbacked (view q (of n (l ∷ h))) ≡ true → (is_unbacked (view q (of n h)) ≡ true) ⊎
+    Stands l n q
 unbacked-more l h n q e = by_node l h n q (node_of l == n) refl e
 
 pub neither : (a b r : Bool) → r ≡ (a && b) → r ≡ false → a ≡ true → b ≡ true → ⊥
@@ -55,13 +62,16 @@ neither false b r e f p q = true≢false (sym p)
 
 -- a Back keeps the hold where each line before stands apart from it
 pub held-decides : (b : Bool) (l : Line) (world : List Line) (p : PeerId) → l.did.deed ≡ Acts (Back p) →
-    MatchBool b (Everywhere (λ other older. HoldsApart (node_of l) l.port l.did.tick p other) world) (Everywhere (λ other older. HoldsApart (node_of l) l.port l.did.tick p other) world → ⊥) →
+    MatchBool b (Everywhere (λ other older. HoldsApart (node_of l) l.port l.did.tick p other) world)
+    (Everywhere (λ other older. HoldsApart (node_of l) l.port l.did.tick p other) world → ⊥) →
     MatchBool b (HoldsAt l world) (HoldsAt l world → ⊥)
 held-decides true l world p deed all = λ c q other older d w n t o.
     let same : p ≡ c = back-same (sym deed ∙ d) in
-    let apart : HoldsApart (node_of l) l.port l.did.tick p other = Everywhere-at (λ other older. HoldsApart (node_of l) l.port l.did.tick p other) other older world all w in
+    let apart : HoldsApart (node_of l) l.port l.did.tick p other = Everywhere-at (λ other older. HoldsApart (node_of l) l.port l.did.tick p other) other older
+    world all w in
     subst (λ (k : PeerId). (q ≡ k) ⊎ (other.did.tick + HOLD ≤ l.did.tick)) same (apart q n t o)
-held-decides false l world p deed bad = λ f. bad (Everywhere-from (λ other older. HoldsApart (node_of l) l.port l.did.tick p other) world (λ other older w c n t o. f p c other older deed w n t o))
+held-decides false l world p deed bad = λ f. bad (Everywhere-from (λ other older. HoldsApart (node_of l) l.port l.did.tick p other) world
+    (λ other older w c n t o. f p c other older deed w n t o))
 
 pub backs-all : (h : List Line) → Everywhere HoldsAt h → Everywhere BacksAt h → Everywhere Backs h
 backs-all h p q = Everywhere-from Backs h (λ l s w. record { holds = Everywhere-at HoldsAt l s h p w; backs = Everywhere-at BacksAt l s h q w })
@@ -103,7 +113,8 @@ silent l world a deed quiet = record {
 }
 
 -- a post keeps to whom its step has backed where what its kind asks holds
-keeps-post : (l : Line) (world : List Line) (to : Place) (m : MessageValue) → l.did.deed ≡ Acts (Post to (Message m)) → (m.kind ≡ Accept → IsBacked to (backed (view l.port (of (node_of l) world)))) →
+keeps-post : (l : Line) (world : List Line) (to : Place) (m : MessageValue) → l.did.deed ≡ Acts (Post to (Message m)) →
+    (m.kind ≡ Accept → IsBacked to (backed (view l.port (of (node_of l) world)))) →
     (m.kind ≡ Election → is_unbacked (view l.port (of (node_of l) world)) ≡ false) → BacksAt l world
 keeps-post l world to m deed accepts asks = record {
   accepts = λ t n is kind. let place : to ≡ t = place-same (sym deed ∙ is) in let same : m ≡ n = message-same (sym deed ∙ is) in
@@ -113,8 +124,10 @@ keeps-post l world to m deed accepts asks = record {
 }
 
 -- whether it does, by its kind
-post-decides : (l : Line) (world : List Line) (to : Place) (m : MessageValue) (k : Kind) (b : Bool) (v : Option PeerId) (u : Bool) → l.did.deed ≡ Acts (Post to (Message m)) → m.kind ≡ k →
-    backed (view l.port (of (node_of l) world)) ≡ v → is_unbacked (view l.port (of (node_of l) world)) ≡ u → b ≡ post_backs k to v u → MatchBool b (BacksAt l world) (BacksAt l world → ⊥)
+post-decides : (l : Line) (world : List Line) (to : Place) (m : MessageValue) (k : Kind) (b : Bool) (v : Option PeerId) (u : Bool) → l.did.deed ≡
+    Acts (Post to (Message m)) → m.kind ≡ k →
+    backed (view l.port (of (node_of l) world)) ≡ v → is_unbacked (view l.port (of (node_of l) world)) ≡ u → b ≡ post_backs k to v u →
+    MatchBool b (BacksAt l world) (BacksAt l world → ⊥)
 post-decides l world (Peer p) m Accept b None u deed kind backs asks e =
     subst (λ (z : Bool). MatchBool z (BacksAt l world) (BacksAt l world → ⊥)) (sym e) (λ f. none-some (sym backs ∙ f.accepts (Peer p) m deed kind))
 post-decides l world (Peer p) m Accept b (Some q) u deed kind backs asks e =
@@ -129,13 +142,16 @@ post-decides l world Stranger m Accept b v u deed kind backs asks e =
 post-decides l world to m Election b v true deed kind backs asks e =
     subst (λ (z : Bool). MatchBool z (BacksAt l world) (BacksAt l world → ⊥)) (sym e) (λ f. true≢false (sym asks ∙ f.asks to m deed kind))
 post-decides l world to m Election b v false deed kind backs asks e =
-    subst (λ (z : Bool). MatchBool z (BacksAt l world) (BacksAt l world → ⊥)) (sym e) (keeps-post l world to m deed (λ i. absurd (true≢false (ap is_accept (sym i ∙ kind)))) (λ i. asks))
+    subst (λ (z : Bool). MatchBool z (BacksAt l world) (BacksAt l world → ⊥)) (sym e)
+    (keeps-post l world to m deed (λ i. absurd (true≢false (ap is_accept (sym i ∙ kind)))) (λ i. asks))
 post-decides l world to m _ b v u deed kind backs asks e =
-    subst (λ (z : Bool). MatchBool z (BacksAt l world) (BacksAt l world → ⊥)) (sym e) (keeps-post l world to m deed (λ i. absurd (true≢false (ap is_accept (sym i ∙ kind)))) (λ i. absurd (true≢false (ap is_election (sym i ∙ kind)))))
+    subst (λ (z : Bool). MatchBool z (BacksAt l world) (BacksAt l world → ⊥)) (sym e)
+    (keeps-post l world to m deed (λ i. absurd (true≢false (ap is_accept (sym i ∙ kind)))) (λ i. absurd (true≢false (ap is_election (sym i ∙ kind)))))
 
 -- an act keeps to whom its step has backed where it is decided so
 pub votes-decide : (b : Bool) (l : Line) (world : List Line) (a : Act) → l.did.deed ≡ Acts a →
-    b ≡ deed_backs (Acts a) (backed (view l.port (of (node_of l) world))) (is_unbacked (view l.port (of (node_of l) world))) → MatchBool b (BacksAt l world) (BacksAt l world → ⊥)
+    b ≡ deed_backs (Acts a) (backed (view l.port (of (node_of l) world))) (is_unbacked (view l.port (of (node_of l) world))) →
+    MatchBool b (BacksAt l world) (BacksAt l world → ⊥)
 votes-decide b l world (Post to (Message m)) deed e =
     post-decides l world to m m.kind b (backed (view l.port (of (node_of l) world))) (is_unbacked (view l.port (of (node_of l) world))) deed refl refl refl e
 votes-decide b l world _ deed e = subst (λ (z : Bool). MatchBool z (BacksAt l world) (BacksAt l world → ⊥)) (sym e) (silent l world _ deed refl)

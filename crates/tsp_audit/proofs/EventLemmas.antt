@@ -23,7 +23,8 @@ room-less few many n le room = record { acted = omega (arith, le, room.acted); t
 
 joined-within : (step : Step) (x : ℕ) (acts : List Placed) (h : List Line) → Within h (joined step x acts h)
 joined-within step x [] h = Within-all h
-joined-within step x (p ∷ rest) h = Within-tail (line_of step x p.port (Acts p.act)) h (joined step x rest (line_of step x p.port (Acts p.act) ∷ h)) (joined-within step x rest (line_of step x p.port (Acts p.act) ∷ h))
+joined-within step x (p ∷ rest) h = Within-tail (line_of step x p.port (Acts p.act)) h (joined step x rest (line_of step x p.port (Acts p.act) ∷ h))
+    (joined-within step x rest (line_of step x p.port (Acts p.act) ∷ h))
 
 joined-length : (step : Step) (x : ℕ) (acts : List Placed) (h : List Line) → length (joined step x acts h) ≡ length h + length acts
 joined-length step x [] h = omega arith
@@ -45,36 +46,56 @@ step-time header posts up _ soon = soon
 pub joins-within : (header : HeaderValue) (o : Option Step) (acts : List Placed) (h : List Line) → Within h (joins_acts header o acts h)
 joins-within header None acts h = Within-all h
 joins-within header (Some step) acts h =
-    Within-tail (line_of step (step_tick header step) first_port Begins) h (joined step (step_tick header step) acts (line_of step (step_tick header step) first_port Begins ∷ h)) (joined-within step (step_tick header step) acts (line_of step (step_tick header step) first_port Begins ∷ h))
+    Within-tail (line_of step (step_tick header step) first_port Begins) h (joined step (step_tick header step) acts
+    (line_of step (step_tick header step) first_port Begins ∷ h)) (joined-within step (step_tick header step) acts
+    (line_of step (step_tick header step) first_port Begins ∷ h))
 
-grown-by : (count : ℕ) (header : HeaderValue) (o : Option Step) (acts : List Placed) (h : List Line) → Timely (joins_acts header o acts h) → Numbered count (joins_acts header o acts h) → Grown count h (joins_acts header o acts h) (length h)
+grown-by : (count : ℕ) (header : HeaderValue) (o : Option Step) (acts : List Placed) (h : List Line) → Timely (joins_acts header o acts h) →
+    Numbered count (joins_acts header o acts h) → Grown count h (joins_acts header o acts h) (length h)
 grown-by count header o acts h timely numbered = record { within = joins-within header o acts h; long = refl; timely = timely; numbered = numbered }
 
 longer-by : (header : HeaderValue) (o : Option Step) (acts : List Placed) (h : List Line) → length (joins_acts header o acts h) ≤ length h + (length acts + 1)
 longer-by header None acts h = omega arith
-longer-by header (Some step) acts h = omega (arith, joined-length step (step_tick header step) acts (line_of step (step_tick header step) first_port Begins ∷ h))
+longer-by header (Some step) acts h = omega (
+  arith,
+  joined-length step (step_tick header step) acts (line_of step (step_tick header step) first_port Begins ∷
+      h),
+)
 
 -- a claimed history grows by an event at a true time of a schedule
-pub grown-claims : (header : HeaderValue) (claims : List Claim) (c : Claim) → event_at c.event ≤ 1000000000000000 → Timely (claimed header claims) → AllName (length header.nodes) (c ∷ claims) →
+pub grown-claims : (header : HeaderValue) (claims : List Claim) (c : Claim) → event_at c.event ≤ 1000000000000000 → Timely (claimed header claims) →
+    AllName (length header.nodes) (c ∷ claims) →
     Grown (length header.nodes) (claimed header claims) (claimed header (c ∷ claims)) (length (claimed header claims))
 grown-claims header claims c soon t named =
     let posts : List Claimed = posts_of header claims in
     let up : ℕ → Bool = booted (events_of claims) in
     let timely : Timely (claimed header (c ∷ claims)) =
-    grown-all (λ step. step.at ≤ 1000000000000000) (λ l before. l.did.step.at ≤ 1000000000000000) (λ step x port deed s time. time) header (step_of header posts up c.event c.acts) c.acts (claimed header claims)
+    grown-all (λ step. step.at ≤ 1000000000000000) (λ l before. l.did.step.at ≤ 1000000000000000) (λ step x port deed s time. time) header
+    (step_of header posts up c.event c.acts) c.acts (claimed header claims)
     (made (λ step. step.at ≤ 1000000000000000) (makes_step c.event c.acts) (step_at header posts up c.event) (step-time header posts up c.event soon)) t in
-    grown-by (length header.nodes) header (step_of header posts up c.event c.acts) c.acts (claimed header claims) timely (numbered-claims (length header.nodes) header (c ∷ claims) named)
+    grown-by (length header.nodes) header (step_of header posts up c.event c.acts) c.acts (claimed header claims) timely
+    (numbered-claims (length header.nodes) header (c ∷ claims) named)
 
-pub longer-claims : (header : HeaderValue) (claims : List Claim) (c : Claim) → length (claimed header (c ∷ claims)) ≤ length (claimed header claims) + (length c.acts + 1)
-longer-claims header claims c = longer-by header (step_of header (posts_of header claims) (booted (events_of claims)) c.event c.acts) c.acts (claimed header claims)
+pub longer-claims : (header : HeaderValue) (claims : List Claim) (c : Claim) → length (claimed header (c ∷ claims)) ≤ length (claimed header claims) +
+    (length c.acts + 1)
+longer-claims header claims c = longer-by header (step_of header (posts_of header claims) (booted (events_of claims)) c.event c.acts) c.acts
+    (claimed header claims)
 
 -- the failure that was found before, or that the newest event brings, is the first
 pub found-more : (premises : Premises) (header : HeaderValue) (claim : Claim) (claims : List Claim) (before found : Option Failure) (notes : Remembered) →
-    ((setting : Setting) → HasClocks header setting → IsFound premises setting header claims before) → Finds premises header (claim ∷ claims) (claimed header claims) before notes found →
+    ((setting : Setting) → HasClocks header setting → IsFound premises setting header claims before) →
+    Finds premises header (claim ∷ claims) (claimed header claims) before notes found →
     (setting : Setting) → HasClocks header setting → IsFound premises setting header (claim ∷ claims) found
 found-more premises header claim claims (Some f) found notes old same setting has =
     let o = old setting has in
-    let later : FailsFirst premises setting header (claim ∷ claims) f.part f.event = record { claim = o.claim; before = o.before; place = inr o.place; event_is = o.event_is; fails = o.fails; earlier = o.earlier } in
+    let later : FailsFirst premises setting header (claim ∷ claims) f.part f.event = record {
+      claim = o.claim;
+      before = o.before;
+      place = inr o.place;
+      event_is = o.event_is;
+      fails = o.fails;
+      earlier = o.earlier;
+    } in
     subst (λ (r : Option Failure). IsFound premises setting header (claim ∷ claims) r) (sym same) later
 found-more premises header claim claims None None notes old looks setting has = all where
   keeps : AllKeep premises setting (claimed header (claim ∷ claims))
@@ -92,13 +113,15 @@ found-more premises header claim claims None (Some f) notes old looks setting ha
   earlier = old setting has;
 }
 
-pub notes-later : (premises : Premises) (header : HeaderValue) (claim : Claim) (claims : List Claim) (before found : Option Failure) (notes : Remembered) → Finds premises header (claim ∷ claims) (claimed header claims) before notes found → found ≡ None →
+pub notes-later : (premises : Premises) (header : HeaderValue) (claim : Claim) (claims : List Claim) (before found : Option Failure) (notes : Remembered) →
+    Finds premises header (claim ∷ claims) (claimed header claims) before notes found → found ≡ None →
     RememberedStands premises header (claimed header (claim ∷ claims)) notes
 notes-later premises header claim claims (Some f) found notes same none = let bad : ⊥ = cc in absurd bad
 notes-later premises header claim claims None None notes looks none = looks.0
 notes-later premises header claim claims None (Some f) notes looks none = let bad : ⊥ = cc in absurd bad
 
-pub verdict-is : (premises : Premises) (setting : Setting) (header : HeaderValue) (claims : List Claim) (found : Option Failure) → IsFound premises setting header claims found → IsVerdict premises setting header claims (named found)
+pub verdict-is : (premises : Premises) (setting : Setting) (header : HeaderValue) (claims : List Claim) (found : Option Failure) →
+    IsFound premises setting header claims found → IsVerdict premises setting header claims (named found)
 verdict-is premises setting header claims None m = m
 verdict-is premises setting header claims (Some f) m = (f.event, m)
 
@@ -118,7 +141,8 @@ pub holds-none : (premises : Premises) (setting : Setting) (header : HeaderValue
 holds-none premises setting header older w = subst (λ (c : List Claim). AllKeep premises setting (claimed header c)) (sym w) (keeps-none premises setting)
 
 -- an audit after a call that changes nothing but where things are kept
-pub audit-with : (premises : Premises) (header : HeaderValue) (claims : List Claim) (old : Audit) (c : Claims) (n : Remembered) → AuditStands premises header claims old → ClaimsStand header claims c →
+pub audit-with : (premises : Premises) (header : HeaderValue) (claims : List Claim) (old : Audit) (c : Claims) (n : Remembered) →
+    AuditStands premises header claims old → ClaimsStand header claims c →
     (RememberedStands premises header (claimed header claims) old.notes → RememberedStands premises header (claimed header claims) n) →
     AuditStands premises header claims (record { claims = c; premises = old.premises; notes = n; failed = old.failed })
 audit-with premises header claims old c n stands claims_stand was = record {
@@ -130,8 +154,11 @@ audit-with premises header claims old c n stands claims_stand was = record {
   notes = λ none. was (stands.notes none);
 }
 
-pub audit-refused : (premises : Premises) (header : HeaderValue) (claims : List Claim) (e : Event) (lines : List Line2) (fault : AuditFault) (old : Audit) (c : Claims) (n : Remembered) → AuditStands premises header claims old → TakesIn header claims e lines (Err fault) c →
+pub audit-refused : (premises : Premises) (header : HeaderValue) (claims : List Claim) (e : Event) (lines : List Line2) (fault : AuditFault) (old : Audit)
+    (c : Claims) (n : Remembered) → AuditStands premises header claims old → TakesIn header claims e lines (Err fault) c →
     (RememberedStands premises header (claimed header claims) old.notes → RememberedStands premises header (claimed header claims) n) →
     Audits premises header claims e lines (Err fault) (record { claims = c; premises = old.premises; notes = n; failed = old.failed })
-audit-refused premises header claims e lines (History i) old c n stands refused was = (refused.0, audit-with premises header claims old c n stands refused.1 was)
-audit-refused premises header claims e lines OutOfMemory old c n stands refused was = (refused.0, audit-with premises header claims old c n stands refused.1 was)
+audit-refused premises header claims e lines (History i) old c n stands refused was =
+    (refused.0, audit-with premises header claims old c n stands refused.1 was)
+audit-refused premises header claims e lines OutOfMemory old c n stands refused was =
+    (refused.0, audit-with premises header claims old c n stands refused.1 was)

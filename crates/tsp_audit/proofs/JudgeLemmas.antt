@@ -22,7 +22,8 @@ fails premises setting h p back lead act measure none bad = record { part = p; n
   lesser Measuring lt = measure lt
   lesser Agreeing lt = absurd (none lt)
 
-pub all-keep : (premises : Premises) (setting : Setting) (h : List Line) → OneBack h → OnlyMaster h → ActsOnce premises setting h → PartHolds premises setting Measuring h → PartHolds premises setting Agreeing h → AllKeep premises setting h
+pub all-keep : (premises : Premises) (setting : Setting) (h : List Line) → OneBack h → OnlyMaster h → ActsOnce premises setting h →
+    PartHolds premises setting Measuring h → PartHolds premises setting Agreeing h → AllKeep premises setting h
 all-keep premises setting h back lead act measure agree Backing = back
 all-keep premises setting h back lead act measure agree Leading = lead
 all-keep premises setting h back lead act measure agree Acting = act

@@ -13,16 +13,19 @@ noted-within h (n ∷ xs) = Within-tail (line_of n) h (noted_after (line_of n �
 
 -- the history of the first lines is a place of the whole
 pub history-within : (ns : List HistoryLine) (i : ℕ) → Within (history_of (take i ns)) (history_of ns)
-history-within ns i = subst (λ ms. Within (history_of (take i ns)) ms) (sym (noted-append [] (take i ns) (drop i ns)) ∙ ap history_of (take-append-drop i ns)) (noted-within (history_of (take i ns)) (drop i ns))
+history-within ns i = subst (λ ms. Within (history_of (take i ns)) ms) (sym (noted-append [] (take i ns) (drop i ns)) ∙ ap history_of (take-append-drop i ns))
+    (noted-within (history_of (take i ns)) (drop i ns))
 
 -- true times of a schedule are so in the first lines
 pub timely-first : (ns : List HistoryLine) (i : ℕ) → Timely (history_of ns) → Timely (history_of (take i ns))
 timely-first ns i timely = Everywhere-within (λ l before. l.did.step.at ≤ 1000000000000000) _ (history_of ns) timely (history-within ns i)
 
 -- what holds everywhere holds at a line
-pub at-line : (P : Line → List Line → Type 0) (ns : List HistoryLine) (i : ℕ) (n : HistoryLine) → i < length ns → get_or ns i n ≡ n → Everywhere P (history_of ns) → P (line_of n) (history_of (take i ns))
+pub at-line : (P : Line → List Line → Type 0) (ns : List HistoryLine) (i : ℕ) (n : HistoryLine) → i < length ns → get_or ns i n ≡ n →
+    Everywhere P (history_of ns) → P (line_of n) (history_of (take i ns))
 at-line P ns i n lt is e = Everywhere-at P (line_of n) (history_of (take i ns)) (history_of ns) e (Within-noted ns i n lt is)
 
 -- what holds of the first lines and of the next one
-pub one-more : (P : Line → List Line → Type 0) (ns : List HistoryLine) (i : ℕ) (n : HistoryLine) → i < length ns → get_or ns i n ≡ n → P (line_of n) (history_of (take i ns)) → Everywhere P (history_of (take i ns)) → Everywhere P (history_of (take (i + 1) ns))
+pub one-more : (P : Line → List Line → Type 0) (ns : List HistoryLine) (i : ℕ) (n : HistoryLine) → i < length ns → get_or ns i n ≡ n →
+    P (line_of n) (history_of (take i ns)) → Everywhere P (history_of (take i ns)) → Everywhere P (history_of (take (i + 1) ns))
 one-more P ns i n lt is p e = subst (λ h. Everywhere P h) (sym (history-more ns i n lt is)) (p, e)

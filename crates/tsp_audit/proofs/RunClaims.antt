@@ -1,9 +1,11 @@
 -- What is told of a run, where it is claimed, makes the run, posts what it posts, and boots whom it boots.
-use Rattle.std.proofs.Common.{ap, ◌∙◌, ◌≡◌, ℕ, zero, suc, List, [], ◌∷◌, ◌++◌, length, Option, None, Some, slice_get, refl, ◌+◌, map, sym, subst, inl, inr, eqb-true, append-nil, ◌==◌, Bool, true, false, ◌||◌, if◌then◌else◌}
+use Rattle.std.proofs.Common.{ap, ◌∙◌, ◌≡◌, ℕ, zero, suc, List, [], ◌∷◌, ◌++◌, length, Option, None, Some, slice_get, refl, ◌+◌, map, sym, subst, inl, inr}
+use Rattle.std.proofs.Common.{eqb-true, append-nil, ◌==◌, Bool, true, false, ◌||◌, if◌then◌else◌}
 use Rattle.tsp_rules.specs.Values.{Act, Post, Placed, Event, Boot, BootAt, Turn, Take, Bytes, Peer}
 use Rattle.tsp_rules.specs.GateRows.{GotOn, NodeTurn, answers_all, boots_all}
 use Rattle.tsp_base.specs.Words.{Step, HeaderValue, IsHeader, Acts, Begins, Handed, Line, Turned, dids, of, first_port, line_of, stepped, up, peer_of}
-use Rattle.tsp_claims.specs.ClaimedHistory.{claims_post, claimed_address, posts_in, post_goes, events_of, Claim, awake, claimed, joins_acts, makes_step, claims_of_step, posts_of, post_goes as claim_reaches, step_of, taker, takes_step}
+use Rattle.tsp_claims.specs.ClaimedHistory.{claims_post, claimed_address, posts_in, post_goes, events_of, Claim, awake, claimed, joins_acts, makes_step}
+use Rattle.tsp_claims.specs.ClaimedHistory.{claims_of_step, posts_of, post_goes as claim_reaches, step_of, taker, takes_step}
 use Rattle.tsp_claims.specs.{declared.claimed.Claimed.Claimed, Fitting.acts_of, Listed.booted, Listed.is_boot_of}
 use Rattle.tsp_run.specs.Run.{goes_to, posted_by, posts_from, Happening, posts_by, told_from, told_of, boot_step, happening, joins, posts, run, step_tick}
 use Rattle.tsp_run.proofs.Happens.{Arrives, acts_by, boot_acts, got_acts, stepping, steps-are, takes-or, taking, taking_row, taking_step}
@@ -45,7 +47,8 @@ one-post event step p _ e = tt
 -- the posts that acts of a step claim are those that they post
 pub posts_of_acts : (event : ℕ) (step : Step) (acts : List Placed) → ArePosts (posts_in event step acts) (posts_from step.at step.node acts)
 posts_of_acts event step [] = tt
-posts_of_acts event step (p ∷ rest) = ArePosts-append (claims_post event step p p.act) (posts_in event step rest) (posted_by step.at step.node p.port p.act) (posts_from step.at step.node rest) (one-post event step p p.act refl) (posts_of_acts event step rest)
+posts_of_acts event step (p ∷ rest) = ArePosts-append (claims_post event step p p.act) (posts_in event step rest) (posted_by step.at step.node p.port p.act)
+    (posts_from step.at step.node rest) (one-post event step p p.act refl) (posts_of_acts event step rest)
 
 -- both or neither is there, and then the claimed post is the other
 abbrev pub SamePost : Option Claimed → Option Posted → Type 0
@@ -103,15 +106,18 @@ pub record AreOf (header : HeaderValue) (claims : List Claim) (history : List Li
   pub up_is : (n : ℕ) → booted (events_of claims) n ≡ up (dids (of n history))
 
 -- the history grows alike
-joins-alike : (header : HeaderValue) (o : Option Happening) (s : Option Step) (before history : List Line) → IsStep header o s → before ≡ history → joins_acts header s (happened o) before ≡ joins o history
+joins-alike : (header : HeaderValue) (o : Option Happening) (s : Option Step) (before history : List Line) → IsStep header o s → before ≡ history →
+    joins_acts header s (happened o) before ≡ joins o history
 joins-alike header None None before history is e = e
 joins-alike header (Some h) (Some s) before history is e =
     ap (λ x. stepped s x h.acts before) (sym is.1) ∙ ap (λ t. stepped t h.tick h.acts before) (sym is.0) ∙ ap (λ l. stepped h.step h.tick h.acts l) e
 joins-alike header _ _ before history is e = absurd is
 
 -- and so do the posts
-posts-alike : (header : HeaderValue) (event : ℕ) (o : Option Happening) (s : Option Step) (cs : List Claimed) (history : List Line) → IsStep header o s → ArePosts cs (posts history) → ArePosts (cs ++ claims_of_step event s (happened o)) (posts (joins o history))
-posts-alike header event None None cs history is a = subst (λ ps. ArePosts (cs ++ []) ps) (append-nil (posts history)) (ArePosts-append cs [] (posts history) [] a tt)
+posts-alike : (header : HeaderValue) (event : ℕ) (o : Option Happening) (s : Option Step) (cs : List Claimed) (history : List Line) → IsStep header o s →
+    ArePosts cs (posts history) → ArePosts (cs ++ claims_of_step event s (happened o)) (posts (joins o history))
+posts-alike header event None None cs history is a = subst (λ ps. ArePosts (cs ++ []) ps) (append-nil (posts history))
+    (ArePosts-append cs [] (posts history) [] a tt)
 posts-alike header event (Some h) (Some s) cs history is a =
     subst (λ ps. ArePosts (cs ++ claims_of_step event (Some s) h.acts) ps) (sym (posts_stepped h.step h.tick h.acts history))
     (subst (λ t. ArePosts (cs ++ claims_of_step event (Some s) h.acts) (posts history ++ posts_from t.at t.node h.acts)) (sym is.0)
@@ -119,7 +125,8 @@ posts-alike header event (Some h) (Some s) cs history is a =
 posts-alike header event _ _ cs history is a = absurd is
 
 -- a step of a node that is up leaves each node as it is
-up-stays : (step : Step) (x : ℕ) (acts : List Placed) (h : List Line) (n : ℕ) → up (dids (of step.node h)) ≡ true → up (dids (of n (stepped step x acts h))) ≡ up (dids (of n h))
+up-stays : (step : Step) (x : ℕ) (acts : List Placed) (h : List Line) (n : ℕ) → up (dids (of step.node h)) ≡ true → up (dids (of n (stepped step x acts h))) ≡
+    up (dids (of n h))
 up-stays step x acts h n is = by_case (step.node == n) refl where
   by_case : (b : Bool) → (step.node == n) ≡ b → up (dids (of n (stepped step x acts h))) ≡ up (dids (of n h))
   by_case true e =
@@ -128,9 +135,11 @@ up-stays step x acts h n is = by_case (step.node == n) refl where
   by_case false e = ap (λ l. up (dids l)) (stepped_other n step x acts h e)
 
 -- a step that begins with a Boot wakes its node
-up-boots : (step : Step) (x : ℕ) (rest : List Placed) (h : List Line) (n : ℕ) → up (dids (of n (stepped step x (record { port = first_port; act = Boot } ∷ rest) h))) ≡ ((step.node == n) || up (dids (of n h)))
+up-boots : (step : Step) (x : ℕ) (rest : List Placed) (h : List Line) (n : ℕ) → up
+    (dids (of n (stepped step x (record { port = first_port; act = Boot } ∷ rest) h))) ≡ ((step.node == n) || up (dids (of n h)))
 up-boots step x rest h n = by_case (step.node == n) refl where
-  by_case : (b : Bool) → (step.node == n) ≡ b → up (dids (of n (stepped step x (record { port = first_port; act = Boot } ∷ rest) h))) ≡ (b || up (dids (of n h)))
+  by_case : (b : Bool) → (step.node == n) ≡ b → up (dids (of n (stepped step x (record { port = first_port; act = Boot } ∷ rest) h))) ≡
+      (b || up (dids (of n h)))
   by_case true e =
       ap (λ l. up (dids l)) (stepped_own n step x (record { port = first_port; act = Boot } ∷ rest) h e)
       ∙ up_joined step x rest (line_of step x first_port (Acts Boot) ∷ line_of step x first_port Begins ∷ of n h) refl
@@ -149,13 +158,16 @@ module _ {header : HeaderValue} (is : IsHeader header) (before : List Event) (cl
   Wakes e o = (n : ℕ) → (is_boot_of e n || booted (events_of claims) n) ≡ up (dids (of n (joins o (run header before))))
 
   -- the addressee of a datagram that is taken is up
-  taker-up : (at k : ℕ) → refusal (scene header before) (Take at k) ≡ None → (a : Arrives header (run header before) at k) → up (dids (of a.to.node (run header before))) ≡ true
+  taker-up : (at k : ℕ) → refusal (scene header before) (Take at k) ≡ None → (a : Arrives header (run header before) at k) →
+      up (dids (of a.to.node (run header before))) ≡ true
   taker-up at k none a =
-      let goes : node_in (goes_to (networks header) (slice_get (posts (run header before)) k)) ≡ Some a.to.node = ap (λ o. node_in (goes_to (networks header) o)) a.there ∙ ap (λ o. node_in o) a.goes in
+      let goes : node_in (goes_to (networks header) (slice_get (posts (run header before)) k)) ≡ Some a.to.node =
+      ap (λ o. node_in (goes_to (networks header) o)) a.there ∙ ap (λ o. node_in o) a.goes in
       up-down (scene header before) a.to.node (ap (λ o. down (scene header before).up o) (sym goes) ∙ (allowed (scene header before) (Take at k) none).up)
 
   -- the step in which somebody takes a datagram
-  pub takes-at : (at k : ℕ) → refusal (scene header before) (Take at k) ≡ None → (a : Arrives header (run header before) at k) → taker header (posts_of header claims) (booted (events_of claims)) k ≡ Some a.to
+  pub takes-at : (at k : ℕ) → refusal (scene header before) (Take at k) ≡ None → (a : Arrives header (run header before) at k) →
+      taker header (posts_of header claims) (booted (events_of claims)) k ≡ Some a.to
   takes-at at k none a =
       let cs = posts_of header claims in
       let ups = booted (events_of claims) in
@@ -164,7 +176,8 @@ module _ {header : HeaderValue} (is : IsHeader header) (before : List Event) (cl
       ∙ ap (λ o. goes_to (networks header) o) a.there ∙ a.goes in
       ap (λ o. awake ups o) reach ∙ ap (λ b. if b then Some a.to else None) (known.up_is a.to.node ∙ taker-up at k none a)
 
-  takes-step : (at k : ℕ) → refusal (scene header before) (Take at k) ≡ None → (a : Arrives header (run header before) at k) → Steps (Take at k) (Some (stepping header (run header before) (taking_row a.post a.to) (taking_step at k a.to)))
+  takes-step : (at k : ℕ) → refusal (scene header before) (Take at k) ≡ None → (a : Arrives header (run header before) at k) →
+      Steps (Take at k) (Some (stepping header (run header before) (taking_row a.post a.to) (taking_step at k a.to)))
   takes-step at k none a =
       let cs = posts_of header claims in
       let ups = booted (events_of claims) in
@@ -176,9 +189,18 @@ module _ {header : HeaderValue} (is : IsHeader header) (before : List Event) (cl
       subst (λ o. IsStep header (Some (stepping header (run header before) (taking_row a.post a.to) (taking_step at k a.to))) o) (sym step_is) (refl, refl)
 
   steps-of : (e : Event) → refusal (scene header before) e ≡ None → Steps e (happening header (run header before) e)
-  steps-of (BootAt at node word) none = subst (λ h. Steps (BootAt at node word) (Some h)) (sym (steps-are header (run header before) boots_all (boot_step header at node word))) (refl, refl)
-  steps-of (Turn at node) none = subst (λ h. Steps (Turn at node) (Some h)) (sym (steps-are header (run header before) (answers_all NodeTurn) (record { at = at; node = node; cause = Turned }))) (refl, refl)
-  steps-of (Bytes at node port from octets) none = subst (λ h. Steps (Bytes at node port from octets) (Some h)) (sym (steps-are header (run header before) (answers_all (GotOn port from (taken_of octets))) (record { at = at; node = node; cause = Handed }))) (refl, refl)
+  steps-of (BootAt at node word) none = subst (λ h. Steps (BootAt at node word) (Some h))
+      (sym (steps-are header (run header before) boots_all (boot_step header at node word))) (refl, refl)
+  steps-of (Turn at node) none = subst (λ h. Steps (Turn at node) (Some h)) (sym (steps-are header (run header before) (answers_all NodeTurn) (record {
+    at = at;
+    node = node;
+    cause = Turned;
+  }))) (refl, refl)
+  steps-of (Bytes at node port from octets) none = subst (λ h. Steps (Bytes at node port from octets) (Some h))
+      (sym (steps-are header (run header before) (answers_all (GotOn port from (taken_of octets))) (record { at = at; node = node; cause = Handed }))) (
+        refl,
+        refl,
+      )
   steps-of (Take at k) none = elim (takes-or header (run header before) at k) [
     | inl a ↦ subst (λ o. Steps (Take at k) o) (sym (taking header (run header before) at k a)) (takes-step at k none a)
     | inr nothing ↦ subst (λ o. Steps (Take at k) o) (sym nothing.1) tt
@@ -186,7 +208,8 @@ module _ {header : HeaderValue} (is : IsHeader header) (before : List Event) (cl
 
   -- an event but a boot leaves who is up
   wakes-none : (e : Event) (h : Happening) → ((n : ℕ) → is_boot_of e n ≡ false) → up (dids (of h.step.node (run header before))) ≡ true → Wakes e (Some h)
-  wakes-none e h none is_up n = ap (λ b. b || booted (events_of claims) n) (none n) ∙ known.up_is n ∙ sym (up-stays h.step h.tick h.acts (run header before) n is_up)
+  wakes-none e h none is_up n = ap (λ b. b || booted (events_of claims) n) (none n) ∙ known.up_is n ∙
+      sym (up-stays h.step h.tick h.acts (run header before) n is_up)
 
   wakes-of : (e : Event) → refusal (scene header before) e ≡ None → Wakes e (happening header (run header before) e)
   wakes-of (BootAt at node word) none = λ n.
@@ -197,24 +220,39 @@ module _ {header : HeaderValue} (is : IsHeader header) (before : List Event) (cl
       ∙ ap (λ acts. up (dids (of n (stepped step (step_tick header step) acts (run header before))))) b.is
       ∙ up-boots step (step_tick header step) b.rest (run header before) n)
   wakes-of (Turn at node) none =
-      subst (λ h. Wakes (Turn at node) (Some h)) (sym (steps-are header (run header before) (answers_all NodeTurn) (record { at = at; node = node; cause = Turned })))
-      (wakes-none (Turn at node) (stepping header (run header before) (answers_all NodeTurn) (record { at = at; node = node; cause = Turned })) (λ n. refl) (up-down (scene header before) node (allowed (scene header before) (Turn at node) none).up))
+      subst (λ h. Wakes (Turn at node) (Some h)) (sym (steps-are header (run header before) (answers_all NodeTurn) (record {
+        at = at;
+        node = node;
+        cause = Turned;
+      })))
+      (wakes-none (Turn at node) (stepping header (run header before) (answers_all NodeTurn) (record { at = at; node = node; cause = Turned })) (λ n. refl)
+      (up-down (scene header before) node (allowed (scene header before) (Turn at node) none).up))
   wakes-of (Bytes at node port from octets) none =
-      subst (λ h. Wakes (Bytes at node port from octets) (Some h)) (sym (steps-are header (run header before) (answers_all (GotOn port from (taken_of octets))) (record { at = at; node = node; cause = Handed })))
-      (wakes-none (Bytes at node port from octets) (stepping header (run header before) (answers_all (GotOn port from (taken_of octets))) (record { at = at; node = node; cause = Handed })) (λ n. refl) (up-down (scene header before) node (allowed (scene header before) (Bytes at node port from octets) none).up))
+      subst (λ h. Wakes (Bytes at node port from octets) (Some h)) (sym (steps-are header (run header before) (answers_all (GotOn port from (taken_of octets)))
+      (record { at = at; node = node; cause = Handed })))
+      (wakes-none (Bytes at node port from octets) (stepping header (run header before) (answers_all (GotOn port from (taken_of octets))) (record {
+        at = at;
+        node = node;
+        cause = Handed;
+      })) (λ n. refl) (up-down (scene header before) node (allowed (scene header before) (Bytes at node port from octets)
+      none).up))
   wakes-of (Take at k) none = elim (takes-or header (run header before) at k) [
-    | inl a ↦ subst (λ o. Wakes (Take at k) o) (sym (taking header (run header before) at k a)) (wakes-none (Take at k) (stepping header (run header before) (taking_row a.post a.to) (taking_step at k a.to)) (λ n. refl) (taker-up at k none a))
+    | inl a ↦ subst (λ o. Wakes (Take at k) o) (sym (taking header (run header before) at k a))
+        (wakes-none (Take at k) (stepping header (run header before) (taking_row a.post a.to) (taking_step at k a.to)) (λ n. refl) (taker-up at k none a))
     | inr nothing ↦ subst (λ o. Wakes (Take at k) o) (sym nothing.1) (λ n. known.up_is n)
   ]
 
   -- one event more
-  of-event : (e : Event) (acts : List Placed) → refusal (scene header before) e ≡ None → acts ≡ happened (happening header (run header before) e) → AreOf header (record { event = e; acts = acts } ∷ claims) (run header (e ∷ before))
+  of-event : (e : Event) (acts : List Placed) → refusal (scene header before) e ≡ None → acts ≡ happened (happening header (run header before) e) →
+      AreOf header (record { event = e; acts = acts } ∷ claims) (run header (e ∷ before))
   of-event e acts none acts_are =
       let o = happening header (run header before) e in
       let s = steps-of e none in
       subst (λ l. AreOf header (record { event = e; acts = l } ∷ claims) (run header (e ∷ before))) (sym acts_are) (record {
-        history_is = joins-alike header o (step_of header (posts_of header claims) (booted (events_of claims)) e (happened o)) (claimed header claims) (run header before) s known.history_is;
-        posts_are = posts-alike header (length claims + 1) o (step_of header (posts_of header claims) (booted (events_of claims)) e (happened o)) (posts_of header claims) (run header before) s known.posts_are;
+        history_is = joins-alike header o (step_of header (posts_of header claims) (booted (events_of claims)) e (happened o)) (claimed header claims)
+            (run header before) s known.history_is;
+        posts_are = posts-alike header (length claims + 1) o (step_of header (posts_of header claims) (booted (events_of claims)) e (happened o))
+            (posts_of header claims) (run header before) s known.posts_are;
         up_is = wakes-of e none;
       })
 
@@ -222,5 +260,6 @@ module _ {header : HeaderValue} (is : IsHeader header) (before : List Event) (cl
 pub told_are : (header : HeaderValue) (events : List Event) → Accepted header events → AreOf header (claims_of header events) (run header events)
 told_are header [] a = record { history_is = refl; posts_are = tt; up_is = λ n. refl }
 told_are header (e ∷ before) a =
-    of-event a.header_is before (claims_of header before) (told_are header before (accepted_before header e before a)) e (acts_of (last_lines header (e ∷ before))) a.valid.0
+    of-event a.header_is before (claims_of header before) (told_are header before (accepted_before header e before a)) e
+    (acts_of (last_lines header (e ∷ before))) a.valid.0
     (acts-told_of (length before + 1) (length (posts (run header before))) (happening header (run header before) e))

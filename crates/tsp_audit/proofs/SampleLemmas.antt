@@ -20,7 +20,8 @@ history-length ns i le = omega (arith, length-noted [] (take i ns), length-take 
 pub trips-before : (ns : List HistoryLine) (trips : List ℤ) (i : ℕ) → TripsTell (history_of ns) trips → TripsTell (history_of (take i ns)) trips
 trips-before ns trips i tell = λ l before w. tell l before (Within-through (l ∷ before) (history_of (take i ns)) (history_of ns) w (history-within ns i))
 
-pub reading-found : (ns : List HistoryLine) (l : Line) (k i : ℕ) (noted : HistoryLine) → l.did.step.cause ≡ Came k → PostsAt ns k i → get_or ns i noted ≡ noted → TakesThen (history_of ns) l (get_or ns i noted).at
+pub reading-found : (ns : List HistoryLine) (l : Line) (k i : ℕ) (noted : HistoryLine) → l.did.step.cause ≡ Came k → PostsAt ns k i → get_or ns i noted ≡
+    noted → TakesThen (history_of ns) l (get_or ns i noted).at
 reading-found ns l k i noted cause p is =
     let same : p.noted ≡ get_or ns i noted = same-noted ns i p.noted noted p.below p.noted_is is ∙ sym is in
     record {
@@ -35,12 +36,15 @@ reading-found ns l k i noted cause p is =
     }
 
 -- the Close of a round stands where its index says
-close-there : (ns : List HistoryLine) (n : ℕ) (q : Port) (k i : ℕ) (world : List Line) (close : Line) (cpast : List Line) (r : Line) (older : List Line) (e : ℤ) → Within (history_of ns) world → (s : SeenAt ns n q (closed (view q (of n (history_of ns)))) i) →
+close-there : (ns : List HistoryLine) (n : ℕ) (q : Port) (k i : ℕ) (world : List Line) (close : Line) (cpast : List Line) (r : Line) (older : List Line) (e : ℤ)
+    → Within (history_of ns) world → (s : SeenAt ns n q (closed (view q (of n (history_of ns)))) i) →
     Rounds n q k (view q (of n (history_of ns))) world close cpast r older e → close ∷ cpast ≡ line_of s.noted ∷ history_of (take i ns)
 close-there ns n q k i world close cpast r older e w s x =
-    lines-one n q world close (line_of s.noted) cpast (history_of (take i ns)) x.close_node s.node x.close_port s.port x.closes (Within-through (line_of s.noted ∷ history_of (take i ns)) (history_of ns) world s.at.within w) (sym x.close_is ∙ s.is)
+    lines-one n q world close (line_of s.noted) cpast (history_of (take i ns)) x.close_node s.node x.close_port s.port x.closes
+    (Within-through (line_of s.noted ∷ history_of (take i ns)) (history_of ns) world s.at.within w) (sym x.close_is ∙ s.is)
 
-pub sample-none : (ns : List HistoryLine) (n : ℕ) (q : Port) (k i : ℕ) → SeenAt ns n q (closed (view q (of n (history_of ns)))) i → best (peer_of k) (view q (of n (history_of (take i ns)))) ≡ None → HasNoRound n q k (history_of ns)
+pub sample-none : (ns : List HistoryLine) (n : ℕ) (q : Port) (k i : ℕ) → SeenAt ns n q (closed (view q (of n (history_of ns)))) i →
+    best (peer_of k) (view q (of n (history_of (take i ns)))) ≡ None → HasNoRound n q k (history_of ns)
 sample-none ns n q k i s none = λ world close cpast r older e w x.
     let there : close ∷ cpast ≡ line_of s.noted ∷ history_of (take i ns) = close-there ns n q k i world close cpast r older e w s x in
     let past : cpast ≡ history_of (take i ns) = rest-same there in
@@ -48,7 +52,8 @@ sample-none ns n q k i s none = λ world close cpast r older e w x.
     let bad : ⊥ = cc in
     bad
 
-pub reading-none : (ns : List HistoryLine) (n : ℕ) (q : Port) (k i : ℕ) (b : Best) (noted : HistoryLine) → SeenAt ns n q (closed (view q (of n (history_of ns)))) i → BestAt (take i ns) n q (best (peer_of k) (view q (of n (history_of (take i ns))))) b →
+pub reading-none : (ns : List HistoryLine) (n : ℕ) (q : Port) (k i : ℕ) (b : Best) (noted : HistoryLine) →
+    SeenAt ns n q (closed (view q (of n (history_of ns)))) i → BestAt (take i ns) n q (best (peer_of k) (view q (of n (history_of (take i ns))))) b →
     get_or (take i ns) b.index noted ≡ noted → TakesNone (history_of (take b.index (take i ns))) (line_of noted) → HasNoRound n q k (history_of ns)
 reading-none ns n q k i b noted s best_is is none = λ world close cpast r older e w x.
     let there : close ∷ cpast ≡ line_of s.noted ∷ history_of (take i ns) = close-there ns n q k i world close cpast r older e w s x in
@@ -57,20 +62,31 @@ reading-none ns n q k i b noted s best_is is none = λ world close cpast r older
     let sample : x.sample ≡ best_is.sampled = some-same both in
     let p = best_is.place in
     let here : Within (line_of p.noted ∷ history_of (take b.index (take i ns))) world =
-    Within-through (line_of p.noted ∷ history_of (take b.index (take i ns))) (history_of (take i ns)) world p.at.within (Within-through (history_of (take i ns)) (history_of ns) world (history-within ns i) w) in
+    Within-through (line_of p.noted ∷ history_of (take b.index (take i ns))) (history_of (take i ns)) world p.at.within
+    (Within-through (history_of (take i ns)) (history_of ns) world (history-within ns i) w) in
     let line_is : x.reading.line ∷ x.reading.before ≡ line_of p.noted ∷ history_of (take b.index (take i ns)) =
-    lines-one n q world x.reading.line (line_of p.noted) x.reading.before (history_of (take b.index (take i ns))) x.reading.node p.node x.reading.port p.port x.reading.at here (sym x.reading.is ∙ (ap (λ (y : Sampled). y.place) sample ∙ p.is)) in
+    lines-one n q world x.reading.line (line_of p.noted) x.reading.before (history_of (take b.index (take i ns))) x.reading.node p.node x.reading.port p.port
+    x.reading.at here (sym x.reading.is ∙ (ap (λ (y : Sampled). y.place) sample ∙ p.is)) in
     let line : x.reading.line ≡ line_of p.noted = first-same line_is in
     let before : x.reading.before ≡ history_of (take b.index (take i ns)) = rest-same line_is in
     let same : p.noted ≡ noted = same-noted (take i ns) b.index p.noted noted p.at.below p.at.noted_is is in
-    let cause : (line_of noted).did.step.cause ≡ Came (posted (dids older)) = ap (λ (l : Line). l.did.step.cause) (sym (line ∙ ap line_of same)) ∙ x.reading.takes in
+    let cause : (line_of noted).did.step.cause ≡ Came (posted (dids older)) = ap (λ (l : Line). l.did.step.cause) (sym (line ∙ ap line_of same)) ∙
+    x.reading.takes in
     let few : posted (dids (history_of (take b.index (take i ns)))) ≤ posted (dids older) = none (posted (dids older)) cause in
     let reads : Within (r ∷ older) (history_of (take b.index (take i ns))) = subst (λ (t : List Line). Within (r ∷ older) t) before x.reading.reads in
-    omega (arith, few, posted-mono (r ∷ older) (history_of (take b.index (take i ns))) reads, posted-post r older x.reading.to x.reading.datagram x.reading.deed)
+    omega (
+      arith,
+      few,
+      posted-mono (r ∷ older) (history_of (take b.index (take i ns))) reads,
+      posted-post r older x.reading.to x.reading.datagram x.reading.deed,
+    )
 
-pub round-found : (ns : List HistoryLine) (n : ℕ) (q : Port) (k i : ℕ) (b : Best) (noted : HistoryLine) (c : RoundCorrection) → SeenAt ns n q (closed (view q (of n (history_of ns)))) i → BestAt (take i ns) n q (best (peer_of k) (view q (of n (history_of (take i ns))))) b →
-    get_or (take i ns) b.index noted ≡ noted → TakesThen (history_of (take b.index (take i ns))) (line_of noted) c.at → c.master ≡ n → c.close ≡ i → c.err ≡ b.err →
-    c.lives ≡ lives (dids (of n (history_of (take (i + 1) ns)))) → c.corrects ≡ all_corrects (dids (of n (history_of (take (i + 1) ns)))) → RoundAs n q k (history_of ns) c
+pub round-found : (ns : List HistoryLine) (n : ℕ) (q : Port) (k i : ℕ) (b : Best) (noted : HistoryLine) (c : RoundCorrection) →
+    SeenAt ns n q (closed (view q (of n (history_of ns)))) i → BestAt (take i ns) n q (best (peer_of k) (view q (of n (history_of (take i ns))))) b →
+    get_or (take i ns) b.index noted ≡ noted → TakesThen (history_of (take b.index (take i ns))) (line_of noted) c.at → c.master ≡ n → c.close ≡ i → c.err ≡
+    b.err →
+    c.lives ≡ lives (dids (of n (history_of (take (i + 1) ns)))) → c.corrects ≡ all_corrects (dids (of n (history_of (take (i + 1) ns)))) →
+    RoundAs n q k (history_of ns) c
 round-found ns n q k i b noted c s best_is is t master_is close_is err_is lives_is corrects_is =
     let p = best_is.place in
     let same : noted ≡ p.noted = same-noted (take i ns) b.index noted p.noted p.at.below is p.at.noted_is in
@@ -91,7 +107,8 @@ round-found ns n q k i b noted c s best_is is t master_is close_is err_is lives_
         reading = record {
           line = line_of p.noted;
           before = history_of (take b.index (take i ns));
-          at = Within-through (line_of p.noted ∷ history_of (take b.index (take i ns))) (history_of (take i ns)) (history_of ns) p.at.within (history-within ns i);
+          at = Within-through (line_of p.noted ∷ history_of (take b.index (take i ns))) (history_of (take i ns)) (history_of ns) p.at.within
+              (history-within ns i);
           node = p.node;
           port = p.port;
           is = p.is;
@@ -110,7 +127,9 @@ round-found ns n q k i b noted c s best_is is t master_is close_is err_is lives_
     }
 
 -- what a Correct came of, by the first post of the send that it takes
-pub from_round-told : (ns : List HistoryLine) (l : Line) (i : ℕ) (noted : HistoryLine) (o : Option RoundCorrection) → BegunAt ns l i → get_or ns i noted ≡ noted → MatchOption o (HasNoRound noted.node noted.port (node_of l) (history_of (take i ns))) (λ c. RoundAs noted.node noted.port (node_of l) (history_of (take i ns)) c) →
+pub from_round-told : (ns : List HistoryLine) (l : Line) (i : ℕ) (noted : HistoryLine) (o : Option RoundCorrection) → BegunAt ns l i → get_or ns i noted ≡
+    noted → MatchOption o (HasNoRound noted.node noted.port (node_of l) (history_of (take i ns)))
+    (λ c. RoundAs noted.node noted.port (node_of l) (history_of (take i ns)) c) →
     MatchOption o (IsFromNoRound l (history_of ns)) (λ c. FromRoundAs l (history_of ns) c)
 from_round-told ns l i noted None x is none =
     let same : noted ≡ x.noted = same-noted ns i noted x.noted x.at.below is x.at.noted_is in

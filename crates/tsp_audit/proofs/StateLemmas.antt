@@ -1,5 +1,6 @@
 -- How what is kept of a node changes with a line.
-use Rattle.std.proofs.Common.{sym, ap, subst, ◌∙◌, arith, inl, inr, ◌≡◌, ◌==◌, ◌<◌, ◌≤◌, ◌+◌, ◌^◌, ℕ, ℤ, pos, Bool, false, MatchOption, Option, None, Some, List, [], ◌∷◌, refl}
+use Rattle.std.proofs.Common.{sym, ap, subst, ◌∙◌, arith, inl, inr, ◌≡◌, ◌==◌, ◌<◌, ◌≤◌, ◌+◌, ◌^◌, ℕ, ℤ, pos, Bool, false, MatchOption, Option, None, Some}
+use Rattle.std.proofs.Common.{List, [], ◌∷◌, refl}
 use Rattle.std.proofs.lemmas.Int.{ints}
 use Rattle.tsp_rules.specs.Values.{Boot, Correct}
 use Rattle.tsp_base.specs.Words.{Acts, Deed, Did, Line, dids, from_act, of, all_corrects, all_corrects_after, lives, lives_after, moved, moved_after, Within}
@@ -25,12 +26,16 @@ corrects-dids s (d ∷ t) (inr p) = omega (arith, corrects-dids s t p, corrects-
 corrects-mono : (n : ℕ) (s t : List Line) → Within s t → all_corrects (dids (of n s)) ≤ all_corrects (dids (of n t))
 corrects-mono n s t w = corrects-dids (dids (of n s)) (dids (of n t)) (Within-dids (of n s) (of n t) (Within-of n s t w))
 
-correct-counts : (n : ℕ) (l : Line) (h : List Line) (a : ℤ) (s : Bool) (y : ℤ) → node_of l ≡ n → l.did.deed ≡ Acts (Correct a s y) → all_corrects (dids (of n (l ∷ h))) ≡ all_corrects (dids (of n h)) + 1
-correct-counts n l h a s y node deed = ap (λ (t : List Line). all_corrects (dids t)) (of-own n l h node) ∙ ap (λ (d : Deed). all_corrects_after d (all_corrects (dids (of n h)))) deed
+correct-counts : (n : ℕ) (l : Line) (h : List Line) (a : ℤ) (s : Bool) (y : ℤ) → node_of l ≡ n → l.did.deed ≡ Acts (Correct a s y) →
+    all_corrects (dids (of n (l ∷ h))) ≡ all_corrects (dids (of n h)) + 1
+correct-counts n l h a s y node deed = ap (λ (t : List Line). all_corrects (dids t)) (of-own n l h node) ∙
+    ap (λ (d : Deed). all_corrects_after d (all_corrects (dids (of n h)))) deed
 
 -- the last Correct of a node is one line
-pub last-one : (n : ℕ) (c d : Line) (past qast h : List Line) (a b : ℤ) (s t : Bool) (x y : ℤ) → node_of c ≡ n → node_of d ≡ n → c.did.deed ≡ Acts (Correct a s x) → d.did.deed ≡ Acts (Correct b t y) → Within (c ∷ past) h → Within (d ∷ qast) h →
-    all_corrects (dids (of n (c ∷ past))) ≡ all_corrects (dids (of n h)) → all_corrects (dids (of n (d ∷ qast))) ≡ all_corrects (dids (of n h)) → c ∷ past ≡ d ∷ qast
+pub last-one : (n : ℕ) (c d : Line) (past qast h : List Line) (a b : ℤ) (s t : Bool) (x y : ℤ) → node_of c ≡ n → node_of d ≡ n → c.did.deed ≡
+    Acts (Correct a s x) → d.did.deed ≡ Acts (Correct b t y) → Within (c ∷ past) h → Within (d ∷ qast) h →
+    all_corrects (dids (of n (c ∷ past))) ≡ all_corrects (dids (of n h)) → all_corrects (dids (of n (d ∷ qast))) ≡ all_corrects (dids (of n h)) → c ∷ past ≡ d ∷
+    qast
 last-one n c d past qast h a b s t x y cn dn cd dd v w ce de = elim (Within-comparable (c ∷ past) (d ∷ qast) h v w) [
   | inl (inl e) ↦ e
   | inl (inr i) ↦ absurd (omega (arith, corrects-mono n (c ∷ past) qast i, correct-counts n d qast b t y dn dd, ce, de))
@@ -46,14 +51,19 @@ pub record Still (n : ℕ) (l : Line) (h : List Line) : Type 0 where
 
 pub still-other : (n : ℕ) (l : Line) (h : List Line) → (node_of l == n) ≡ false → Still n l h
 still-other n l h e = let same : of n (l ∷ h) ≡ of n h = of-other n l h e in
-    record { moved_is = ap (λ (t : List Line). moved (dids t)) same; lives_is = ap (λ (t : List Line). lives (dids t)) same; corrects_is = ap (λ (t : List Line). all_corrects (dids t)) same }
+    record {
+      moved_is = ap (λ (t : List Line). moved (dids t)) same;
+      lives_is = ap (λ (t : List Line). lives (dids t)) same;
+      corrects_is = ap (λ (t : List Line). all_corrects (dids t)) same;
+    }
 
 moved-same : (d : Deed) → ((k : ℕ) → lives_after d k ≡ k) → ((k : ℕ) → all_corrects_after d k ≡ k) → (z : ℤ) → moved_after d z ≡ z
 moved-same (Acts Boot) f g z = let bad : ⊥ = omega (arith, f 0) in absurd bad
 moved-same (Acts (Correct a s y)) f g z = let bad : ⊥ = omega (arith, g 0) in absurd bad
 moved-same _ f g z = refl
 
-pub still-deed : (n : ℕ) (l : Line) (h : List Line) → node_of l ≡ n → ((k : ℕ) → lives_after l.did.deed k ≡ k) → ((k : ℕ) → all_corrects_after l.did.deed k ≡ k) → Still n l h
+pub still-deed : (n : ℕ) (l : Line) (h : List Line) → node_of l ≡ n → ((k : ℕ) → lives_after l.did.deed k ≡ k) →
+    ((k : ℕ) → all_corrects_after l.did.deed k ≡ k) → Still n l h
 still-deed n l h node f g =
     let own : of n (l ∷ h) ≡ l ∷ of n h = of-own n l h node in
     record {
@@ -63,35 +73,67 @@ still-deed n l h node f g =
     }
 
 -- a Correct of a node after which none of it came is no line that isn't one
-not-now : (n : ℕ) (l c : Line) (h past : List Line) (a : ℤ) (s : Bool) (y : ℤ) → node_of c ≡ n → c.did.deed ≡ Acts (Correct a s y) → c ∷ past ≡ l ∷ h → all_corrects (dids (of n (l ∷ h))) ≡ all_corrects (dids (of n h)) → ⊥
+not-now : (n : ℕ) (l c : Line) (h past : List Line) (a : ℤ) (s : Bool) (y : ℤ) → node_of c ≡ n → c.did.deed ≡ Acts (Correct a s y) → c ∷ past ≡ l ∷ h →
+    all_corrects (dids (of n (l ∷ h))) ≡ all_corrects (dids (of n h)) → ⊥
 not-now n l c h past a s y node deed e still =
     let line : c ≡ l = first-same e in
-    let counts : all_corrects (dids (of n (l ∷ h))) ≡ all_corrects (dids (of n h)) + 1 = correct-counts n l h a s y (subst (λ (k : Line). node_of k ≡ n) line node) (subst (λ (k : Line). k.did.deed ≡ Acts (Correct a s y)) line deed) in
+    let counts : all_corrects (dids (of n (l ∷ h))) ≡ all_corrects (dids (of n h)) + 1 =
+    correct-counts n l h a s y (subst (λ (k : Line). node_of k ≡ n) line node) (subst (λ (k : Line). k.did.deed ≡ Acts (Correct a s y)) line deed) in
     omega (arith, counts, still)
 
 live-still : (n : ℕ) (l : Line) (h : List Line) (o : Option RoundCorrection) → Still n l h → LiveIs n h o → LiveIs n (l ∷ h) o
 live-still n l h None st none = λ c past node u m close cpast r older e from_round. elim u.within [
   | inl same ↦ not-now n l c h past from_round.acts.amount from_round.acts.stepped from_round.acts.shown node from_round.acts.correct same st.corrects_is
-  | inr w ↦ none c past node (record { within = w; since = record { corrects = u.since.corrects ∙ st.corrects_is; lives = u.since.lives ∙ st.lives_is } }) m close cpast r older e from_round
+  | inr w ↦ none c past node (record { within = w; since = record { corrects = u.since.corrects ∙ st.corrects_is; lives = u.since.lives ∙ st.lives_is } }) m
+      close cpast r older e from_round
 ]
 live-still n l h (Some k) st a = record {
   correct = a.correct;
   past = a.past;
   is = a.is;
   node = a.node;
-  unchanged = record { within = inr a.unchanged.within; since = record { corrects = a.unchanged.since.corrects ∙ sym st.corrects_is; lives = a.unchanged.since.lives ∙ sym st.lives_is } };
+  unchanged = record {
+    within = inr a.unchanged.within;
+    since = record {
+      corrects = a.unchanged.since.corrects ∙ sym st.corrects_is;
+      lives = a.unchanged.since.lives ∙ sym st.lives_is;
+    };
+  };
 }
 
-after-still : (n : ℕ) (l : Line) (h : List Line) (o : Option ℕ) → all_corrects (dids (of n (l ∷ h))) ≡ all_corrects (dids (of n h)) → AfterIs n h o → AfterIs n (l ∷ h) o
+after-still : (n : ℕ) (l : Line) (h : List Line) (o : Option ℕ) → all_corrects (dids (of n (l ∷ h))) ≡ all_corrects (dids (of n h)) → AfterIs n h o →
+    AfterIs n (l ∷ h) o
 after-still n l h None still none = λ act apast x. elim x.place [
   | inl same ↦ not-now n l x.next h x.before x.amount x.stepped x.shown x.node x.deed same still
-  | inr w ↦ none act apast (record { next = x.next; before = x.before; is = x.is; amount = x.amount; stepped = x.stepped; shown = x.shown; place = w; node = x.node; deed = x.deed; corrects = x.corrects ∙ still })
+  | inr w ↦ none act apast (record {
+    next = x.next;
+    before = x.before;
+    is = x.is;
+    amount = x.amount;
+    stepped = x.stepped;
+    shown = x.shown;
+    place = w;
+    node = x.node;
+    deed = x.deed;
+    corrects = x.corrects ∙ still;
+  })
 ]
 after-still n l h (Some k) still a = record {
   act = a.act;
   apast = a.apast;
   index_is = a.index_is;
-  after = record { next = a.after.next; before = a.after.before; is = a.after.is; amount = a.after.amount; stepped = a.after.stepped; shown = a.after.shown; place = inr a.after.place; node = a.after.node; deed = a.after.deed; corrects = a.after.corrects ∙ sym still };
+  after = record {
+    next = a.after.next;
+    before = a.after.before;
+    is = a.after.is;
+    amount = a.after.amount;
+    stepped = a.after.stepped;
+    shown = a.after.shown;
+    place = inr a.after.place;
+    node = a.after.node;
+    deed = a.after.deed;
+    corrects = a.after.corrects ∙ sym still;
+  };
 }
 
 pub node-still : (n : ℕ) (l : Line) (h : List Line) (s : NodeState) → Still n l h → NodeIs n h s → NodeIs n (l ∷ h) s
@@ -105,11 +147,14 @@ node-still n l h s st a = record {
 }
 
 -- a Boot forgets what was corrected
-pub node-boot : (n : ℕ) (l : Line) (h : List Line) (s t : NodeState) → node_of l ≡ n → l.did.deed ≡ Acts Boot → NodeIs n h s → t.moved ≡ pos 0 → t.lives ≡ lives (dids (of n (l ∷ h))) → t.corrects ≡ s.corrects → t.after ≡ s.after → t.from_round ≡ None → NodeIs n (l ∷ h) t
+pub node-boot : (n : ℕ) (l : Line) (h : List Line) (s t : NodeState) → node_of l ≡ n → l.did.deed ≡ Acts Boot → NodeIs n h s → t.moved ≡ pos 0 → t.lives ≡
+    lives (dids (of n (l ∷ h))) → t.corrects ≡ s.corrects → t.after ≡ s.after → t.from_round ≡ None → NodeIs n (l ∷ h) t
 node-boot n l h s t node deed a moved_is lives_is corrects_is after_is correction_is =
     let own : of n (l ∷ h) ≡ l ∷ of n h = of-own n l h node in
-    let still : all_corrects (dids (of n (l ∷ h))) ≡ all_corrects (dids (of n h)) = ap (λ (k : List Line). all_corrects (dids k)) own ∙ ap (λ (d : Deed). all_corrects_after d (all_corrects (dids (of n h)))) deed in
-    let more : lives (dids (of n (l ∷ h))) ≡ lives (dids (of n h)) + 1 = ap (λ (k : List Line). lives (dids k)) own ∙ ap (λ (d : Deed). lives_after d (lives (dids (of n h)))) deed in
+    let still : all_corrects (dids (of n (l ∷ h))) ≡ all_corrects (dids (of n h)) = ap (λ (k : List Line). all_corrects (dids k)) own ∙
+    ap (λ (d : Deed). all_corrects_after d (all_corrects (dids (of n h)))) deed in
+    let more : lives (dids (of n (l ∷ h))) ≡ lives (dids (of n h)) + 1 = ap (λ (k : List Line). lives (dids k)) own ∙
+    ap (λ (d : Deed). lives_after d (lives (dids (of n h)))) deed in
     let none : LiveIs n (l ∷ h) None = λ c past same u m close cpast r older e from_round. elim u.within [
       | inl now ↦ not-now n l c h past from_round.acts.amount from_round.acts.stepped from_round.acts.shown same from_round.acts.correct now still
       | inr w ↦ omega (arith, lives-mono n (c ∷ past) h w, more, u.since.lives)
@@ -123,15 +168,26 @@ node-boot n l h s t node deed a moved_is lives_is corrects_is after_is correctio
       correction_is = subst (λ (o : Option RoundCorrection). LiveIs n (l ∷ h) o) (sym correction_is) none;
     }
 
-live-correct : (n : ℕ) (l : Line) (h : List Line) (o : Option RoundCorrection) (a : ℤ) (s : Bool) (y : ℤ) → node_of l ≡ n → l.did.deed ≡ Acts (Correct a s y) → MatchOption o (IsFromNoRound l h) (λ c. FromRoundAs l h c) → LiveIs n (l ∷ h) o
+live-correct : (n : ℕ) (l : Line) (h : List Line) (o : Option RoundCorrection) (a : ℤ) (s : Bool) (y : ℤ) → node_of l ≡ n → l.did.deed ≡ Acts (Correct a s y) →
+    MatchOption o (IsFromNoRound l h) (λ c. FromRoundAs l h c) → LiveIs n (l ∷ h) o
 live-correct n l h None a s y node deed none = λ c past same u m close cpast r older e from_round. elim u.within [
   | inl now ↦
       none m close cpast r older e (carry (λ (k : Line) (p : List Line). FromRound m close cpast k p r older e) now from_round)
   | inr w ↦ omega (arith, corrects-mono n (c ∷ past) h w, correct-counts n l h a s y node deed, u.since.corrects)
 ]
-live-correct n l h (Some k) a s y node deed is = record { correct = l; past = h; is = is; node = node; unchanged = record { within = Within-all (l ∷ h); since = record { corrects = refl; lives = refl } } }
+live-correct n l h (Some k) a s y node deed is = record {
+  correct = l;
+  past = h;
+  is = is;
+  node = node;
+  unchanged = record {
+    within = Within-all (l ∷ h);
+    since = record { corrects = refl; lives = refl };
+  };
+}
 
-after-correct : (n : ℕ) (l : Line) (h : List Line) (o : Option ℕ) (a : ℤ) (s : Bool) (y : ℤ) → node_of l ≡ n → l.did.deed ≡ Acts (Correct a s y) → FirstIs (from_act h) o → AfterIs n (l ∷ h) o
+after-correct : (n : ℕ) (l : Line) (h : List Line) (o : Option ℕ) (a : ℤ) (s : Bool) (y : ℤ) → node_of l ≡ n → l.did.deed ≡ Acts (Correct a s y) →
+    FirstIs (from_act h) o → AfterIs n (l ∷ h) o
 after-correct n l h None a s y node deed none = λ act apast x. elim x.place [
   | inl now ↦
       let rest : x.before ≡ h = rest-same now in
@@ -147,11 +203,14 @@ after-correct n l h (Some k) a s y node deed b = record {
 }
 
 -- after a Correct
-pub node-correct : (n : ℕ) (l : Line) (h : List Line) (s t : NodeState) → node_of l ≡ n → IsCorrect l.did.deed → NodeIs n h s → FirstIs (from_act h) t.after → MatchOption t.from_round (IsFromNoRound l h) (λ c. FromRoundAs l h c) →
-    t.moved ≡ moved (dids (of n (l ∷ h))) → IsSumOf 4294967295 t.moved → t.lives ≡ s.lives → t.corrects ≡ all_corrects (dids (of n (l ∷ h))) → NodeIs n (l ∷ h) t
+pub node-correct : (n : ℕ) (l : Line) (h : List Line) (s t : NodeState) → node_of l ≡ n → IsCorrect l.did.deed → NodeIs n h s → FirstIs (from_act h) t.after →
+    MatchOption t.from_round (IsFromNoRound l h) (λ c. FromRoundAs l h c) →
+    t.moved ≡ moved (dids (of n (l ∷ h))) → IsSumOf 4294967295 t.moved → t.lives ≡ s.lives → t.corrects ≡ all_corrects (dids (of n (l ∷ h))) →
+    NodeIs n (l ∷ h) t
 node-correct n l h s t node is a first from_round moved_is bounded lives_is corrects_is =
     let own : of n (l ∷ h) ≡ l ∷ of n h = of-own n l h node in
-    let still : lives (dids (of n (l ∷ h))) ≡ lives (dids (of n h)) = ap (λ (k : List Line). lives (dids k)) own ∙ ap (λ (d : Deed). lives_after d (lives (dids (of n h)))) is.is in
+    let still : lives (dids (of n (l ∷ h))) ≡ lives (dids (of n h)) = ap (λ (k : List Line). lives (dids k)) own ∙
+    ap (λ (d : Deed). lives_after d (lives (dids (of n h)))) is.is in
     record {
       moved_is = moved_is;
       bounded = bounded;

@@ -19,7 +19,8 @@ pub claims-within : (header : HeaderValue) (s t : List Claim) → Within s t →
 claims-within header s [] w = subst (λ (k : List Claim). Within (claimed header k) []) (sym w) refl
 claims-within header s (c ∷ t) (inl e) = subst (λ (k : List Claim). Within (claimed header s) (claimed header k)) e (Within-all (claimed header s))
 claims-within header s (c ∷ t) (inr w) =
-    Within-through (claimed header s) (claimed header t) (claimed header (c ∷ t)) (claims-within header s t w) (joins-within header (step_of header (posts_of header t) (booted (events_of t)) c.event c.acts) c.acts (claimed header t))
+    Within-through (claimed header s) (claimed header t) (claimed header (c ∷ t)) (claims-within header s t w)
+    (joins-within header (step_of header (posts_of header t) (booted (events_of t)) c.event c.acts) c.acts (claimed header t))
 
 pub dated-named : (count : ℕ) (told : List Claim) → AreDated count told → AllName count told
 dated-named count [] dated = tt
@@ -27,22 +28,34 @@ dated-named count (c ∷ before) dated = (dated.0.1, dated-named count before da
 
 pub dated-timely : (header : HeaderValue) (told : List Claim) → AreDated (length header.nodes) told → Timely (claimed header told)
 dated-timely header [] dated = tt
-dated-timely header (c ∷ before) dated = (grown-claims header before c dated.0.0 (dated-timely header before dated.1) (dated-named (length header.nodes) (c ∷ before) dated)).timely
+dated-timely header (c ∷ before) dated = (grown-claims header before c dated.0.0 (dated-timely header before dated.1) (dated-named (length header.nodes) (c ∷
+    before) dated)).timely
 
 -- a history grows by the next event
-pub grown-next : (header : HeaderValue) (told : List Claim) (c : Claim) (before : List Claim) → AreDated (length header.nodes) told → Within (c ∷ before) told → Grown (length header.nodes) (claimed header before) (claimed header (c ∷ before)) (length (claimed header before))
+pub grown-next : (header : HeaderValue) (told : List Claim) (c : Claim) (before : List Claim) → AreDated (length header.nodes) told → Within (c ∷ before) told →
+    Grown (length header.nodes) (claimed header before) (claimed header (c ∷ before)) (length (claimed header before))
 grown-next header told c before dated place =
-    let up : AreDated (length header.nodes) (c ∷ before) = Everywhere-within (λ (k : Claim) (s : List Claim). (event_at k.event ≤ 1000000000000000) × NamesNode (length header.nodes) k.event) (c ∷ before) told dated place in
+    let up : AreDated (length header.nodes) (c ∷ before) = Everywhere-within (λ (k : Claim) (s : List Claim). (event_at k.event ≤ 1000000000000000) ×
+    NamesNode (length header.nodes) k.event) (c ∷ before) told dated place in
     grown-claims header before c up.0.0 (dated-timely header before up.1) (dated-named (length header.nodes) (c ∷ before) up)
 
 -- the lines up to the end of an event are its history
-pub upto-is : (header : HeaderValue) (told upto : List Claim) (ns : List HistoryLine) (end : ℕ) → history_of ns ≡ claimed header told → Within upto told → end ≡ length (claimed header upto) → history_of (take end ns) ≡ claimed header upto
+pub upto-is : (header : HeaderValue) (told upto : List Claim) (ns : List HistoryLine) (end : ℕ) → history_of ns ≡ claimed header told → Within upto told → end ≡
+    length (claimed header upto) → history_of (take end ns) ≡ claimed header upto
 upto-is header told upto ns end is place end_is =
-    prefix-is ns (claimed header upto) end (subst (λ (h : List Line). Within (claimed header upto) h) (sym is) (claims-within header upto told place)) (sym end_is)
+    prefix-is ns (claimed header upto) end (subst (λ (h : List Line). Within (claimed header upto) h) (sym is) (claims-within header upto told place))
+    (sym end_is)
 
-pub upto-below : (header : HeaderValue) (told upto : List Claim) (ns : List HistoryLine) (end : ℕ) → history_of ns ≡ claimed header told → Within upto told → end ≡ length (claimed header upto) → end ≤ length ns
+pub upto-below : (header : HeaderValue) (told upto : List Claim) (ns : List HistoryLine) (end : ℕ) → history_of ns ≡ claimed header told → Within upto told →
+    end ≡ length (claimed header upto) → end ≤ length ns
 upto-below header told upto ns end is place end_is =
-    omega (arith, end_is, Within-length (claimed header upto) (claimed header told) (claims-within header upto told place), length-history ns, ap (λ (h : List Line). length h) is)
+    omega (
+      arith,
+      end_is,
+      Within-length (claimed header upto) (claimed header told) (claims-within header upto told place),
+      length-history ns,
+      ap (λ (h : List Line). length h) is,
+    )
 
 -- a place as long as the whole is the whole
 pub whole-place : (told before : List Claim) → Within before told → length told ≤ length before → before ≡ told
@@ -55,7 +68,8 @@ pub record Next (told before : List Claim) : Type 0 where
   pub claim : Claim
   pub place : Within (claim ∷ before) told
 
-next-of : (c : Claim) (t before : List Claim) → Within before t → (length before < length t → Next t before) → (length before < length t) ⊎ (length t ≤ length before) → Next (c ∷ t) before
+next-of : (c : Claim) (t before : List Claim) → Within before t → (length before < length t → Next t before) → (length before < length t) ⊎
+    (length t ≤ length before) → Next (c ∷ t) before
 next-of c t before w more (inl lt) = let n = more lt in record { claim = n.claim; place = inr n.place }
 next-of c t before w more (inr le) = record { claim = c; place = inl (ap (λ (k : List Claim). c ∷ k) (whole-place t before w le)) }
 
@@ -77,11 +91,20 @@ pub record Reached (premises : Premises) (header : HeaderValue) (told : List Cla
   pub holds : (setting : Setting) → HasClocks header setting → AllHold premises setting header before
   pub notes_are : RememberedStands premises header (claimed header before) notes
 
-pub reached-none : (premises : Premises) (header : HeaderValue) (told : List Claim) (notes : Remembered) → RememberedStands premises header [] notes → Reached premises header told 0 0 notes
-reached-none premises header told notes stand = record { before = []; place = none-place told; count = refl; from_is = refl; holds = λ setting has. holds-none premises setting header; notes_are = stand }
+pub reached-none : (premises : Premises) (header : HeaderValue) (told : List Claim) (notes : Remembered) → RememberedStands premises header [] notes →
+    Reached premises header told 0 0 notes
+reached-none premises header told notes stand = record {
+  before = [];
+  place = none-place told;
+  count = refl;
+  from_is = refl;
+  holds = λ setting has. holds-none premises setting header;
+  notes_are = stand;
+}
 
 -- nothing fails of the next event either
-pub reached-next : (premises : Premises) (header : HeaderValue) (told : List Claim) (i from end : ℕ) (old new : Remembered) → (r : Reached premises header told i from old) → (n : Next told r.before) → end ≡ length (claimed header (n.claim ∷ r.before)) →
+pub reached-next : (premises : Premises) (header : HeaderValue) (told : List Claim) (i from end : ℕ) (old new : Remembered) →
+    (r : Reached premises header told i from old) → (n : Next told r.before) → end ≡ length (claimed header (n.claim ∷ r.before)) →
     Looks premises header (n.claim ∷ r.before) (claimed header r.before) new None → Reached premises header told (i + 1) end new
 reached-next premises header told i from end old new r n end_is looks = record {
   before = n.claim ∷ r.before;
@@ -93,20 +116,31 @@ reached-next premises header told i from end old new r n end_is looks = record {
 }
 
 -- the first failure up to an event is the first of all
-found-through : (premises : Premises) (setting : Setting) (header : HeaderValue) (told upto : List Claim) (f : Failure) → Within upto told → IsFound premises setting header upto (Some f) → IsFound premises setting header told (Some f)
+found-through : (premises : Premises) (setting : Setting) (header : HeaderValue) (told upto : List Claim) (f : Failure) → Within upto told →
+    IsFound premises setting header upto (Some f) → IsFound premises setting header told (Some f)
 found-through premises setting header told upto f w first =
-    record { claim = first.claim; before = first.before; place = Within-through (first.claim ∷ first.before) upto told first.place w; event_is = first.event_is; fails = first.fails; earlier = first.earlier }
+    record {
+      claim = first.claim;
+      before = first.before;
+      place = Within-through (first.claim ∷ first.before) upto told first.place w;
+      event_is = first.event_is;
+      fails = first.fails;
+      earlier = first.earlier;
+    }
 
 -- something fails of the next event
-pub reached-failure : (premises : Premises) (header : HeaderValue) (told : List Claim) (i from : ℕ) (old new : Remembered) (f : Failure) → (r : Reached premises header told i from old) → (n : Next told r.before) →
+pub reached-failure : (premises : Premises) (header : HeaderValue) (told : List Claim) (i from : ℕ) (old new : Remembered) (f : Failure) →
+    (r : Reached premises header told i from old) → (n : Next told r.before) →
     Looks premises header (n.claim ∷ r.before) (claimed header r.before) new (Some f) → IsFoundOfAll premises header told new (Some f)
 reached-failure premises header told i from old new f r n looks = record {
-  found_is = λ setting has. found-through premises setting header told (n.claim ∷ r.before) f n.place (found-more premises header n.claim r.before None (Some f) new r.holds looks setting has);
+  found_is = λ setting has. found-through premises setting header told (n.claim ∷
+      r.before) f n.place (found-more premises header n.claim r.before None (Some f) new r.holds looks setting has);
   notes_are = λ none. (let bad : ⊥ = cc in absurd bad);
 }
 
 -- all events were looked at
-pub reached-all : (premises : Premises) (header : HeaderValue) (told : List Claim) (i from : ℕ) (notes : Remembered) → length told ≤ i → Reached premises header told i from notes → IsFoundOfAll premises header told notes None
+pub reached-all : (premises : Premises) (header : HeaderValue) (told : List Claim) (i from : ℕ) (notes : Remembered) → length told ≤ i →
+    Reached premises header told i from notes → IsFoundOfAll premises header told notes None
 reached-all premises header told i from notes past r =
     let whole : r.before ≡ told = whole-place told r.before r.place (let many = r.count in omega (arith, past, many)) in
     record {

@@ -3,7 +3,8 @@ use Rattle.std.specs.Prelude.{◌≡◌, ◌<◌, ◌≤◌, ℕ, ◌==◌, ℤ,
 use Rattle.std.specs.List.{list_any}
 use Rattle.tsp_audit.specs.{Parts.AllKept, declared.premises.Premises.Premises}
 use Rattle.tsp_rules.specs.Values.{Post, Correct, Message, PeerId, Place, Peer}
-use Rattle.tsp_base.specs.Words.{Acts, Came, Deed, Did, Here, Line, Seen, dids, of, MessageValue, Within, is_correction, is_numbered, heard, peer_of, posted, time_in}
+use Rattle.tsp_base.specs.Words.{Acts, Came, Deed, Did, Here, Line, Seen, dids, of, MessageValue, Within, is_correction, is_numbered, heard, peer_of, posted}
+use Rattle.tsp_base.specs.Words.{time_in}
 use Rattle.tsp_promises.specs.{CorrectFits.amount_of, Fits.node_of, Setting.Setting}
 use Rattle.tsp_promises.specs.Once.{ActsOn, Brings, ConfirmedAt, ObeysAt, OfSend, OnceAt, SpacedAt}
 use Rattle.tsp_history.specs.declared.line.HistoryLine.{HistoryLine}
@@ -72,7 +73,8 @@ pub record ActedIs (h : List Line) (acted : List ℕ) : Type 0 where
 
 -- whether the datagram with this number is a correction
 abbrev pub Corrects : List Line → ℕ → Bool → Type 0
-Corrects h s b = (post : Line) (older : List Line) (p : PeerId) (m : MessageValue) → Within (post ∷ older) h → post.did.deed ≡ Acts (Post (Peer p) (Message m)) → posted (dids older) ≡ s → is_correction m.kind ≡ b
+Corrects h s b = (post : Line) (older : List Line) (p : PeerId) (m : MessageValue) → Within (post ∷ older) h → post.did.deed ≡
+    Acts (Post (Peer p) (Message m)) → posted (dids older) ≡ s → is_correction m.kind ≡ b
 
 -- the line is a Correct after its step's Took
 pub record ActsNow (l : Line) (h : List Line) : Type 0 where

@@ -103,11 +103,13 @@ err_less spare c = c.err -ℤ pos spare
 -- two nodes that one Close corrected differ by at most their errors, each less what is to spare, and drift
 abbrev pub PairNear : HeaderValue → ℕ → ℕ → ℕ → NodeState → RoundCorrection → ℕ → NodeState → RoundCorrection → Type 0
 PairNear header t spare n a c k b d =
-    pos (nat_abs (shown_by header n a.moved t -ℤ shown_by header k b.moved t)) ≤ℤ ((err_less spare c +ℤ err_less spare d) +ℤ pos (2 * width header.drift (t - c.at) + 2 * width header.drift (t - d.at)))
+    pos (nat_abs (shown_by header n a.moved t -ℤ shown_by header k b.moved t)) ≤ℤ
+    ((err_less spare c +ℤ err_less spare d) +ℤ pos (2 * width header.drift (t - c.at) + 2 * width header.drift (t - d.at)))
 
 -- the same, where one Close corrected both
 abbrev pub PairAgrees : HeaderValue → ℕ → ℕ → ℕ → NodeState → ℕ → NodeState → Type 0
-PairAgrees header t spare n a k b = (c d : RoundCorrection) → a.from_round ≡ Some c → b.from_round ≡ Some d → c.master ≡ d.master → c.close ≡ d.close → PairNear header t spare n a c k b d
+PairAgrees header t spare n a k b = (c d : RoundCorrection) → a.from_round ≡ Some c → b.from_round ≡ Some d → c.master ≡ d.master → c.close ≡ d.close →
+    PairNear header t spare n a c k b d
 
 -- since the Close of a round its master has neither booted nor moved its clock, but by the Correct that is the next act
 abbrev pub FromRoundStands : RoundCorrection → NodeState → Type 0
@@ -115,11 +117,13 @@ FromRoundStands c b = (c.lives ≡ b.lives) × ((c.corrects ≡ b.corrects) ⊎ 
 
 -- a node that a Close corrected and its master differ by at most the error, less what is to spare, and drift
 abbrev pub MasterNearWithSpare : HeaderValue → ℕ → ℕ → ℕ → NodeState → RoundCorrection → NodeState → Type 0
-MasterNearWithSpare header t spare n a c b = pos (nat_abs (shown_by header n a.moved t -ℤ shown_by header c.master b.moved t)) ≤ℤ (err_less spare c +ℤ pos (2 * width header.drift (t - c.at)))
+MasterNearWithSpare header t spare n a c b = pos (nat_abs (shown_by header n a.moved t -ℤ shown_by header c.master b.moved t)) ≤ℤ
+    (err_less spare c +ℤ pos (2 * width header.drift (t - c.at)))
 
 -- the same, where the master was left alone since its Close, as `FromRoundStands` says
 abbrev pub BossAgrees : HeaderValue → ℕ → ℕ → ℕ → NodeState → List NodeState → Type 0
-BossAgrees header t spare n a states = (c : RoundCorrection) (b : NodeState) → a.from_round ≡ Some c → IsAtPlace states c.master b → FromRoundStands c b → MasterNearWithSpare header t spare n a c b
+BossAgrees header t spare n a states = (c : RoundCorrection) (b : NodeState) → a.from_round ≡ Some c → IsAtPlace states c.master b → FromRoundStands c b →
+    MasterNearWithSpare header t spare n a c b
 
 -- a node agrees with each that the same Close corrected, and with its master
 pub record NodeAgrees (header : HeaderValue) (t spare n : ℕ) (a : NodeState) (states : List NodeState) : Type 0 where

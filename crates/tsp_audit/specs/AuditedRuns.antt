@@ -33,7 +33,8 @@ RunsAreClaimed = (header : HeaderValue) (events : List Event) → Accepted heade
 -- the lines that a run's trace has of each event fit after those of the events before it, if the header is whole: it
 -- names no networks, or each node is on one of them
 abbrev pub RunsFitClaims : Type 0
-RunsFitClaims = (header : HeaderValue) (events : List Event) → is_whole header ≡ true → Accepted header events → Everywhere (λ e before. Fit header (claims_of header before) e (last_lines header (e ∷ before))) events
+RunsFitClaims = (header : HeaderValue) (events : List Event) → is_whole header ≡ true → Accepted header events →
+    Everywhere (λ e before. Fit header (claims_of header before) e (last_lines header (e ∷ before))) events
 
 -- the verdict on these claims is that all parts hold, and no other verdict is right
 pub record Holding (setting : Setting) (header : HeaderValue) (claims : List Claim) : Type 0 where
@@ -42,4 +43,5 @@ pub record Holding (setting : Setting) (header : HeaderValue) (claims : List Cla
 
 -- so it is of the trace of every accepted schedule's run, with the premises that the schedule keeps
 abbrev pub RunsHold : Type 0
-RunsHold = (header : HeaderValue) (setting : Setting) (events : List Event) → SetBy header setting → Accepted header events → Holding setting header (claims_of header events)
+RunsHold = (header : HeaderValue) (setting : Setting) (events : List Event) → SetBy header setting → Accepted header events →
+    Holding setting header (claims_of header events)

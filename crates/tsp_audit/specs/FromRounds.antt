@@ -28,7 +28,8 @@ pub record BegunAt (ns : List HistoryLine) (l : Line) (i : ℕ) : Type 0 where
   pub kind : message.kind ≡ AdjTime
 
 -- this Close of m is the last one of the step that port q sees here; r is the reading of the best sample that it had of node k, and err that sample's error
-pub record Rounds (m : ℕ) (q : Port) (k : ℕ) (seen : List Seen) (world : List Line) (close : Line) (cpast : List Line) (r : Line) (older : List Line) (err : ℤ) : Type 0 where
+pub record Rounds (m : ℕ) (q : Port) (k : ℕ) (seen : List Seen) (world : List Line) (close : Line) (cpast : List Line) (r : Line) (older : List Line) (err : ℤ)
+    : Type 0 where
   pub closes : Within (close ∷ cpast) world
   pub close_node : node_of close ≡ m
   pub close_port : close.port ≡ q
@@ -53,7 +54,8 @@ pub record RoundAs (m : ℕ) (q : Port) (k : ℕ) (h : List Line) (c : RoundCorr
 
 -- no Close stands in the step that port q sees here, or it had no sample with a reading
 abbrev pub HasNoRound : ℕ → Port → ℕ → List Line → Type 0
-HasNoRound m q k h = (world : List Line) (close : Line) (cpast : List Line) (r : Line) (older : List Line) (err : ℤ) → Within h world → Rounds m q k (view q (of m h)) world close cpast r older err → ⊥
+HasNoRound m q k h = (world : List Line) (close : Line) (cpast : List Line) (r : Line) (older : List Line) (err : ℤ) → Within h world →
+    Rounds m q k (view q (of m h)) world close cpast r older err → ⊥
 
 -- the step of the line takes what is posted at this true time
 pub record TakesThen (h : List Line) (l : Line) (t : ℕ) : Type 0 where

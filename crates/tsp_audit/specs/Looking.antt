@@ -17,8 +17,10 @@ pub record Grown (count : ℕ) (h new : List Line) (from : ℕ) : Type 0 where
 
 -- all parts hold after the newest event, where they held before it, and these are the notes then; or this part fails there
 abbrev pub Looks : Premises → HeaderValue → List Claim → List Line → Remembered → Option Failure → Type 0
-Looks premises header new h notes None = RememberedStands premises header (claimed header new) notes × ((setting : Setting) → HasClocks header setting → AllKeep premises setting h → AllKeep premises setting (claimed header new))
-Looks premises header new h notes (Some f) = (f.event ≡ length new) × ((setting : Setting) → HasClocks header setting → AllKeep premises setting h → FailsNow premises setting (claimed header new) f.part)
+Looks premises header new h notes None = RememberedStands premises header (claimed header new) notes × ((setting : Setting) → HasClocks header setting →
+    AllKeep premises setting h → AllKeep premises setting (claimed header new))
+Looks premises header new h notes (Some f) = (f.event ≡ length new) × ((setting : Setting) → HasClocks header setting → AllKeep premises setting h →
+    FailsNow premises setting (claimed header new) f.part)
 
 -- an earlier failure stays; else this is found of the newest event
 abbrev pub Finds : Premises → HeaderValue → List Claim → List Line → Option Failure → Remembered → Option Failure → Type 0

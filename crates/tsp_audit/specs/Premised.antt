@@ -54,4 +54,8 @@ premises_of header claims = record { honest = is_honest (events_of claims); life
 
 -- which premises are kept with one event more, behind these events and these claimed posts
 abbrev pub kept_with : Premises → List Event → List Claimed → Event → Premises
-kept_with kept events posts e = record { honest = not (forges e) && kept.honest; life = takes_early posts e && kept.life; words = not (repeats_word e events) && kept.words }
+kept_with kept events posts e = record {
+  honest = not (forges e) && kept.honest;
+  life = takes_early posts e && kept.life;
+  words = not (repeats_word e events) && kept.words;
+}

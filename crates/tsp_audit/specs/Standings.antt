@@ -19,7 +19,8 @@ pub record StandsAs (header : HeaderValue) (t spare n : ℕ) (a : NodeState) (s 
 
 -- the same of each node
 abbrev pub AllStand : HeaderValue → ℕ → ℕ → List NodeState → List Standing → Type 0
-AllStand header t spare states stand = (k : ℕ) (a : NodeState) (s : Standing) → IsAtPlace states k a → k < length stand → StandsAs header t spare k a (get_or stand k s)
+AllStand header t spare states stand = (k : ℕ) (a : NodeState) (s : Standing) → IsAtPlace states k a → k < length stand →
+    StandsAs header t spare k a (get_or stand k s)
 
 -- whether a fact holds
 abbrev pub IsWhether : Bool → Type 0 → Type 0
@@ -28,10 +29,12 @@ IsWhether b P = MatchBool b P (P → ⊥)
 -- P holds of a schedule's header, a true time and what is to spare, where the clocks of these nodes stand so then, and
 -- this is node n
 abbrev pub OfNode : List NodeState → List Standing → ℕ → NodeState → (HeaderValue → ℕ → ℕ → Type 0) → Type 0
-OfNode states stand n a P = (header : HeaderValue) (at spare : ℕ) → AllStand header at spare states stand → IsAtPlace states n a → AllBounded states → P header at spare
+OfNode states stand n a P = (header : HeaderValue) (at spare : ℕ) → AllStand header at spare states stand → IsAtPlace states n a → AllBounded states →
+    P header at spare
 
 -- P holds of a header, a true time, what is to spare and the numbers of two nodes, of which this is remembered, where
 -- their clocks stand so then
 abbrev pub OfPair : NodeState → Standing → NodeState → Standing → (HeaderValue → ℕ → ℕ → ℕ → ℕ → Type 0) → Type 0
 OfPair a own b other P =
-    (header : HeaderValue) (at spare first second : ℕ) → StandsAs header at spare first a own → StandsAs header at spare second b other → IsSumOf 4294967295 a.moved → IsSumOf 4294967295 b.moved → P header at spare first second
+    (header : HeaderValue) (at spare first second : ℕ) → StandsAs header at spare first a own → StandsAs header at spare second b other →
+    IsSumOf 4294967295 a.moved → IsSumOf 4294967295 b.moved → P header at spare first second

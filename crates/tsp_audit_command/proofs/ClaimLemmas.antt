@@ -1,5 +1,6 @@
 -- The claims that a history holds, event by event.
-use Rattle.std.proofs.Common.{◌∙◌, ap, sym, refl, arith, append-nil, append_assoc, inl, inr, ◌≡◌, ◌<◌, ℕ, ◌+◌, ◌-◌, Bool, List, [], ◌∷◌, ◌++◌, length, drop, take, get_or, reverse, Option, None, Some, slice_get}
+use Rattle.std.proofs.Common.{◌∙◌, ap, sym, refl, arith, append-nil, append_assoc, inl, inr, ◌≡◌, ◌<◌, ℕ, ◌+◌, ◌-◌, Bool, List, [], ◌∷◌, ◌++◌, length, drop}
+use Rattle.std.proofs.Common.{take, get_or, reverse, Option, None, Some, slice_get}
 use Rattle.std.proofs.lemmas.List.{get_or_append_left, length-append, reverse-append, take_more}
 use Rattle.std.proofs.lemmas.Option.{get_or_from_slice_get, slice_get_within}
 use Rattle.std.proofs.Math.Seq.{drop-append_seam, get_or-append_seam, take-append_seam}
@@ -17,7 +18,8 @@ use Rattle.tsp_run.specs.Run.{step_tick}
 
 acts_in-append : (a b : List Line) → acts_in (a ++ b) ≡ acts_in b ++ acts_in a
 acts_in-append [] b = sym (append-nil (acts_in b))
-acts_in-append (l ∷ a) b = ap (λ acts. acts ++ placed_by l.port l.did.deed) (acts_in-append a b) ∙ append_assoc (acts_in b) (acts_in a) (placed_by l.port l.did.deed)
+acts_in-append (l ∷ a) b = ap (λ acts. acts ++ placed_by l.port l.did.deed) (acts_in-append a b) ∙
+    append_assoc (acts_in b) (acts_in a) (placed_by l.port l.did.deed)
 
 -- the lines of a step's acts, the newest first
 abbrev front : Step → ℕ → List Placed → List Line
@@ -26,7 +28,8 @@ front step x (p ∷ rest) = front step x rest ++ line_of step x p.port (Acts p.a
 
 joined-front : (step : Step) (x : ℕ) (acts : List Placed) (h : List Line) → joined step x acts h ≡ front step x acts ++ h
 joined-front step x [] h = refl
-joined-front step x (p ∷ rest) h = joined-front step x rest (line_of step x p.port (Acts p.act) ∷ h) ∙ sym (append_assoc (front step x rest) (line_of step x p.port (Acts p.act) ∷ []) h)
+joined-front step x (p ∷ rest) h = joined-front step x rest (line_of step x p.port (Acts p.act) ∷ h) ∙
+    sym (append_assoc (front step x rest) (line_of step x p.port (Acts p.act) ∷ []) h)
 
 front-acts : (step : Step) (x : ℕ) (acts : List Placed) → acts_in (front step x acts) ≡ acts
 front-acts step x [] = refl
@@ -50,24 +53,30 @@ grew-by header (Some step) acts h none =
     }
 
 -- where nobody acts no line fits
-unfit-none : (header : HeaderValue) (posts : List Claimed) (up : ℕ → Bool) (number : ℕ) (e : Event) (t : Tally) (o : Option Step) (l : Line2) → o ≡ None → LineFitsIn header posts up number e t o l → ⊥
+unfit-none : (header : HeaderValue) (posts : List Claimed) (up : ℕ → Bool) (number : ℕ) (e : Event) (t : Tally) (o : Option Step) (l : Line2) → o ≡ None →
+    LineFitsIn header posts up number e t o l → ⊥
 unfit-none header posts up number e t None l is f = f
 unfit-none header posts up number e t (Some step) l is f = let bad : ⊥ = cc in bad
 
 -- an event of which lines fit makes a step, unless there are none
-no-step : (header : HeaderValue) (before : List Claim) (e : Event) (lines : List Line2) → Fit header before e lines → step_of header (posts_of header before) (booted (events_of before)) e (acts_of lines) ≡ None → acts_of lines ≡ []
+no-step : (header : HeaderValue) (before : List Claim) (e : Event) (lines : List Line2) → Fit header before e lines →
+    step_of header (posts_of header before) (booted (events_of before)) e (acts_of lines) ≡ None → acts_of lines ≡ []
 no-step header before e [] fit none = refl
 no-step header before (Take at k) (l ∷ rest) fit none =
-    absurd (unfit-none header (posts_of header before) (booted (events_of before)) (length before + 1) (Take at k) untold (step_at header (posts_of header before) (booted (events_of before)) (Take at k)) l none fit.0)
+    absurd (unfit-none header (posts_of header before) (booted (events_of before)) (length before + 1) (Take at k) untold
+    (step_at header (posts_of header before) (booted (events_of before)) (Take at k)) l none fit.0)
 no-step header before _ _ fit none = let bad : ⊥ = cc in absurd bad
 
 -- what is claimed of one event more
-pub claims_by-more : (header : HeaderValue) (passed : List Claim) (e : Event) (lines : List Line2) (events : List Event) (ends : List ℕ) (n : ℕ) → claims_by events ends (claimed header passed) ≡ passed →
-    first_end ends ≡ length (claimed header passed) → Fit header passed e lines → claims_by (e ∷ events) (n ∷ ends) (claimed header (claim_of e lines ∷ passed)) ≡ (claim_of e lines ∷ passed)
+pub claims_by-more : (header : HeaderValue) (passed : List Claim) (e : Event) (lines : List Line2) (events : List Event) (ends : List ℕ) (n : ℕ) →
+    claims_by events ends (claimed header passed) ≡ passed →
+    first_end ends ≡ length (claimed header passed) → Fit header passed e lines →
+    claims_by (e ∷ events) (n ∷ ends) (claimed header (claim_of e lines ∷ passed)) ≡ (claim_of e lines ∷ passed)
 claims_by-more header passed e lines events ends n same last fit =
     let h : List Line = claimed header passed in
     let new : List Line = claimed header (claim_of e lines ∷ passed) in
-    let g : Grew (acts_of lines) h new = grew-by header (step_of header (posts_of header passed) (booted (events_of passed)) e (acts_of lines)) (acts_of lines) h (no-step header passed e lines fit) in
+    let g : Grew (acts_of lines) h new = grew-by header (step_of header (posts_of header passed) (booted (events_of passed)) e (acts_of lines)) (acts_of lines)
+    h (no-step header passed e lines fit) in
     let k : ℕ = length new - first_end ends in
     let long : length new ≡ length g.lines + length h = ap (λ (x : List Line). length x) g.is ∙ length-append g.lines h in
     let many : k ≡ length g.lines = omega (arith, long, last) in
@@ -81,11 +90,14 @@ claims_by-more header passed e lines events ends n same last fit =
 -- the events that were passed, with one more
 pub passed-more : (events : List Event) (n : ℕ) (e : Event) → slice_get events n ≡ Some e → reverse (take (n + 1) events) ≡ (e ∷ reverse (take n events))
 passed-more events n e at =
-    ap (λ (es : List Event). reverse es) (take_more events n e (slice_get_within events n e at) ∙ ap (λ (x : Event). take n events ++ x ∷ []) (get_or_from_slice_get events n e e at))
+    ap (λ (es : List Event). reverse es) (take_more events n e (slice_get_within events n e at) ∙
+    ap (λ (x : Event). take n events ++ x ∷ []) (get_or_from_slice_get events n e e at))
     ∙ reverse-append (take n events) (e ∷ [])
 
-pub claims_on-more : (header : HeaderValue) (events : List Event) (claims now : Claims) (ends more : List ℕ) (e : Event) (lines : List Line2) (n : ℕ) → slice_get events (length ends) ≡ Some e → ClaimsStand header (claims_on events ends claims) claims →
-    ClaimsStand header (claim_of e lines ∷ claims_on events ends claims) now → first_end (reverse ends) ≡ length (claimed header (claims_on events ends claims)) → Fit header (claims_on events ends claims) e lines → more ≡ ends ++ n ∷ [] →
+pub claims_on-more : (header : HeaderValue) (events : List Event) (claims now : Claims) (ends more : List ℕ) (e : Event) (lines : List Line2) (n : ℕ) →
+    slice_get events (length ends) ≡ Some e → ClaimsStand header (claims_on events ends claims) claims →
+    ClaimsStand header (claim_of e lines ∷ claims_on events ends claims) now → first_end (reverse ends) ≡
+    length (claimed header (claims_on events ends claims)) → Fit header (claims_on events ends claims) e lines → more ≡ ends ++ n ∷ [] →
     claims_on events more now ≡ (claim_of e lines ∷ claims_on events ends claims)
 claims_on-more header events claims now ends more e lines n at old new last fit more_is =
     let passed : List Claim = claims_on events ends claims in
@@ -99,9 +111,14 @@ claims_on-more header events claims now ends more e lines n at old new last fit 
     ∙ (ap (λ (h : List Line). claims_by (e ∷ es) (n ∷ reverse ends) h) new.history ∙ claims_by-more header passed e lines es (reverse ends) n same last fit))
 
 -- where the lines of one event more end
-pub EndsAt-more : (header : HeaderValue) (passed : List Claim) (ends : List ℕ) (c : Claim) (n : ℕ) → EndsAt header passed ends → n ≡ length (claimed header (c ∷ passed)) → EndsAt header (c ∷ passed) (ends ++ n ∷ [])
-EndsAt-more header passed ends c n old is = record { many = (let many = old.many in omega (arith, many, length-append ends (n ∷ []))); end_is = λ d before w. one_end d before w } where
-  one_end : (d : Claim) (before : List Claim) → Within (d ∷ before) (c ∷ passed) → get_or (ends ++ n ∷ []) (length before) 0 ≡ length (claimed header (d ∷ before))
+pub EndsAt-more : (header : HeaderValue) (passed : List Claim) (ends : List ℕ) (c : Claim) (n : ℕ) → EndsAt header passed ends → n ≡
+    length (claimed header (c ∷ passed)) → EndsAt header (c ∷ passed) (ends ++ n ∷ [])
+EndsAt-more header passed ends c n old is = record {
+  many = (let many = old.many in omega (arith, many, length-append ends (n ∷ [])));
+  end_is = λ d before w. one_end d before w;
+} where
+  one_end : (d : Claim) (before : List Claim) → Within (d ∷ before) (c ∷ passed) → get_or (ends ++ n ∷ []) (length before) 0 ≡
+      length (claimed header (d ∷ before))
   one_end d before (inl e) =
       let same : passed ≡ before = cc in
       let many : length before ≡ length ends = ap (λ (x : List Claim). length x) (sym same) ∙ sym old.many in

@@ -1,14 +1,17 @@
 -- At each place of an audit's lines one thing at most may follow, and the verdict is one.
-use Rattle.std.proofs.Common.{◌∙◌, ap, subst, inl, inr, sym, refl, arith, ◌≡◌, ℕ, zero, suc, ◌+◌, ◌-◌, ◌<◌, ◌≤◌, if◌then◌else◌, Bool, true, false, List, [], ◌∷◌, ◌++◌, length, reverse, Option, None, Some}
+use Rattle.std.proofs.Common.{◌∙◌, ap, subst, inl, inr, sym, refl, arith, ◌≡◌, ℕ, zero, suc, ◌+◌, ◌-◌, ◌<◌, ◌≤◌, if◌then◌else◌, Bool, true, false, List, []}
+use Rattle.std.proofs.Common.{◌∷◌, ◌++◌, length, reverse, Option, None, Some}
 use Rattle.std.proofs.lemmas.Bool.{cases_order}
 use Rattle.tsp_audit.specs.{Judged.FailsNow, Premised.premises_of, Settings.HasClocks, declared.premises.Premises.Premises}
 use Rattle.tsp_audit.specs.{Verdicts.AllHold, Verdicts.FailsFirst, Verdicts.IsFound, declared.verdict.Failure.Failure}
 use Rattle.tsp_base.specs.Words.{HeaderValue, IsHeader, Line, Within}
 use Rattle.tsp_promises.specs.Setting.{Setting}
 use Rattle.tsp_base.{proofs.PlaceLemmas.Within-comparable, specs.declared.event.Event.Event, specs.declared.trace.Line2.Line2}
-use Rattle.tsp_audit_command.specs.ClaimReaders.{ClaimReaderValue, FitsAt, FitsHere, MisfitsAt, IsOneLine, and_then, passed_up_to, lines_told, most_lines, pass_first, pass_one, passes, passes_all, tallied, told_more, unclaimed}
+use Rattle.tsp_audit_command.specs.ClaimReaders.{ClaimReaderValue, FitsAt, FitsHere, MisfitsAt, IsOneLine, and_then, passed_up_to, lines_told, most_lines}
+use Rattle.tsp_audit_command.specs.ClaimReaders.{pass_first, pass_one, passes, passes_all, tallied, told_more, unclaimed}
 use Rattle.tsp_audit_command.specs.{Listings.most_nodes, Listings.refused_next, Meaning.auditing, Texts.verdict_text}
-use Rattle.tsp_audit_command.specs.Readings.{Claimed, MayEnd, ReadsOn, GivesVerdict, IsWanting, PassesLimit, ReachesReading, Reading, RefusesLine, Scheduling, nodes_at, reading_of}
+use Rattle.tsp_audit_command.specs.Readings.{Claimed, MayEnd, ReadsOn, GivesVerdict, IsWanting, PassesLimit, ReachesReading, Reading, RefusesLine, Scheduling}
+use Rattle.tsp_audit_command.specs.Readings.{nodes_at, reading_of}
 use Rattle.tsp_audit_command.proofs.{PassLemmas.none-some, PassLemmas.some-one, Reverses.reverse-more}
 use Rattle.tsp_claims.specs.{ClaimedHistory.Claim, ClaimedHistory.claimed, Fitting.lacks, Fitting.untold, Stands.claim_of}
 use Rattle.tsp_schedule.specs.Schedules.{Progress, Ended, GoesOn as GoesOnBy, Reaches as ReachesBy}
@@ -29,11 +32,17 @@ scheduled (line ∷ before) p (Scheduling q, r, g) = (q, scheduled before q r, s
 scheduled (line ∷ before) p (Claimed c, r, g) = let is = g.5 in let bad : ⊥ = cc in absurd bad
 
 -- a line of the schedule brings it to one place
-one-schedule : (before : List (List ℕ)) (line : List ℕ) (p q r : Progress) → ReachesReading before (Scheduling p) → GoesOnBy refused_next p line q → GoesOnBy refused_next p line r → q ≡ r
-one-schedule before line p q r reaches g h = ReachesBy-one refused_next (line ∷ before) q r (p, scheduled before p reaches, g) (p, scheduled before p reaches, h)
+one-schedule : (before : List (List ℕ)) (line : List ℕ) (p q r : Progress) → ReachesReading before (Scheduling p) → GoesOnBy refused_next p line q →
+    GoesOnBy refused_next p line r → q ≡ r
+one-schedule before line p q r reaches g h = ReachesBy-one refused_next (line ∷ before) q r (p, scheduled before p reaches, g) (
+  p,
+  scheduled before p reaches,
+  h,
+)
 
 -- two readings of a claimed line are one, and so are the places to which they come
-same-here : (c : ClaimReaderValue) (line : List ℕ) (l k : Line2) (here there : ClaimReaderValue) → IsOneLine line l → IsOneLine line k → passed_up_to c l.event ≡ Some here → passed_up_to c k.event ≡ Some there → there ≡ here
+same-here : (c : ClaimReaderValue) (line : List ℕ) (l k : Line2) (here there : ClaimReaderValue) → IsOneLine line l → IsOneLine line k →
+    passed_up_to c l.event ≡ Some here → passed_up_to c k.event ≡ Some there → there ≡ here
 same-here c line l k here there t u p q = some-one there here (sym q ∙ (ap (λ (x : Line2). passed_up_to c x.event) (t.1 k u.0) ∙ p))
 
 GoesOn-one : (before : List (List ℕ)) (at : Reading) (line : List ℕ) (r s : Reading) → ReachesReading before at → ReadsOn at line r → ReadsOn at line s → r ≡ s
@@ -49,7 +58,8 @@ Reaches-one [] r s p q = p ∙ sym q
 Reaches-one (line ∷ before) r s p q = GoesOn-one before p.0 line r s p.1 p.2 (subst (λ x. ReadsOn x line s) (sym (Reaches-one before p.0 q.0 p.1 q.1)) q.2)
 
 -- a claimed line that fits doesn't misfit
-fits-misfits : (c : ClaimReaderValue) (line : List ℕ) (l k : Line2) (here : ClaimReaderValue) → IsOneLine line l → IsOneLine line k → FitsAt c l here → MisfitsAt c k → ⊥
+fits-misfits : (c : ClaimReaderValue) (line : List ℕ) (l k : Line2) (here : ClaimReaderValue) → IsOneLine line l → IsOneLine line k → FitsAt c l here →
+    MisfitsAt c k → ⊥
 fits-misfits c line l k here t u f (inl none) = none-some (passed_up_to c k.event) here none (ap (λ (x : Line2). passed_up_to c x.event) (t.1 k u.0) ∙ f.0)
 fits-misfits c line l k here t u f (inr (there, at, unfit)) =
     unfit (subst (λ v. FitsHere v k) (sym (same-here c line l k here there t u f.0 at)) (subst (λ (x : Line2). FitsHere here x) (sym (t.1 k u.0)) f.1))
@@ -67,8 +77,10 @@ no-room n most few many = omega (arith, few, many)
 
 not_limited : (before : List (List ℕ)) (at : Reading) (line : List ℕ) (r : Reading) → ReachesReading before at → ReadsOn at line r → PassesLimit at line → ⊥
 not_limited before (Scheduling p) line r reaches g (inl f) = GoesOn-not_limited refused_next p line g.0 g.1 f
-not_limited before (Scheduling p) line r reaches g (inr (q, h, many)) = too-many (nodes_at q) most_nodes (subst (λ x. nodes_at x ≤ most_nodes) (one-schedule before line p g.0 q reaches g.1 h) g.2) many
-not_limited before (Claimed c) line r reaches g (k, there, tells, fits, full) = no-room (lines_told there) most_lines (subst (λ v. lines_told v < most_lines) (sym (same-here c line g.0 k g.1 there g.2 tells g.3.0 fits.0)) g.4) full
+not_limited before (Scheduling p) line r reaches g (inr (q, h, many)) = too-many (nodes_at q) most_nodes
+    (subst (λ x. nodes_at x ≤ most_nodes) (one-schedule before line p g.0 q reaches g.1 h) g.2) many
+not_limited before (Claimed c) line r reaches g (k, there, tells, fits, full) = no-room (lines_told there) most_lines
+    (subst (λ v. lines_told v < most_lines) (sym (same-here c line g.0 k g.1 there g.2 tells g.3.0 fits.0)) g.4) full
 
 one_cause : (at : Reading) (line cause other : List ℕ) → RefusesLine at line cause → RefusesLine at line other → cause ≡ other
 one_cause (Scheduling p) line cause other f g = Refuses-one refused_next p line cause other f g
@@ -99,11 +111,18 @@ passed-header : (b : Bool) (v d : ClaimReaderValue) → (if b then None else Som
 passed-header true v d is = let bad : ⊥ = cc in absurd bad
 passed-header false v d is = ap (λ (x : ClaimReaderValue). x.header) (sym (some-one v d is))
 
-first-header : (header : HeaderValue) (passed : List Claim) (told : List Line2) (ahead : List Event) (d : ClaimReaderValue) → pass_first header passed told ahead ≡ Some d → d.header ≡ header
+first-header : (header : HeaderValue) (passed : List Claim) (told : List Line2) (ahead : List Event) (d : ClaimReaderValue) →
+    pass_first header passed told ahead ≡ Some d → d.header ≡ header
 first-header header passed told [] d is = let bad : ⊥ = cc in absurd bad
-first-header header passed told (e ∷ rest) d is = passed-header (lacks e (tallied untold told)) (record { header = header; passed = claim_of e told ∷ passed; told = []; ahead = rest }) d is
+first-header header passed told (e ∷ rest) d is = passed-header (lacks e (tallied untold told)) (record {
+  header = header;
+  passed = claim_of e told ∷ passed;
+  told = [];
+  ahead = rest;
+}) d is
 
-then-header : (o : Option ClaimReaderValue) (header : HeaderValue) (next : ClaimReaderValue → Option ClaimReaderValue) (d : ClaimReaderValue) → and_then o next ≡ Some d → ((c : ClaimReaderValue) → o ≡ Some c → c.header ≡ header) →
+then-header : (o : Option ClaimReaderValue) (header : HeaderValue) (next : ClaimReaderValue → Option ClaimReaderValue) (d : ClaimReaderValue) →
+    and_then o next ≡ Some d → ((c : ClaimReaderValue) → o ≡ Some c → c.header ≡ header) →
     ((c : ClaimReaderValue) → next c ≡ Some d → d.header ≡ c.header) → d.header ≡ header
 then-header None header next d is first later = let bad : ⊥ = cc in absurd bad
 then-header (Some c) header next d is first later = later c is ∙ first c refl
@@ -111,16 +130,22 @@ then-header (Some c) header next d is first later = later c is ∙ first c refl
 -- passing events keeps the header
 passes-header : (n : ℕ) (c d : ClaimReaderValue) → passes n c ≡ Some d → d.header ≡ c.header
 passes-header zero c d is = ap (λ (x : ClaimReaderValue). x.header) (sym (some-one c d is))
-passes-header (suc n) c d is = then-header (pass_one c) c.header (λ x. passes n x) d is (λ x h. first-header c.header c.passed c.told c.ahead x h) (λ x h. passes-header n x d h)
+passes-header (suc n) c d is = then-header (pass_one c) c.header (λ x. passes n x) d is (λ x h. first-header c.header c.passed c.told c.ahead x h)
+    (λ x h. passes-header n x d h)
 
 -- the header behind which lines are claimed keeps its ranges
 claimed-header : (lines : List (List ℕ)) (c : ClaimReaderValue) → ReachesReading lines (Claimed c) → IsHeader c.header
 claimed-header [] c is = let bad : ⊥ = cc in absurd bad
-claimed-header (line ∷ before) c (Scheduling p, r, g) = reading-claimed g.0 c (sym g.3) (Reaches-header refused_next (line ∷ before) g.0 (p, scheduled before p r, g.1))
+claimed-header (line ∷ before) c (Scheduling p, r, g) = reading-claimed g.0 c (sym g.3) (Reaches-header refused_next (line ∷ before) g.0 (
+  p,
+  scheduled before p r,
+  g.1,
+))
 claimed-header (line ∷ before) c (Claimed d, r, g) =
     let is = g.5 in
     let same : c ≡ told_more g.1 g.0 = cc in
-    subst (λ k. IsHeader k) (sym (ap (λ (x : ClaimReaderValue). x.header) same ∙ passes-header (g.0.event - (length d.passed + 1)) d g.1 g.3.0)) (claimed-header before d r)
+    subst (λ k. IsHeader k) (sym (ap (λ (x : ClaimReaderValue). x.header) same ∙ passes-header (g.0.event - (length d.passed + 1)) d g.1 g.3.0))
+    (claimed-header before d r)
 
 -- a header gives a setting its clocks
 clocks-of : (header : HeaderValue) → IsHeader header → (setting : Setting) × HasClocks header setting
@@ -137,20 +162,26 @@ one-part premises setting h n m a b = elim (cases_order n m) [
 ]
 
 same-failure : (f g : Failure) → f.part ≡ g.part → f.event ≡ g.event → Some f ≡ Some g
-same-failure f g p e = let pair : ℕ → ℕ → Failure = λ n m. record { part = n; event = m } in ap (λ x. Some x) (ap (λ n. pair n f.event) p ∙ ap (λ m. pair g.part m) e)
+same-failure f g p e = let pair : ℕ → ℕ → Failure = λ n m. record { part = n; event = m } in
+    ap (λ x. Some x) (ap (λ n. pair n f.event) p ∙ ap (λ m. pair g.part m) e)
 
 module _ (premises : Premises) (setting : Setting) (header : HeaderValue) (claims : List Claim) where
   -- where a part fails first it doesn't hold
-  holds-fails : (n e : ℕ) (before : List Claim) → AllHold premises setting header before → (f : FailsFirst premises setting header claims n e) → Within (f.claim ∷ f.before) before → ⊥
+  holds-fails : (n e : ℕ) (before : List Claim) → AllHold premises setting header before → (f : FailsFirst premises setting header claims n e) →
+      Within (f.claim ∷ f.before) before → ⊥
   holds-fails n e before a f w = f.fails.fails (a (f.claim ∷ f.before) w f.fails.part)
 
   -- two first failures at places of which one lies within the other are one
-  one-failure : (n e m d : ℕ) (f : FailsFirst premises setting header claims n e) (g : FailsFirst premises setting header claims m d) → Within (f.claim ∷ f.before) (g.claim ∷ g.before) → (n ≡ m) × (e ≡ d)
+  one-failure : (n e m d : ℕ) (f : FailsFirst premises setting header claims n e) (g : FailsFirst premises setting header claims m d) →
+      Within (f.claim ∷ f.before) (g.claim ∷ g.before) → (n ≡ m) × (e ≡ d)
   one-failure n e m d f g (inl same) =
       let long = ap (λ cs. length cs) same in
       let at = f.event_is in
-      let there = g.event_is in
-      (one-part premises setting (claimed header (g.claim ∷ g.before)) n m (subst (λ cs. FailsNow premises setting (claimed header cs) n) same f.fails) g.fails, omega (arith, long, at, there))
+      let there = g.event_is in (
+        one-part premises setting (claimed header (g.claim ∷ g.before)) n m (subst (λ cs. FailsNow premises setting (claimed header cs) n) same f.fails)
+            g.fails,
+        omega (arith, long, at, there),
+      )
   one-failure n e m d f g (inr within) = absurd (holds-fails n e g.before g.earlier f within)
 
   pub found-one : (f g : Option Failure) → IsFound premises setting header claims f → IsFound premises setting header claims g → f ≡ g
@@ -169,10 +200,12 @@ one_end lines (Claimed c) more other reaches (all, found, passes_e, judges, is) 
     let same : every ≡ all = some-one every all (sym passes_f ∙ passes_e) in
     let clocks = clocks-of all.header (subst (λ k. IsHeader k) (sym (passes-header (length c.ahead) c all passes_e)) (claimed-header lines c reaches)) in
     let other_found = subst (λ (v : ClaimReaderValue). GivesVerdict v.header v.passed against) same judged in
-    is ∙ (ap (λ o. verdict_text o) (found-one (premises_of all.header all.passed) clocks.0 all.header all.passed found against (judges clocks.0 clocks.1) (other_found clocks.0 clocks.1)) ∙ sym was)
+    is ∙ (ap (λ o. verdict_text o) (found-one (premises_of all.header all.passed) clocks.0 all.header all.passed found against (judges clocks.0 clocks.1)
+    (other_found clocks.0 clocks.1)) ∙ sym was)
 
 -- what was accepted last, and after what
-last-line : (lines : List (List ℕ)) (line : List ℕ) (r : Reading) → ReachesReading (reverse (lines ++ line ∷ [])) r → (q : Reading) × ReachesReading (reverse lines) q × ReadsOn q line r
+last-line : (lines : List (List ℕ)) (line : List ℕ) (r : Reading) → ReachesReading (reverse (lines ++ line ∷ [])) r → (q : Reading) ×
+    ReachesReading (reverse lines) q × ReadsOn q line r
 last-line lines line r reaches = subst (λ ls. ReachesReading ls r) (reverse-more lines line) reaches
 
 pub definite_auditing : IsDefinite auditing
@@ -185,9 +218,12 @@ definite_auditing = record {
   not_limited = λ lines line text a (q, s, f).
       let l = last-line lines line a.0 a.1 in
       not_limited (reverse lines) q line a.0 s (subst (λ x. ReadsOn x line a.0) (Reaches-one (reverse lines) l.0 q l.1 s) l.2) f;
-  one_cause = λ lines line cause other (p, r, e) (q, s, f). one_cause q line cause other (subst (λ x. RefusesLine x line cause) (Reaches-one (reverse lines) p q r s) e) f;
-  refused_within = λ lines line cause (p, r, e) (q, s, f). refused_within q line cause (subst (λ x. RefusesLine x line cause) (Reaches-one (reverse lines) p q r s) e) f;
-  one_end = λ lines more other (p, r, e) (q, s, f). one_end (reverse lines) q more other s (subst (λ x. MayEnd x more) (Reaches-one (reverse lines) p q r s) e) f;
+  one_cause = λ lines line cause other (p, r, e) (q, s, f). one_cause q line cause other
+      (subst (λ x. RefusesLine x line cause) (Reaches-one (reverse lines) p q r s) e) f;
+  refused_within = λ lines line cause (p, r, e) (q, s, f). refused_within q line cause
+      (subst (λ x. RefusesLine x line cause) (Reaches-one (reverse lines) p q r s) e) f;
+  one_end = λ lines more other (p, r, e) (q, s, f). one_end (reverse lines) q more other s (subst (λ x. MayEnd x more) (Reaches-one (reverse lines) p q r s) e)
+      f;
   one_lack = λ lines cause other (p, r, e) (q, s, f). one_lack q cause other (subst (λ x. IsWanting x cause) (Reaches-one (reverse lines) p q r s) e) f;
   ended_whole = λ lines more cause (p, r, e) (q, s, f). ended_whole q more cause (subst (λ x. MayEnd x more) (Reaches-one (reverse lines) p q r s) e) f;
 }

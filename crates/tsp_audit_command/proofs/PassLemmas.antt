@@ -26,6 +26,7 @@ pub pass-whole : (header : HeaderValue) (passed : List Claim) (told : List Line2
 pass-whole header passed told e rest h = rw h refl
 
 -- where one event can't be passed, more can't
-pub Unpassed-more : (n : ℕ) (c : ClaimReaderValue) (all : Option ClaimReaderValue) (stop : Stop) → passes (suc n) c ≡ all → Unpassed (pass_one c) stop → Unpassed all stop
+pub Unpassed-more : (n : ℕ) (c : ClaimReaderValue) (all : Option ClaimReaderValue) (stop : Stop) → passes (suc n) c ≡ all → Unpassed (pass_one c) stop →
+    Unpassed all stop
 Unpassed-more n c all (Bad cause) is u = (sym is ∙ passes-none n c u.0, u.1)
 Unpassed-more n c all _ is u = u

@@ -2,7 +2,8 @@
 use Rattle.std.proofs.Common.{ℕ, ◌^◌, ◌<◌, ◌≤◌, List, ◌++◌, Bool, true, false, length, arith, length-append, subst, suc, sym, ℤ, pos, negsuc, decimal, codes}
 use Rattle.std.specs.{Fmt.signed_decimal, Int.w64, Int.RustNames.FitsSigned}
 use Rattle.tsp_base.specs.{Words.alarm_word, declared.act.Act.Act, declared.alarm.Alarm.Alarm, declared.alarm.Alarm.TheVariants.Quiet}
-use Rattle.tsp_base.specs.declared.act.Act.TheVariants.{Took, Post, Become, Back, Backer, Quit, Arm, Ring, Late, Join, Leave, Rival, Acked, Gave, Sample, Close, Correct, Trace}
+use Rattle.tsp_base.specs.declared.act.Act.TheVariants.{Took, Post, Become, Back, Backer, Quit, Arm, Ring, Late, Join, Leave, Rival, Acked, Gave, Sample, Close}
+use Rattle.tsp_base.specs.declared.act.Act.TheVariants.{Correct, Trace}
 use Rattle.tsp_base.specs.declared.datagram.{DecodeFault.DecodeFault, Taken.Taken, Taken.TheVariants.Good, Taken.TheVariants.Bad}
 use Rattle.tsp_base.specs.declared.datagram.DecodeFault.TheVariants.{Short}
 use Rattle.tsp_base.specs.declared.{place.PeerId.PeerId, role.Role.Role, trace.Line2.Line2}
@@ -39,10 +40,12 @@ signed_length : (z : ℤ) → FitsSigned w64 z → length (signed_decimal z) ≤
 signed_length (pos n) h = omega (arith, number_length n (omega (arith, h.sfits)))
 signed_length (negsuc n) h = omega (arith, number_length (suc n) (omega (arith, h.sfits)))
 
-sample_length : (p : PeerId) (counter : ℕ) (diff err : ℤ) (ticket : ℕ) → p.0 < 2 ^ 32 → counter < 2 ^ 64 → FitsSigned w64 diff → FitsSigned w64 err → ticket < 2 ^ 16 → length (act_text 0 (Sample p counter diff err ticket)) ≤ 865
+sample_length : (p : PeerId) (counter : ℕ) (diff err : ℤ) (ticket : ℕ) → p.0 < 2 ^ 32 → counter < 2 ^ 64 → FitsSigned w64 diff → FitsSigned w64 err →
+    ticket < 2 ^ 16 → length (act_text 0 (Sample p counter diff err ticket)) ≤ 865
 sample_length p counter diff err ticket hp hc hd he ht = omega (
   arith,
-  length-append ((((((((codes "sample " ++ decimal p.0) ++ space) ++ decimal counter) ++ space) ++ signed_decimal diff) ++ space) ++ signed_decimal err) ++ space) (decimal ticket),
+  length-append ((((((((codes "sample " ++ decimal p.0) ++ space) ++ decimal counter) ++ space) ++ signed_decimal diff) ++ space) ++ signed_decimal err) ++
+      space) (decimal ticket),
   length-append (((((((codes "sample " ++ decimal p.0) ++ space) ++ decimal counter) ++ space) ++ signed_decimal diff) ++ space) ++ signed_decimal err) space,
   length-append ((((((codes "sample " ++ decimal p.0) ++ space) ++ decimal counter) ++ space) ++ signed_decimal diff) ++ space) (signed_decimal err),
   length-append (((((codes "sample " ++ decimal p.0) ++ space) ++ decimal counter) ++ space) ++ signed_decimal diff) space,
@@ -58,7 +61,8 @@ sample_length p counter diff err ticket hp hc hd he ht = omega (
   number_length ticket (omega (arith, ht)),
 )
 
-close_length : (count : ℕ) (lo width mean : ℤ) → count < 2 ^ 32 → FitsSigned w64 lo → FitsSigned w64 width → FitsSigned w64 mean → length (act_text 0 (Close count lo width mean)) ≤ 865
+close_length : (count : ℕ) (lo width mean : ℤ) → count < 2 ^ 32 → FitsSigned w64 lo → FitsSigned w64 width → FitsSigned w64 mean →
+    length (act_text 0 (Close count lo width mean)) ≤ 865
 close_length count lo width mean hc hl hw hm = omega (
   arith,
   length-append ((((((codes "close " ++ decimal count) ++ space) ++ signed_decimal lo) ++ space) ++ signed_decimal width) ++ space) (signed_decimal mean),
@@ -74,7 +78,8 @@ close_length count lo width mean hc hl hw hm = omega (
   signed_length mean hm,
 )
 
-correct_length : (amount : ℤ) (stepped : Bool) (shown : ℤ) → FitsSigned w64 amount → FitsSigned w64 shown → length (act_text 0 (Correct amount stepped shown)) ≤ 865
+correct_length : (amount : ℤ) (stepped : Bool) (shown : ℤ) → FitsSigned w64 amount → FitsSigned w64 shown →
+    length (act_text 0 (Correct amount stepped shown)) ≤ 865
 correct_length amount stepped shown ha hs = omega (
   arith,
   length-append ((codes "correct " ++ signed_decimal amount) ++ way_word stepped) (signed_decimal shown),
@@ -134,7 +139,8 @@ act_length number _ h n = omega arith
 trace_length : (l : Line2) → IsLine2 l → length (trace_text l.event l.node l.tick l.number l.placed) ≤ 1024
 trace_length l h = omega (
   arith,
-  length-append (((((((decimal l.event ++ space) ++ decimal l.node) ++ space) ++ decimal l.placed.port.0) ++ space) ++ decimal l.tick) ++ space) (act_text l.number l.placed.act),
+  length-append (((((((decimal l.event ++ space) ++ decimal l.node) ++ space) ++ decimal l.placed.port.0) ++ space) ++ decimal l.tick) ++
+      space) (act_text l.number l.placed.act),
   length-append ((((((decimal l.event ++ space) ++ decimal l.node) ++ space) ++ decimal l.placed.port.0) ++ space) ++ decimal l.tick) space,
   length-append (((((decimal l.event ++ space) ++ decimal l.node) ++ space) ++ decimal l.placed.port.0) ++ space) (decimal l.tick),
   length-append ((((decimal l.event ++ space) ++ decimal l.node) ++ space) ++ decimal l.placed.port.0) space,

@@ -42,7 +42,12 @@ lines_told c = lines_in c.passed + length c.told
 -- needs its Boot, and octets, and a take that has lines, their Took
 abbrev pub pass_first : HeaderValue → List Claim → List Line2 → List Event → Option ClaimReaderValue
 pass_first header passed told [] = None
-pass_first header passed told (e ∷ rest) = if lacks e (tallied untold told) then None else Some (record { header = header; passed = claim_of e told ∷ passed; told = []; ahead = rest })
+pass_first header passed told (e ∷ rest) = if lacks e (tallied untold told) then None else Some (record {
+  header = header;
+  passed = claim_of e told ∷ passed;
+  told = [];
+  ahead = rest;
+})
 
 -- the same, of claimed lines that have come so far
 abbrev pub pass_one : ClaimReaderValue → Option ClaimReaderValue

@@ -31,7 +31,8 @@ no_room events = if nat_le most_listed events then Some (Limit events 0) else No
 -- this time, in microseconds, and these nodes have booted: its time is before that; it names a node, a port or a sender
 -- that doesn't exist; its node hasn't booted; there is no room
 abbrev pub refusal_at : HeaderValue → ℕ → ℕ → (ℕ → Bool) → Event → Option EventFault
-refusal_at header last events up e = first_of (time_back (event_at e) last) (first_of (no_node (scene header []) e) (first_of (down up (wants_up e)) (no_room events)))
+refusal_at header last events up e = first_of (time_back (event_at e) last) (first_of (no_node (scene header []) e)
+    (first_of (down up (wants_up e)) (no_room events)))
 
 -- for what first cause an event may not follow these, if it may not; they are given newest first
 abbrev pub refused_next : HeaderValue → List Event → Event → Option EventFault

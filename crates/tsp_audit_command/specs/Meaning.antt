@@ -7,7 +7,8 @@ use Rattle.tsp_lines.specs.{Lines.NoFeed, Lines.AreLines, Meanings.Meaning}
 -- octets are the lines of a schedule of at most 16 nodes and 20,000 events, and after it at most 20,000 claimed lines,
 -- which all fit, and no event lacks anything
 abbrev pub IsAuditText : List ℕ → Type 0
-IsAuditText octets = (lines : List (List ℕ)) × (c : ClaimReaderValue) × (all : ClaimReaderValue) × All NoFeed lines × AreLines octets lines × ReachesReading (reverse lines) (Claimed c) × (passes_all c ≡ Some all)
+IsAuditText octets = (lines : List (List ℕ)) × (c : ClaimReaderValue) × (all : ClaimReaderValue) × All NoFeed lines × AreLines octets lines ×
+    ReachesReading (reverse lines) (Claimed c) × (passes_all c ≡ Some all)
 
 -- the meaning of an audit: lines are accepted as a schedule and what is claimed of it, without output; they may end
 -- after the schedule, where no event lacks anything, and then the output is the verdict

@@ -7,7 +7,8 @@ use Rattle.tsp_promises.specs.Setting.{Setting}
 use Rattle.tsp_audit_command.specs.ClaimReaders.{ClaimReaderValue, FitsAt, MisfitsAt, IsOneLine, lines_told, most_lines, passes_all, told_more, unclaimed}
 use Rattle.tsp_audit_command.specs.{Listings.most_nodes, Listings.refused_next, Texts.verdict_text}
 use Rattle.tsp_claims.specs.ClaimedHistory.{Claim}
-use Rattle.tsp_schedule.specs.Schedules.{Progress, Untitled, Titled, Drifted, Heading, Running, Ended, GoesOn as GoesOnBy, Refuses as RefusesBy, Limits as LimitsBy, Lacks as LacksBy}
+use Rattle.tsp_schedule.specs.Schedules.{Progress, Untitled, Titled, Drifted, Heading, Running, Ended, GoesOn as GoesOnBy, Refuses as RefusesBy}
+use Rattle.tsp_schedule.specs.Schedules.{Limits as LimitsBy, Lacks as LacksBy}
 use Rattle.tsp_script.specs.ActLines.{SpellsTrace}
 
 -- how far the lines of an input have come
@@ -39,7 +40,8 @@ nodes_at (Ended header events) = length header.nodes
 -- nodes, or a claimed line that fits, after fewer than 20,000
 abbrev pub ReadsOn : Reading → List ℕ → Reading → Type 0
 ReadsOn (Scheduling p) line next = (q : Progress) × GoesOnBy refused_next p line q × (nodes_at q ≤ most_nodes) × (next ≡ reading_of q)
-ReadsOn (Claimed c) line next = (l : Line2) × (here : ClaimReaderValue) × IsOneLine line l × FitsAt c l here × (lines_told here < most_lines) × (next ≡ Claimed (told_more here l))
+ReadsOn (Claimed c) line next = (l : Line2) × (here : ClaimReaderValue) × IsOneLine line l × FitsAt c l here × (lines_told here < most_lines) ×
+    (next ≡ Claimed (told_more here l))
 
 -- these lines, which are given newest first, bring the reading so far
 abbrev pub ReachesReading : List (List ℕ) → Reading → Type 0
@@ -50,7 +52,8 @@ ReachesReading (line ∷ before) r = (q : Reading) × ReachesReading before q ×
 -- line of a trace, and for `history` where it is one that doesn't fit
 abbrev pub RefusesLine : Reading → List ℕ → List ℕ → Type 0
 RefusesLine (Scheduling p) line cause = RefusesBy refused_next p line cause
-RefusesLine (Claimed c) line cause = (((l : Line2) → SpellsTrace line l → ⊥) × (cause ≡ codes "line")) ⊎ ((l : Line2) × IsOneLine line l × MisfitsAt c l × (cause ≡ codes "history"))
+RefusesLine (Claimed c) line cause = (((l : Line2) → SpellsTrace line l → ⊥) × (cause ≡ codes "line")) ⊎ ((l : Line2) × IsOneLine line l × MisfitsAt c l ×
+    (cause ≡ codes "history"))
 
 -- a line may not follow only since it passes a limit: its event is one more than 20,000; or it is the line of a 17th
 -- node, which the header would take; or it is a claimed line that fits, after 20,000
@@ -66,7 +69,8 @@ GivesVerdict header claims found = (setting : Setting) → HasClocks header sett
 -- the input may end, and these octets are its last output: the verdict on all events, which can all be passed
 abbrev pub MayEnd : Reading → List ℕ → Type 0
 MayEnd (Scheduling p) more = ⊥
-MayEnd (Claimed c) more = (all : ClaimReaderValue) × (found : Option Failure) × (passes_all c ≡ Some all) × GivesVerdict all.header all.passed found × (more ≡ verdict_text found)
+MayEnd (Claimed c) more = (all : ClaimReaderValue) × (found : Option Failure) × (passes_all c ≡ Some all) × GivesVerdict all.header all.passed found ×
+    (more ≡ verdict_text found)
 
 -- the input may not end yet, for this cause: the schedule has not ended; or, for `history`, one of the events that are
 -- left lacks something

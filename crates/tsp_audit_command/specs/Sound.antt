@@ -28,7 +28,8 @@ abbrev pub claims_by : List Event → List ℕ → List Line → List Claim
 claims_by [] ends history = []
 claims_by (e ∷ events) [] history = []
 claims_by (e ∷ events) (n ∷ ends) history =
-    record { event = e; acts = acts_in (take (length history - first_end ends) history) } ∷ claims_by events ends (drop (length history - first_end ends) history)
+    record { event = e; acts = acts_in (take (length history - first_end ends) history) } ∷
+    claims_by events ends (drop (length history - first_end ends) history)
 
 -- what is claimed of the first events, by where the lines of each end; both are given oldest first
 abbrev pub claims_on : List Event → List ℕ → Claims → List Claim

@@ -6,7 +6,8 @@ use Rattle.tsp_audit_command.specs.ClaimReaders.{ClaimReaderValue, FitsAt, FitsH
 use Rattle.tsp_audit_command.specs.{Listings.most_nodes, Listings.refused_next, declared.check.AuditInput.AuditInput, declared.listing.Listing.Listing}
 use Rattle.tsp_audit_command.specs.Readings.{Claimed, MayEnd, ReadsOn, IsWanting, PassesLimit, ReachesReading, Reading, RefusesLine, Scheduling, nodes_at}
 use Rattle.tsp_claims.specs.Listed.{booted, up_in}
-use Rattle.tsp_schedule.specs.declared.stage.Stage.TheVariants.{Untitled as AtUntitled, Titled as AtTitled, Drifted as AtDrifted, Heading as AtHeading, Running as AtRunning}
+use Rattle.tsp_schedule.specs.declared.stage.Stage.TheVariants.{Untitled as AtUntitled, Titled as AtTitled, Drifted as AtDrifted, Heading as AtHeading}
+use Rattle.tsp_schedule.specs.declared.stage.Stage.TheVariants.{Running as AtRunning}
 use Rattle.tsp_schedule.specs.{Schedules.Progress, Stages.StageStands, Stages.Advances as AdvancesBy, declared.stage.Stage.Stage}
 use Rattle.tsp_lines.specs.{Outputs.Hands, declared.treatment.Stop.Stop}
 use Rattle.tsp_lines.specs.declared.treatment.Stop.TheVariants.{Bad, Limit, WriteFault, OutOfMemory}

@@ -1,5 +1,6 @@
 -- The earlier of two deadlines.
-use Rattle.std.proofs.Common.{refl, inl, inr, arith, ap, sym, subst, ◌∙◌, ◌≡◌, ◌≤◌, ◌⊎◌, ℕ, List, [], ◌∷◌, length, drop, Option, None, Some, IfSome, IsSome, min}
+use Rattle.std.proofs.Common.{refl, inl, inr, arith, ap, sym, subst, ◌∙◌, ◌≡◌, ◌≤◌, ◌⊎◌, ℕ, List, [], ◌∷◌, length, drop, Option, None, Some, IfSome, IsSome}
+use Rattle.std.proofs.Common.{min}
 use Rattle.std.proofs.lemmas.{Bool.cases_lt, List.drop_all}
 use Rattle.tsp_base.specs.declared.alarm.Alarm.{Alarm}
 use Rattle.tsp_base.specs.declared.alarm.Alarm.TheVariants.{Quiet, Search, Elect, Window, Probe, Close as CloseAlarm, Resolve as ResolveAlarm, Round}
@@ -28,7 +29,8 @@ least_deadline_armed d =
       one : (x y : Option ℕ) → (a : Alarm) × (x ≡ deadline d a) → (a : Alarm) × (y ≡ deadline d a) → (a : Alarm) × (earlier x y ≡ deadline d a)
       one x y p q = elim (earlier_is_one x y) [ inl e ↦ (p.0, e ∙ p.1) | inr e ↦ (q.0, e ∙ q.1) ]
 
-      two : (w x y z : Option ℕ) (a b e f : Alarm) → w ≡ deadline d a → x ≡ deadline d b → y ≡ deadline d e → z ≡ deadline d f → (k : Alarm) × (earlier (earlier w x) (earlier y z) ≡ deadline d k)
+      two : (w x y z : Option ℕ) (a b e f : Alarm) → w ≡ deadline d a → x ≡ deadline d b → y ≡ deadline d e → z ≡ deadline d f → (k : Alarm) ×
+          (earlier (earlier w x) (earlier y z) ≡ deadline d k)
       two w x y z a b e f p q r s = one (earlier w x) (earlier y z) (one w x (a, p) (b, q)) (one y z (e, r) (f, s))
 
 -- a deadline is armed for this tick or an earlier one
@@ -64,14 +66,22 @@ late d = earlier (earlier d.probe d.close) (earlier d.resolve d.round)
 pub none_later : (d : Deadlines) (a : Alarm) (t : ℕ) → deadline d a ≡ Some t → IfSome (least_deadline d) (λ l. l ≤ t) × IsSome (least_deadline d)
 none_later d a t e = is_by t (least_deadline d) (pick a e) where
   pick : (a : Alarm) → deadline d a ≡ Some t → IsBy t (least_deadline d)
-  pick Quiet e = by_left t (early d) (late d) (by_left t (earlier d.quiet d.search) (earlier d.elect d.window) (by_left t d.quiet d.search (by_some t d.quiet e)))
-  pick Search e = by_left t (early d) (late d) (by_left t (earlier d.quiet d.search) (earlier d.elect d.window) (by_right t d.quiet d.search (by_some t d.search e)))
-  pick Elect e = by_left t (early d) (late d) (by_right t (earlier d.quiet d.search) (earlier d.elect d.window) (by_left t d.elect d.window (by_some t d.elect e)))
-  pick Window e = by_left t (early d) (late d) (by_right t (earlier d.quiet d.search) (earlier d.elect d.window) (by_right t d.elect d.window (by_some t d.window e)))
-  pick Probe e = by_right t (early d) (late d) (by_left t (earlier d.probe d.close) (earlier d.resolve d.round) (by_left t d.probe d.close (by_some t d.probe e)))
-  pick CloseAlarm e = by_right t (early d) (late d) (by_left t (earlier d.probe d.close) (earlier d.resolve d.round) (by_right t d.probe d.close (by_some t d.close e)))
-  pick ResolveAlarm e = by_right t (early d) (late d) (by_right t (earlier d.probe d.close) (earlier d.resolve d.round) (by_left t d.resolve d.round (by_some t d.resolve e)))
-  pick Round e = by_right t (early d) (late d) (by_right t (earlier d.probe d.close) (earlier d.resolve d.round) (by_right t d.resolve d.round (by_some t d.round e)))
+  pick Quiet e = by_left t (early d) (late d) (by_left t (earlier d.quiet d.search) (earlier d.elect d.window)
+      (by_left t d.quiet d.search (by_some t d.quiet e)))
+  pick Search e = by_left t (early d) (late d) (by_left t (earlier d.quiet d.search) (earlier d.elect d.window)
+      (by_right t d.quiet d.search (by_some t d.search e)))
+  pick Elect e = by_left t (early d) (late d) (by_right t (earlier d.quiet d.search) (earlier d.elect d.window)
+      (by_left t d.elect d.window (by_some t d.elect e)))
+  pick Window e = by_left t (early d) (late d) (by_right t (earlier d.quiet d.search) (earlier d.elect d.window)
+      (by_right t d.elect d.window (by_some t d.window e)))
+  pick Probe e = by_right t (early d) (late d) (by_left t (earlier d.probe d.close) (earlier d.resolve d.round)
+      (by_left t d.probe d.close (by_some t d.probe e)))
+  pick CloseAlarm e = by_right t (early d) (late d) (by_left t (earlier d.probe d.close) (earlier d.resolve d.round)
+      (by_right t d.probe d.close (by_some t d.close e)))
+  pick ResolveAlarm e = by_right t (early d) (late d) (by_right t (earlier d.probe d.close) (earlier d.resolve d.round)
+      (by_left t d.resolve d.round (by_some t d.resolve e)))
+  pick Round e = by_right t (early d) (late d) (by_right t (earlier d.probe d.close) (earlier d.resolve d.round)
+      (by_right t d.resolve d.round (by_some t d.round e)))
 
 -- what holds of each list of eight
 eight : (P : List (Option ℕ) → Type 0) → ((q s e w p c r o : Option ℕ) → P (q ∷ s ∷ e ∷ w ∷ p ∷ c ∷ r ∷ o ∷ [])) → (xs : List (Option ℕ)) → length xs ≡ 8 → P xs
@@ -85,7 +95,8 @@ earlier-assoc (Some x) (Some y) None = refl
 earlier-assoc (Some x) (Some y) (Some z) = let e : min (min x y) z ≡ min x (min y z) = omega arith in ap (λ n. Some n) e
 
 -- one after the other, the eight have the same earliest one as in pairs
-in_pairs : (q s e w p c r o : Option ℕ) → earliest (q ∷ s ∷ e ∷ w ∷ p ∷ c ∷ r ∷ o ∷ []) None ≡ least_deadline (deadlines_in (q ∷ s ∷ e ∷ w ∷ p ∷ c ∷ r ∷ o ∷ []))
+in_pairs : (q s e w p c r o : Option ℕ) → earliest (q ∷ s ∷ e ∷ w ∷ p ∷ c ∷ r ∷ o ∷ []) None ≡
+    least_deadline (deadlines_in (q ∷ s ∷ e ∷ w ∷ p ∷ c ∷ r ∷ o ∷ []))
 in_pairs q s e w p c r o =
     let four = earlier (earlier q s) (earlier e w) in
     ap (λ x. earlier (earlier (earlier (earlier x p) c) r) o) (earlier-assoc (earlier q s) e w)
@@ -94,7 +105,8 @@ in_pairs q s e w p c r o =
     ∙ earlier-assoc four (earlier p c) (earlier r o)
 
 -- a walk over all eight finds the earliest one
-pub all_seen : (xs : List (Option ℕ)) (i : ℕ) (least : Option ℕ) → length xs ≡ 8 → 8 ≤ i → earliest (drop i xs) least ≡ earliest xs None → least ≡ least_deadline (deadlines_in xs)
+pub all_seen : (xs : List (Option ℕ)) (i : ℕ) (least : Option ℕ) → length xs ≡ 8 → 8 ≤ i → earliest (drop i xs) least ≡ earliest xs None → least ≡
+    least_deadline (deadlines_in xs)
 all_seen xs i least e past walk =
     let none : drop i xs ≡ [] = drop_all i xs (omega (arith, e, past)) in
     sym (ap (λ rest. earliest rest least) none) ∙ walk ∙ eight (λ xs. earliest xs None ≡ least_deadline (deadlines_in xs)) in_pairs xs e

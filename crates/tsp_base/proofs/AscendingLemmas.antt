@@ -38,7 +38,8 @@ Rise-of peer xs up =
 pub Rise-rest : {A : Type 0} {number : A → ℕ} (x : A) (xs : List A) → Rise number (x ∷ xs) → Rise number xs
 Rise-rest x xs r = record { at = λ i j d l h. r.at (suc i) (suc j) d (omega arith) (omega arith) }
 
-pub never_falls : {A : Type 0} (number : A → ℕ) (xs : List A) → Rise number xs → (i j : ℕ) (d : A) → i ≤ j → j < length xs → number (get_or xs i d) ≤ number (get_or xs j d)
+pub never_falls : {A : Type 0} (number : A → ℕ) (xs : List A) → Rise number xs → (i j : ℕ) (d : A) → i ≤ j → j < length xs →
+    number (get_or xs i d) ≤ number (get_or xs j d)
 never_falls number xs r i j d l h = elim (cases_lt i j) [
   | inl below ↦ omega (arith, r.at i j d below h)
   | inr above ↦ let e : i ≡ j = omega arith in rw e (omega arith)
@@ -61,7 +62,8 @@ pub record Parts {A : Type 0} (number : A → ℕ) (n : ℕ) (xs : List A) (i : 
   pub below : (k : ℕ) (d : A) → k < i → number (get_or xs k d) < n
   pub above : (k : ℕ) (d : A) → i ≤ k → k < length xs → n < number (get_or xs k d)
 
-pub Parts-searched : {A : Type 0} (number : A → ℕ) (n : ℕ) (xs : List A) (i : ℕ) → Rise number xs → i ≤ length xs → IsBinarySearchResult (λ (x : A). nat_cmp (number x) n) xs (Err i) → Parts number n xs i
+pub Parts-searched : {A : Type 0} (number : A → ℕ) (n : ℕ) (xs : List A) (i : ℕ) → Rise number xs → i ≤ length xs →
+    IsBinarySearchResult (λ (x : A). nat_cmp (number x) n) xs (Err i) → Parts number n xs i
 Parts-searched number n xs i rise bound found =
     let parted = found (λ a b d l h. index_rises (number (get_or xs a d)) (number (get_or xs b d)) n (never_falls number xs rise a b d l h)) in
     record {
@@ -70,7 +72,8 @@ Parts-searched number n xs i rise bound found =
     }
 
 -- so it isn't there
-pub Parts-absent : {A : Type 0} (number : A → ℕ) (n : ℕ) (xs : List A) (i : ℕ) → Parts number n xs i → (k : ℕ) (d : A) → k < length xs → number (get_or xs k d) ≢ n
+pub Parts-absent : {A : Type 0} (number : A → ℕ) (n : ℕ) (xs : List A) (i : ℕ) → Parts number n xs i → (k : ℕ) (d : A) → k < length xs →
+    number (get_or xs k d) ≢ n
 Parts-absent number n xs i parts k d h = λ e. elim (cases_lt k i) [
   | inl below ↦ absurd (omega (arith, parts.below k d below))
   | inr above ↦ absurd (omega (arith, parts.above k d above h))

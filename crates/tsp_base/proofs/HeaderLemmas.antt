@@ -16,7 +16,8 @@ All-none : {X : Type 0} (P : X → Type 0) → All P []
 All-none P = λ k d lt. absurd (omega arith)
 
 -- a header without networks has room for one node more
-pub IsHeader-more : (h : HeaderValue) (line : NodeLine) → IsHeader h → h.nets ≡ [] → length h.nodes < 64 → KeepsDrift h.drift line → IsHeader (record h { nodes = h.nodes ++ line ∷ [] })
+pub IsHeader-more : (h : HeaderValue) (line : NodeLine) → IsHeader h → h.nets ≡ [] → length h.nodes < 64 → KeepsDrift h.drift line →
+    IsHeader (record h { nodes = h.nodes ++ line ∷ [] })
 IsHeader-more h line valid none few keeps = record {
   small = valid.small;
   few = (let e : length (h.nodes ++ line ∷ []) ≡ length h.nodes + 1 = length-append h.nodes (line ∷ []) in omega (arith, e, few));
@@ -27,7 +28,8 @@ IsHeader-more h line valid none few keeps = record {
 }
 
 -- and so does one node more, or none
-pub IsHeader-maybe : (b : Bool) (h : HeaderValue) (line : NodeLine) → IsHeader h → h.nets ≡ [] → length h.nodes < 64 → KeepsDrift h.drift line → IsHeader (record h { nodes = (if b then h.nodes ++ line ∷ [] else h.nodes) })
+pub IsHeader-maybe : (b : Bool) (h : HeaderValue) (line : NodeLine) → IsHeader h → h.nets ≡ [] → length h.nodes < 64 → KeepsDrift h.drift line →
+    IsHeader (record h { nodes = (if b then h.nodes ++ line ∷ [] else h.nodes) })
 IsHeader-maybe true h line valid none few keeps = IsHeader-more h line valid none few keeps
 IsHeader-maybe false h line valid none few keeps = valid
 
@@ -44,12 +46,14 @@ of_member P n (m ∷ net) all h = elim (eqb_tells m n) [
 ]
 
 -- one network more counts for its members alone
-nets_with-by : (n : ℕ) (nets : List (List ℕ)) (net : List ℕ) (b : Bool) → has_member n net ≡ b → All (λ m. nets_with m nets < 4) net → nets_with n nets ≤ 4 → nets_with n nets + count_by (has_member n) (net ∷ []) ≤ 4
+nets_with-by : (n : ℕ) (nets : List (List ℕ)) (net : List ℕ) (b : Bool) → has_member n net ≡ b → All (λ m. nets_with m nets < 4) net → nets_with n nets ≤ 4 →
+    nets_with n nets + count_by (has_member n) (net ∷ []) ≤ 4
 nets_with-by n nets net true e free few = let lt : nets_with n nets < 4 = of_member (λ m. nets_with m nets < 4) n net free e in rw e (omega (arith, lt))
 nets_with-by n nets net false e free few = rw e (omega (arith, few))
 
 nets_with-more : (n : ℕ) (nets : List (List ℕ)) (net : List ℕ) → All (λ m. nets_with m nets < 4) net → nets_with n nets ≤ 4 → nets_with n (nets ++ net ∷ []) ≤ 4
-nets_with-more n nets net free few = rw (sum_by-append (λ x. if has_member n x then 1 else 0) nets (net ∷ [])) (nets_with-by n nets net (has_member n net) refl free few)
+nets_with-more n nets net free few = rw (sum_by-append (λ x. if has_member n x then 1 else 0) nets (net ∷ [])) (nets_with-by n nets net (has_member n net) refl
+    free few)
 
 -- where one node isn't joined, not all are
 pub all_joined-not : (n nodes : ℕ) (nets : List (List ℕ)) → n < nodes → list_any (has_member n) nets ≡ false → all_joined nodes nets ≡ false
@@ -67,7 +71,8 @@ free_test nets net = (
 )
 
 -- a header has room for one network more
-pub IsHeader-joined : (h : HeaderValue) (net : List ℕ) → IsHeader h → length h.nets < 64 → Joins (length h.nodes) h.nets net → IsHeader (record h { nets = h.nets ++ net ∷ [] })
+pub IsHeader-joined : (h : HeaderValue) (net : List ℕ) → IsHeader h → length h.nets < 64 → Joins (length h.nodes) h.nets net →
+    IsHeader (record h { nets = h.nets ++ net ∷ [] })
 IsHeader-joined h net valid few joins = record {
   small = valid.small;
   few = valid.few;
@@ -77,6 +82,7 @@ IsHeader-joined h net valid few joins = record {
   few_ports = λ n. nets_with-more n h.nets net joins.free (valid.few_ports n);
 }
 
-pub IsHeader-joined_maybe : (b : Bool) (h : HeaderValue) (net : List ℕ) → IsHeader h → length h.nets < 64 → Joins (length h.nodes) h.nets net → IsHeader (record h { nets = (if b then h.nets ++ net ∷ [] else h.nets) })
+pub IsHeader-joined_maybe : (b : Bool) (h : HeaderValue) (net : List ℕ) → IsHeader h → length h.nets < 64 → Joins (length h.nodes) h.nets net →
+    IsHeader (record h { nets = (if b then h.nets ++ net ∷ [] else h.nets) })
 IsHeader-joined_maybe true h net valid few joins = IsHeader-joined h net valid few joins
 IsHeader-joined_maybe false h net valid few joins = valid

@@ -2,7 +2,9 @@
 use Rattle.std.proofs.Common.{◌≡◌, ◌<◌, ◌≤◌, lit<, zero, suc, slice_index_or, ℕ, length, arith, rules, ◌+◌, ◌-◌, List, [], ◌∷◌, refl, Some}
 use Rattle.std.proofs.lemmas.Bool.Decides.{nat_tests}
 use denote.Enum.Declared.{tag_of}
-use Rattle.tsp_base.specs.declared.kind.Kind.TheVariants.{AdjTime, Ack, MasterReq, MasterAck, SetTime, MasterUp, SlaveUp, Election, Accept, Refuse, Conflict, Resolve as ResolveKind, Quit as QuitKind, Date, DateReq, DateAck, TraceOn, TraceOff, Msite, MsiteReq, Test, SetDate, SetDateReq, Loop as LoopKind}
+use Rattle.tsp_base.specs.declared.kind.Kind.TheVariants.{AdjTime, Ack, MasterReq, MasterAck, SetTime, MasterUp, SlaveUp, Election, Accept, Refuse, Conflict}
+use Rattle.tsp_base.specs.declared.kind.Kind.TheVariants.{Resolve as ResolveKind, Quit as QuitKind, Date, DateReq, DateAck, TraceOn, TraceOff, Msite, MsiteReq}
+use Rattle.tsp_base.specs.declared.kind.Kind.TheVariants.{Test, SetDate, SetDateReq, Loop as LoopKind}
 use Rattle.tsp_base.specs.{Words.kind_number, Words.kind_of, Words.kinds, contracts.kind.Kind.the_type, declared.kind.Kind.Kind}
 
 pub number_of_tag : (k : Kind) → tag_of the_type k + 1 ≡ kind_number k

@@ -6,7 +6,8 @@ use Rattle.tsp_base.specs.Words.{Past, Performs, Keeps, Row, grown, placed, noth
 use Rattle.tsp_base.proofs.RowLemmas.{added_append, for_each-more}
 
 -- one call after another
-pub Performs_then : {S T U : Type 0} {p : Past → S → Type 0} {q : Past → T → Type 0} {w : Past → U → Type 0} {r s : Row} {x : ℕ} {port : Port} {first : S} {middle : T} {last : U} {old mid new : List Placed} →
+pub Performs_then : {S T U : Type 0} {p : Past → S → Type 0} {q : Past → T → Type 0} {w : Past → U → Type 0} {r s : Row} {x : ℕ} {port : Port} {first : S}
+    {middle : T} {last : U} {old mid new : List Placed} →
     Performs p q r x port first middle old mid → Performs q w s x port middle last mid new → Performs p w (r followed_by s) x port first last old new
 unfolding ◌followed_by◌
 Performs_then {r = r} {s = s} {x = x} {port = port} {old = old} a b = record {
@@ -18,48 +19,60 @@ Performs_then {r = r} {s = s} {x = x} {port = port} {old = old} a b = record {
 }
 
 -- no call
-pub Performs_nothing : {S : Type 0} {p : Past → S → Type 0} {x : ℕ} {port : Port} {state : S} {old : List Placed} → Performs p p nothing x port state state old old
+pub Performs_nothing : {S : Type 0} {p : Past → S → Type 0} {x : ℕ} {port : Port} {state : S} {old : List Placed} →
+    Performs p p nothing x port state state old old
 unfolding nothing
 Performs_nothing {old = old} = record { acts = λ past h. sym (append-nil old); stands = λ past h. h }
 
 -- a call for what a fact is
-pub Performs_reading : {A S T : Type 0} {p : Past → S → Type 0} {q : Past → T → Type 0} (fact : ℕ → Past → A) (rows : A → Row) (a : A) {x : ℕ} {port : Port} {before : S} {after : T} {old new : List Placed} →
-    ((past : Past) → p past before → fact x past ≡ a) → Performs p q (rows a) x port before after old new → Performs p q (reading fact rows) x port before after old new
+pub Performs_reading : {A S T : Type 0} {p : Past → S → Type 0} {q : Past → T → Type 0} (fact : ℕ → Past → A) (rows : A → Row) (a : A) {x : ℕ} {port : Port}
+    {before : S} {after : T} {old new : List Placed} →
+    ((past : Past) → p past before → fact x past ≡ a) → Performs p q (rows a) x port before after old new →
+    Performs p q (reading fact rows) x port before after old new
 unfolding reading
 Performs_reading fact rows a t d = record { acts = λ past h. rw (t past h) (d.acts past h); stands = λ past h. rw (t past h) (d.stands past h) }
 
 -- a call on the first of two ways
-pub Performs_then_part : {S T : Type 0} {p : Past → S → Type 0} {q : Past → T → Type 0} (test : ℕ → Past → Bool) {r : Row} (s : Row) {x : ℕ} {port : Port} {before : S} {after : T} {old new : List Placed} →
-    ((past : Past) → p past before → test x past ≡ true) → Performs p q r x port before after old new → Performs p q (either_by test r s) x port before after old new
+pub Performs_then_part : {S T : Type 0} {p : Past → S → Type 0} {q : Past → T → Type 0} (test : ℕ → Past → Bool) {r : Row} (s : Row) {x : ℕ} {port : Port}
+    {before : S} {after : T} {old new : List Placed} →
+    ((past : Past) → p past before → test x past ≡ true) → Performs p q r x port before after old new →
+    Performs p q (either_by test r s) x port before after old new
 unfolding either_by
 Performs_then_part test s t d = record { acts = λ past h. rw (t past h) (d.acts past h); stands = λ past h. rw (t past h) (d.stands past h) }
 
 -- a call on the second of two ways
-pub Performs_else_part : {S T : Type 0} {p : Past → S → Type 0} {q : Past → T → Type 0} (test : ℕ → Past → Bool) (r : Row) {s : Row} {x : ℕ} {port : Port} {before : S} {after : T} {old new : List Placed} →
-    ((past : Past) → p past before → test x past ≡ false) → Performs p q s x port before after old new → Performs p q (either_by test r s) x port before after old new
+pub Performs_else_part : {S T : Type 0} {p : Past → S → Type 0} {q : Past → T → Type 0} (test : ℕ → Past → Bool) (r : Row) {s : Row} {x : ℕ} {port : Port}
+    {before : S} {after : T} {old new : List Placed} →
+    ((past : Past) → p past before → test x past ≡ false) → Performs p q s x port before after old new →
+    Performs p q (either_by test r s) x port before after old new
 unfolding either_by
 Performs_else_part test r t d = record { acts = λ past h. rw (t past h) (d.acts past h); stands = λ past h. rw (t past h) (d.stands past h) }
 
 -- calls for some, and then for one more
-pub Performs_each_more : {A S T U : Type 0} {p : Past → S → Type 0} {q : Past → T → Type 0} {w : Past → U → Type 0} (r : A → Row) (done : List A) (next : A) {x : ℕ} {port : Port} {first : S} {middle : T} {last : U} {old mid new : List Placed} →
-    Performs p q (for_each r done) x port first middle old mid → Performs q w (r next) x port middle last mid new → Performs p w (for_each r (done ++ next ∷ [])) x port first last old new
+pub Performs_each_more : {A S T U : Type 0} {p : Past → S → Type 0} {q : Past → T → Type 0} {w : Past → U → Type 0} (r : A →
+    Row) (done : List A) (next : A) {x : ℕ} {port : Port} {first : S} {middle : T} {last : U} {old mid new : List Placed} →
+    Performs p q (for_each r done) x port first middle old mid → Performs q w (r next) x port middle last mid new →
+    Performs p w (for_each r (done ++ next ∷ [])) x port first last old new
 Performs_each_more r done next {x = x} a b = record {
   acts = λ past h. rw (for_each-more r done next x past) ((Performs_then a b).acts past h);
   stands = λ past h. rw (for_each-more r done next x past) ((Performs_then a b).stands past h);
 }
 
 -- the same acts, by another row
-pub Performs_same : {S T : Type 0} {p : Past → S → Type 0} {q : Past → T → Type 0} {r : Row} (s : Row) {x : ℕ} {port : Port} {before : S} {after : T} {old new : List Placed} →
+pub Performs_same : {S T : Type 0} {p : Past → S → Type 0} {q : Past → T → Type 0} {r : Row} (s : Row) {x : ℕ} {port : Port} {before : S} {after : T}
+    {old new : List Placed} →
     ((past : Past) → p past before → r x past ≡ s x past) → Performs p q r x port before after old new → Performs p q s x port before after old new
 Performs_same s t d = record { acts = λ past h. rw (sym (t past h)) (d.acts past h); stands = λ past h. rw (sym (t past h)) (d.stands past h) }
 
 -- a call that is known of more pasts than are asked for
-pub Performs_from : {R S T : Type 0} {p : Past → S → Type 0} {q : Past → T → Type 0} {w : Past → R → Type 0} {r : Row} {x : ℕ} {port : Port} {first : R} {before : S} {after : T} {old new : List Placed} →
+pub Performs_from : {R S T : Type 0} {p : Past → S → Type 0} {q : Past → T → Type 0} {w : Past → R → Type 0} {r : Row} {x : ℕ} {port : Port} {first : R}
+    {before : S} {after : T} {old new : List Placed} →
     ((past : Past) → w past first → p past before) → Performs p q r x port before after old new → Performs w q r x port first after old new
 Performs_from k d = record { acts = λ past h. d.acts past (k past h); stands = λ past h. d.stands past (k past h) }
 
 -- a call after which less is asked for than is known
-pub Performs_to : {S T U : Type 0} {p : Past → S → Type 0} {q : Past → T → Type 0} {w : Past → U → Type 0} {r : Row} {x : ℕ} {port : Port} {before : S} {after : T} {last : U} {old new : List Placed} →
+pub Performs_to : {S T U : Type 0} {p : Past → S → Type 0} {q : Past → T → Type 0} {w : Past → U → Type 0} {r : Row} {x : ℕ} {port : Port} {before : S}
+    {after : T} {last : U} {old new : List Placed} →
     ((past : Past) → q past after → w past last) → Performs p q r x port before after old new → Performs p w r x port before last old new
 Performs_to {r = r} {x = x} k d = record { acts = d.acts; stands = λ past h. k (grown x past (r x past)) (d.stands past h) }
 
@@ -72,7 +85,8 @@ pub Keeps_then : {T : Type 0} (also : Past → T → Type 0) (r s : Row) → Kee
 unfolding ◌followed_by◌
 Keeps_then also r s p q x past state h = rw added_append (q x (grown x past (r x past)) state (p x past state h))
 
-pub Keeps_reading : {A T : Type 0} (also : Past → T → Type 0) (fact : ℕ → Past → A) (rows : A → Row) → ((a : A) → Keeps also (rows a)) → Keeps also (reading fact rows)
+pub Keeps_reading : {A T : Type 0} (also : Past → T → Type 0) (fact : ℕ → Past → A) (rows : A → Row) → ((a : A) → Keeps also (rows a)) →
+    Keeps also (reading fact rows)
 unfolding reading
 Keeps_reading also fact rows k x past state h = k (fact x past) x past state h
 

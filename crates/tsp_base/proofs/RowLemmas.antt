@@ -1,5 +1,6 @@
 -- Laws of rows.
-use Rattle.std.proofs.Common.{sym, ◌∙◌, ap, append_assoc, append-nil, eq-eqb, ◌≡◌, ◌≢◌, ◌==◌, ℕ, Bool, true, false, not, if◌then◌else◌, List, [], ◌∷◌, ◌++◌, refl}
+use Rattle.std.proofs.Common.{sym, ◌∙◌, ap, append_assoc, append-nil, eq-eqb, ◌≡◌, ◌≢◌, ◌==◌, ℕ, Bool, true, false, not, if◌then◌else◌, List, [], ◌∷◌, ◌++◌}
+use Rattle.std.proofs.Common.{refl}
 use Rattle.std.proofs.lemmas.Bool.{ne_eqb}
 use Rattle.tsp_base.specs.declared.{act.Act.Act, place.PeerId.PeerId}
 use Rattle.tsp_base.specs.Words.{Step, Seen, Here, Acts, Past, Row, added, grown, nothing, ◌followed_by◌, for_each, others}
@@ -32,7 +33,8 @@ for_each-more r (q ∷ ps) p x past =
     ∙ sym (append_assoc here rest (r p x (grown x (grown x past here) rest)))
     ∙ ap (λ s. (here ++ rest) ++ r p x (record past { seen = s })) (sym (added_append past.step x here rest past.seen))
 
-cons-more : (b : Bool) (q : PeerId) (more rest tail : List PeerId) → more ≡ rest ++ tail → (if not b then q ∷ more else more) ≡ (if not b then q ∷ rest else rest) ++ tail
+cons-more : (b : Bool) (q : PeerId) (more rest tail : List PeerId) → more ≡ rest ++ tail → (if not b then q ∷ more else more) ≡
+    (if not b then q ∷ rest else rest) ++ tail
 cons-more true q more rest tail e = e
 cons-more false q more rest tail e = ap (λ zs. q ∷ zs) e
 

@@ -4,7 +4,8 @@ use Rattle.std.proofs.lemmas.Bool.{and_right}
 use Rattle.tsp_base.specs.declared.act.Act.{Act, TheVariants.Post, TheVariants.Acked, TheVariants.Gave}
 use Rattle.tsp_base.specs.declared.{datagram.Datagram.TheVariants.Message, place.PeerId.PeerId, place.Place.Place}
 use Rattle.tsp_base.specs.declared.place.Place.TheVariants.{Peer, Stranger}
-use Rattle.tsp_base.specs.Words.{Step, Acts, Seen, Here, did_of, MessageValue, acting, again, corrects_in, message_of, sending_of, is_numbered, is_correction, open_send, sending_at, open_to, posts_of, last_post, last_number, number_of, message_at, last_to, is_acknowledged, corrects_by}
+use Rattle.tsp_base.specs.Words.{Step, Acts, Seen, Here, did_of, MessageValue, acting, again, corrects_in, message_of, sending_of, is_numbered, is_correction}
+use Rattle.tsp_base.specs.Words.{open_send, sending_at, open_to, posts_of, last_post, last_number, number_of, message_at, last_to, is_acknowledged, corrects_by}
 
 -- an act here, in this step and at this tick
 abbrev pub seen_act : Step → ℕ → Act → Seen
@@ -19,7 +20,8 @@ sending_at-more (s ∷ before) n = more (message_of (did_of s).deed) (did_of s).
 
 -- the first post of a numbered send
 pub open_send-begins : (step : Step) (x : ℕ) (p q : PeerId) (m : MessageValue) (seen : List Seen) → is_numbered m.kind ≡ true → acting seen ≡ true →
-    open_send p (seen_act step x (Post (Peer q) (Message m)) ∷ seen) ≡ (if q.0 == p.0 then Some (record { began = x; posts = 1; message = m }) else open_send p seen)
+    open_send p (seen_act step x (Post (Peer q) (Message m)) ∷ seen) ≡ (if q.0 == p.0 then Some (record { began = x; posts = 1; message = m }) else open_send p
+    seen)
 open_send-begins step x p q m seen numbered acts = rw (numbered, acts) (by_case (q.0 == p.0)) where
   by_case : (b : Bool) →
       sending_at (if b && true then seen_act step x (Post (Peer q) (Message m)) ∷ seen else open_to p seen) (if b && true then 1 else posts_of p seen)
@@ -32,7 +34,8 @@ pub open_send-repeats : (step : Step) (x : ℕ) (p q : PeerId) (m : MessageValue
     open_send p (seen_act step x (Post (Peer q) (Message m)) ∷ seen) ≡ (if q.0 == p.0 then again (open_send p seen) else open_send p seen)
 open_send-repeats step x p q m seen numbered acts = rw (numbered, acts) (by_case (q.0 == p.0)) where
   by_case : (b : Bool) →
-      sending_at (if b && false then seen_act step x (Post (Peer q) (Message m)) ∷ seen else open_to p seen) (if b && true then posts_of p seen + 1 else posts_of p seen)
+      sending_at (if b && false then seen_act step x (Post (Peer q) (Message m)) ∷
+      seen else open_to p seen) (if b && true then posts_of p seen + 1 else posts_of p seen)
       ≡ (if b then again (open_send p seen) else open_send p seen)
   by_case true = sending_at-more (open_to p seen) (posts_of p seen)
   by_case false = refl
@@ -76,7 +79,8 @@ pub last_number-begins : (step : Step) (x : ℕ) (p q : PeerId) (m : MessageValu
     last_number p (seen_act step x (Post (Peer q) (Message m)) ∷ seen) ≡ (if q.0 == p.0 then m.number else last_number p seen)
 last_number-begins step x p q m seen corrects acts = rw (corrects, acts) (by_case (q.0 == p.0)) where
   by_case : (b : Bool) →
-      number_of (message_at (if b && true then seen_act step x (Post (Peer q) (Message m)) ∷ seen else last_to p seen)) ≡ (if b then m.number else last_number p seen)
+      number_of (message_at (if b && true then seen_act step x (Post (Peer q) (Message m)) ∷ seen else last_to p seen)) ≡
+      (if b then m.number else last_number p seen)
   by_case true = refl
   by_case false = refl
 
@@ -93,7 +97,8 @@ is_acknowledged-begins step x p q m seen corrects acts = rw (corrects, acts) (by
   by_case true = refl
   by_case false = refl
 
-pub is_acknowledged-other : (step : Step) (x : ℕ) (p : PeerId) (to : Place) (m : MessageValue) (seen : List Seen) → (is_correction m.kind && acting seen) ≡ false →
+pub is_acknowledged-other : (step : Step) (x : ℕ) (p : PeerId) (to : Place) (m : MessageValue) (seen : List Seen) → (is_correction m.kind && acting seen) ≡
+    false →
     is_acknowledged p (seen_act step x (Post to (Message m)) ∷ seen) ≡ is_acknowledged p seen
 is_acknowledged-other step x p (Peer q) m seen other = rw (other, and_right (q.0 == p.0) false refl) refl
 is_acknowledged-other step x p Stranger m seen other = refl

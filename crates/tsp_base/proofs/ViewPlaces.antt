@@ -50,7 +50,8 @@ pub on_port : (q : Port) (t : List Line) (d : Did) (vs : List Seen) → is_share
 on_port q t d vs own w =
     let s = shown q t (Here d) vs w in
     let e = here-is _ s.line.did d s.is in
-    let same : s.line.port ≡ q = port-same s.line.port q (or-false (s.line.port.0 == q.0) (is_shared s.line.did.deed) e.0 (subst (λ c. is_shared c.deed ≡ false) (sym e.1) own)) in
+    let same : s.line.port ≡ q = port-same s.line.port q (or-false (s.line.port.0 == q.0) (is_shared s.line.did.deed) e.0 (subst (λ c. is_shared c.deed ≡
+    false) (sym e.1) own)) in
     record { rest = s.rest; place = subst (λ (l : Line). Within (l ∷ s.rest) t) (line-is s.line q d same e.1) s.place; before = s.before }
   where
     line-is : (l : Line) (q : Port) (d : Did) → l.port ≡ q → l.did ≡ d → l ≡ record { port = q; did = d }

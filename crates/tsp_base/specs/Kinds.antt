@@ -2,10 +2,13 @@
 use Rattle.std.specs.Prelude.{ℕ, ◌-◌, Bool, true, false, List, [], ◌∷◌, None, Some, codes, slice_index_or, if◌then◌else◌, nat_le, ◌&&◌}
 use Rattle.std.specs.declared.option.Option.{Option}
 use Rattle.tsp_base.specs.declared.kind.Kind.{Kind}
-use Rattle.tsp_base.specs.declared.kind.Kind.TheVariants.{AdjTime, Ack, MasterReq, MasterAck, SetTime, MasterUp, SlaveUp, Election, Accept, Refuse, Conflict, Resolve, Quit, Date, DateReq, DateAck, TraceOn, TraceOff, Msite, MsiteReq, Test, SetDate, SetDateReq, Loop}
+use Rattle.tsp_base.specs.declared.kind.Kind.TheVariants.{AdjTime, Ack, MasterReq, MasterAck, SetTime, MasterUp, SlaveUp, Election, Accept, Refuse, Conflict}
+use Rattle.tsp_base.specs.declared.kind.Kind.TheVariants.{Resolve, Quit, Date, DateReq, DateAck, TraceOn, TraceOff, Msite, MsiteReq, Test, SetDate, SetDateReq}
+use Rattle.tsp_base.specs.declared.kind.Kind.TheVariants.{Loop}
 
 abbrev pub kinds : List Kind
-kinds = AdjTime ∷ Ack ∷ MasterReq ∷ MasterAck ∷ SetTime ∷ MasterUp ∷ SlaveUp ∷ Election ∷ Accept ∷ Refuse ∷ Conflict ∷ Resolve ∷ Quit ∷ Date ∷ DateReq ∷ DateAck ∷ TraceOn ∷ TraceOff ∷ Msite ∷ MsiteReq ∷ Test ∷ SetDate ∷ SetDateReq ∷ Loop ∷ []
+kinds = AdjTime ∷ Ack ∷ MasterReq ∷ MasterAck ∷ SetTime ∷ MasterUp ∷ SlaveUp ∷ Election ∷ Accept ∷ Refuse ∷ Conflict ∷ Resolve ∷ Quit ∷ Date ∷ DateReq ∷
+    DateAck ∷ TraceOn ∷ TraceOff ∷ Msite ∷ MsiteReq ∷ Test ∷ SetDate ∷ SetDateReq ∷ Loop ∷ []
 
 -- the kind with this number
 unfoldable pub kind_of : ℕ → Option Kind

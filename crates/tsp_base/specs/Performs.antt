@@ -3,7 +3,8 @@ use Rattle.std.specs.Prelude.{◌≡◌, ℕ, List, ◌++◌}
 use Rattle.tsp_base.specs.{History.Past, Rows.Row, Rows.grown, Rows.placed, declared.act.Placed.Placed, declared.place.Port.Port}
 
 -- for every past that the state before the call stood for, the row's acts were put, and the state after it stands for the past with these acts
-pub record Performs {S T : Type 0} (fits : Past → S → Type 0) (then_fits : Past → T → Type 0) (row : Row) (x : ℕ) (port : Port) (before : S) (after : T) (old new : List Placed) : Type 0 where
+pub record Performs {S T : Type 0} (fits : Past → S → Type 0) (then_fits : Past → T → Type 0) (row : Row) (x : ℕ) (port : Port) (before : S) (after : T)
+    (old new : List Placed) : Type 0 where
   pub acts : (past : Past) → fits past before → new ≡ old ++ placed port (row x past)
   pub stands : (past : Past) → fits past before → then_fits (grown x past (row x past)) after
 

@@ -121,7 +121,14 @@ best_after p (Acts (Become r)) here before was = None
 best_after p (Acts (Arm Close at)) here before was = None
 best_after p (Acts (Sample q counter diff err ticket)) here before was =
     if q.0 == p.0
-    then Some (better was (record { counter = counter; diff = diff; err = err; ticket = ticket; trip = target_there here -ℤ target_there (exchange p counter before); place = here }))
+    then Some (better was (record {
+      counter = counter;
+      diff = diff;
+      err = err;
+      ticket = ticket;
+      trip = target_there here -ℤ target_there (exchange p counter before);
+      place = here;
+    }))
     else was
 best_after p _ here before was = was
 

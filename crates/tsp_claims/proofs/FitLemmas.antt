@@ -23,13 +23,16 @@ module _ (fits : Event → Tally → Line2 → Type 0) (e : Event) (t : Tally) (
   pub left-next : (l : Line2) → i < length lines → get_or lines i l ≡ l → fits e t l → Left fits e (counted t l.placed.act) (i + 1) lines
   left-next l below is f = record {
     fit = λ h. left.fit (subst (λ ls. AllFit fits e t ls) (sym (left-is l below is)) (f, h));
-    misfit = λ j m. subst (λ k. Misfits fits e untold lines k) (omega arith) (left.misfit (suc j) (subst (λ ls. Misfits fits e t ls (suc j)) (sym (left-is l below is)) (f, m)));
+    misfit = λ j m. subst (λ k. Misfits fits e untold lines k) (omega arith) (left.misfit (suc j)
+        (subst (λ ls. Misfits fits e t ls (suc j)) (sym (left-is l below is)) (f, m)));
   }
 
   -- one that doesn't is the first
   pub left-misfits : (l : Line2) → i < length lines → get_or lines i l ≡ l → ¬ fits e t l → Misfits fits e untold lines i
-  left-misfits l below is f = subst (λ k. Misfits fits e untold lines k) (omega arith) (left.misfit zero (subst (λ ls. Misfits fits e t ls zero) (sym (left-is l below is)) f))
+  left-misfits l below is f = subst (λ k. Misfits fits e untold lines k) (omega arith)
+      (left.misfit zero (subst (λ ls. Misfits fits e t ls zero) (sym (left-is l below is)) f))
 
   -- all fit, and something lacks
   pub left-lacks : length lines ≤ i → lacks e t ≡ true → Misfits fits e untold lines i
-  left-lacks past some = subst (λ k. Misfits fits e untold lines k) (omega arith) (left.misfit zero (subst (λ ls. Misfits fits e t ls zero) (sym (drop_all i lines past)) (some, refl)))
+  left-lacks past some = subst (λ k. Misfits fits e untold lines k) (omega arith)
+      (left.misfit zero (subst (λ ls. Misfits fits e t ls zero) (sym (drop_all i lines past)) (some, refl)))

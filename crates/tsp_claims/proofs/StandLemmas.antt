@@ -10,7 +10,8 @@ use Rattle.tsp_history.specs.Histories.{history_of}
 use Rattle.tsp_base.specs.declared.trace.Line2.{Line2}
 
 -- what holds of the fields holds of the claims that they stand for
-pub of-fields : (header : HeaderValue) (claims : List Claim) (c : Claims) → ClaimsStand header claims c → (P : HeaderValue → List Claimed → (ℕ → Bool) → ℕ → Type 0) →
+pub of-fields : (header : HeaderValue) (claims : List Claim) (c : Claims) → ClaimsStand header claims c → (P : HeaderValue → List Claimed → (ℕ → Bool) → ℕ →
+    Type 0) →
     P c.header c.posts.items (up_in c.up.items) (c.events + 1) → P header (posts_of header claims) (booted (events_of claims)) (length claims + 1)
 of-fields header claims c s P h =
     subst (λ n. P header (posts_of header claims) (booted (events_of claims)) (n + 1)) s.count
@@ -19,7 +20,8 @@ of-fields header claims c s P h =
     (subst (λ k. P k c.posts.items (up_in c.up.items) (c.events + 1)) s.header_is h)))
 
 -- claims that stay as they were stand for what they stood for
-pub ClaimsStand-stays : (header : HeaderValue) (claims : List Claim) (old new : Claims) → StaysSame old new → ClaimsStand header claims old → ClaimsStand header claims new
+pub ClaimsStand-stays : (header : HeaderValue) (claims : List Claim) (old new : Claims) → StaysSame old new → ClaimsStand header claims old →
+    ClaimsStand header claims new
 ClaimsStand-stays header claims old new k s = record {
   header_is = k.header_is ∙ s.header_is;
   count = k.events_are ∙ s.count;
@@ -39,12 +41,15 @@ pub none-up : (count : ℕ) → up_in (replicate count false) ≡ booted []
 none-up count = fun_ext (λ n. up_in-none count n)
 
 -- claims that were joined by the step of an event stand for it too
-pub ClaimsStand-taken : (header : HeaderValue) (claims : List Claim) (e : Event) (lines : List Line2) (held : HeldStep) (old mid new : Claims) → StaysSame old mid → JoinsEvent e held (length lines) mid new →
-    HoldsStep old.header (old.events + 1) (step_of old.header old.posts.items (up_in old.up.items) e (acts_of lines)) (acts_of lines) held → ClaimsStand header claims old → ClaimsStand header (claim_of e lines ∷ claims) new
+pub ClaimsStand-taken : (header : HeaderValue) (claims : List Claim) (e : Event) (lines : List Line2) (held : HeldStep) (old mid new : Claims) →
+    StaysSame old mid → JoinsEvent e held (length lines) mid new →
+    HoldsStep old.header (old.events + 1) (step_of old.header old.posts.items (up_in old.up.items) e (acts_of lines)) (acts_of lines) held →
+    ClaimsStand header claims old → ClaimsStand header (claim_of e lines ∷ claims) new
 ClaimsStand-taken header claims e lines held old mid new stays joins holds stood =
     let acts : List Placed = acts_of lines in
     let step : Option Step = step_of header (posts_of header claims) (booted (events_of claims)) e acts in
-    let is : HoldsStep header (length claims + 1) step acts held = of-fields header claims old stood (λ k ps u n. HoldsStep k n (step_of k ps u e acts) acts held) holds in
+    let is : HoldsStep header (length claims + 1) step acts held = of-fields header claims old stood (λ k ps u n. HoldsStep k n (step_of k ps u e acts) acts
+    held) holds in
     let s : ClaimsStand header claims mid = ClaimsStand-stays header claims old mid stays stood in
     let one_more : length claims + 1 ≡ length (claim_of e lines ∷ claims) = omega arith in
     record {

@@ -22,11 +22,13 @@ acts-out header None h = refl
 acts-out header (Some step) h = absurd h
 
 -- the acts that are left, one line on
-pub acts-next : (lines : List Line2) (i : ℕ) (l : Line2) → i < length lines → get_or lines i l ≡ l → acts_of (drop i lines) ≡ (l.placed ∷ acts_of (drop (i + 1) lines))
+pub acts-next : (lines : List Line2) (i : ℕ) (l : Line2) → i < length lines → get_or lines i l ≡ l → acts_of (drop i lines) ≡
+    (l.placed ∷ acts_of (drop (i + 1) lines))
 acts-next lines i l below is = ap (λ ls. acts_of ls) (drop_more lines i l below) ∙ ap (λ (k : Line2). k.placed ∷ acts_of (drop (i + 1) lines)) is
 
 -- noting the line of an act leaves one act less to be joined
-pub note-next : (s : Step) (x : ℕ) (lines : List Line2) (i : ℕ) (l : Line2) (k : Line) (h : List Line) → i < length lines → get_or lines i l ≡ l → k ≡ line_in s x l.placed.port (Acts l.placed.act) →
+pub note-next : (s : Step) (x : ℕ) (lines : List Line2) (i : ℕ) (l : Line2) (k : Line) (h : List Line) → i < length lines → get_or lines i l ≡ l → k ≡
+    line_in s x l.placed.port (Acts l.placed.act) →
     joined s x (acts_of (drop (i + 1) lines)) (k ∷ h) ≡ joined s x (acts_of (drop i lines)) h
 note-next s x lines i l k h below is same =
     ap (λ (m : Line). joined s x (acts_of (drop (i + 1) lines)) (m ∷ h)) same ∙ sym (ap (λ acts. joined s x acts h) (acts-next lines i l below is))

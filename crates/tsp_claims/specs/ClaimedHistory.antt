@@ -80,7 +80,8 @@ claims_of_step event (Some step) acts = posts_in event step acts
 -- the claimed posts, in their order
 abbrev pub posts_of : HeaderValue → List Claim → List Claimed
 posts_of header [] = []
-posts_of header (c ∷ before) = posts_of header before ++ claims_of_step (length before + 1) (step_of header (posts_of header before) (booted (events_of before)) c.event c.acts) c.acts
+posts_of header (c ∷ before) = posts_of header before ++ claims_of_step (length before + 1) (step_of header (posts_of header before) (booted (events_of before))
+    c.event c.acts) c.acts
 
 -- a history, and then a step with its mark and these acts; without a step nothing
 abbrev pub joins_acts : HeaderValue → Option Step → List Placed → List Line → List Line
@@ -90,7 +91,8 @@ joins_acts header (Some step) acts history = stepped step (step_tick header step
 -- the claimed history
 abbrev pub claimed : HeaderValue → List Claim → List Line
 claimed header [] = []
-claimed header (c ∷ before) = joins_acts header (step_of header (posts_of header before) (booted (events_of before)) c.event c.acts) c.acts (claimed header before)
+claimed header (c ∷ before) = joins_acts header (step_of header (posts_of header before) (booted (events_of before)) c.event c.acts) c.acts
+    (claimed header before)
 
 -- what a node's clock shows more than its tick, in microseconds: its wall, and the amounts of its claimed Corrects
 -- since its last Boot

@@ -60,13 +60,14 @@ ActMayStand header posts up e t port (Took from taken) = (wants_boot e t ≡ fal
 ActMayStand header posts up e t port _ = wants_boot e t ≡ false
 
 -- a line fits as the next one of the event with this number, in this step, behind those that were counted
-pub record LineMayStand (header : HeaderValue) (posts : List Claimed) (up : ℕ → Bool) (number : ℕ) (e : Event) (t : Tally) (step : Step) (l : Line2) : Type 0 where
-  pub event : l.event ≡ number
-  pub node : l.node ≡ step.node
-  pub tick : l.tick ≡ step_tick header step
-  pub port : l.placed.port.0 < length (ports_on step.node (networks header))
-  pub number_fits : NumberFits (length posts + t.posts) l.placed.act l.number
-  pub act : ActMayStand header posts up e t l.placed.port l.placed.act
+pub record LineMayStand (header : HeaderValue) (posts : List Claimed) (up : ℕ → Bool) (number : ℕ) (e : Event) (t : Tally) (step : Step) (l : Line2) : Type 0
+  where
+    pub event : l.event ≡ number
+    pub node : l.node ≡ step.node
+    pub tick : l.tick ≡ step_tick header step
+    pub port : l.placed.port.0 < length (ports_on step.node (networks header))
+    pub number_fits : NumberFits (length posts + t.posts) l.placed.act l.number
+    pub act : ActMayStand header posts up e t l.placed.port l.placed.act
 
 -- the same, where the event lets somebody act; where it doesn't no line fits
 abbrev pub LineFitsIn : HeaderValue → List Claimed → (ℕ → Bool) → ℕ → Event → Tally → Option Step → Line2 → Type 0

@@ -1,5 +1,6 @@
 -- From what a replay comes to, to the headline.
-use Rattle.std.proofs.Common.{sym, ap, ◌∙◌, inl, inr, subst, append-nil, ◌≡◌, ℕ, ◌==◌, Bool, true, false, if◌then◌else◌, List, [], ◌∷◌, ◌++◌, reverse, Option, All}
+use Rattle.std.proofs.Common.{sym, ap, ◌∙◌, inl, inr, subst, append-nil, ◌≡◌, ℕ, ◌==◌, Bool, true, false, if◌then◌else◌, List, [], ◌∷◌, ◌++◌, reverse, Option}
+use Rattle.std.proofs.Common.{All}
 use Rattle.std.proofs.lemmas.List.Elements.{All-cons, All-nil}
 use Rattle.hex.proofs.HexLemmas.{decode_of-ok}
 use Rattle.tsp_base.specs.Words.{HeaderValue}
@@ -27,7 +28,8 @@ spelled_range line (BootAt at node word) s = s.0.2
 spelled_range line (Bytes at node port from octets) s = (decode_of-ok s.1.0 octets s.1.1).3
 spelled_range line _ s = tt
 
-run_valid : (header : HeaderValue) (events : List Event) (line : List ℕ) (to : Progress) → Valid header events × All IsInRange events → RunsOn header events line to → KeepsValid to
+run_valid : (header : HeaderValue) (events : List Event) (line : List ℕ) (to : Progress) → Valid header events × All IsInRange events →
+    RunsOn header events line to → KeepsValid to
 run_valid header events line to v (inl g) = subst (λ p. KeepsValid p) (sym g.3) ((g.2, v.0), All-cons IsInRange g.0 events (spelled_range line g.0 g.1) v.1)
 run_valid header events line to v (inr g) = subst (λ p. KeepsValid p) (sym g.1) v
 
@@ -50,13 +52,24 @@ Reaches-valid [] p r = subst (λ q. KeepsValid q) (sym r) tt
 Reaches-valid (line ∷ before) p r = goes_valid r.0 line p (Reaches-valid before r.0 r.1) r.2
 
 done_prints : (p : Progress) (input left written now : Option (List ℕ)) (lines : List (List ℕ)) (octets text said : List ℕ)
-    → All NoFeed lines → Reaches (reverse lines) p → text ≡ written_at p → IsEnded p → said ≡ [] → AreLines octets lines → IsInput MOST_INPUT input octets → IsOver left → Grows written now (text ++ said) → PrintsHistory input left written now
+    → All NoFeed lines → Reaches (reverse lines) p → text ≡ written_at p → IsEnded p → said ≡ [] → AreLines octets lines → IsInput MOST_INPUT input octets →
+    IsOver left → Grows written now (text ++ said) → PrintsHistory input left written now
 done_prints (Ended header events) input left written now lines octets text said n r t e s a i o g =
     let valid = Reaches-valid (reverse lines) (Ended header events) r in
     let all : text ++ said ≡ trace header events = ap (λ l. text ++ l) s ∙ append-nil text ∙ t in
     let is : IsSchedule octets header events = (lines, n, a, r) in
-    let accepted : Accepted header events = record { header_is = IsSchedule-header octets header events is; ranges = valid.1; valid = valid.0 } in
-    (header, events, octets, i, is, accepted, o, subst (λ l. Grows written now l) all g, (λ setting set. runs-keep-promises header setting events set accepted), runs_keep_premises header events accepted)
+    let accepted : Accepted header events = record { header_is = IsSchedule-header octets header events is; ranges = valid.1; valid = valid.0 } in (
+      header,
+      events,
+      octets,
+      i,
+      is,
+      accepted,
+      o,
+      subst (λ l. Grows written now l) all g,
+      (λ setting set. runs-keep-promises header setting events set accepted),
+      runs_keep_premises header events accepted,
+    )
 done_prints _ input left written now lines octets text said n r t e s a i o g = absurd e
 
 -- a replay that ends well printed the history of a schedule
@@ -69,5 +82,7 @@ Comes-prints input left written now c =
     done_prints accepts.0 input left written now w.0 whole.0 w.1 w.2 w.3 accepts.1 accepts.2 (done.1.0 accepts.0 accepts.1) done.1.1 whole.1 whole.2 c.1 w.6
 
 -- where a replay's status is the best, it printed the history of a schedule
-pub EndsAs-prints : (input left written now : Option (List ℕ)) (status : Status) → EndsAs replaying input left written now status → status ≡ Ok → PrintsHistory input left written now
-EndsAs-prints input left written now status e is = Comes-prints input left written now (subst {A = Status} (λ s. EndsAs replaying input left written now s) is e)
+pub EndsAs-prints : (input left written now : Option (List ℕ)) (status : Status) → EndsAs replaying input left written now status → status ≡ Ok →
+    PrintsHistory input left written now
+EndsAs-prints input left written now status e is = Comes-prints input left written now (subst {A = Status} (λ s. EndsAs replaying input left written now s) is
+    e)

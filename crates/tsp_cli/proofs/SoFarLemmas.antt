@@ -1,5 +1,6 @@
 -- From what a replay comes to, however it ends, to what it has printed so far.
-use Rattle.std.proofs.Common.{arith, sym, ap, ◌∙◌, inl, inr, subst, append-nil, append_assoc, length-append, ◌≡◌, ℕ, ◌+◌, ◌≤◌, List, [], ◌++◌, length, reverse, Option, None, Some, All, refl}
+use Rattle.std.proofs.Common.{arith, sym, ap, ◌∙◌, inl, inr, subst, append-nil, append_assoc, length-append, ◌≡◌, ℕ, ◌+◌, ◌≤◌, List, [], ◌++◌, length, reverse}
+use Rattle.std.proofs.Common.{Option, None, Some, All, refl}
 use Rattle.std.proofs.lemmas.List.Elements.{All-nil}
 use Rattle.tsp_rules.specs.Values.{Event}
 use Rattle.tsp_base.specs.Words.{HeaderValue, IsHeader}
@@ -33,10 +34,16 @@ abbrev Tells : List (List ℕ) → List ℕ → Type 0
 Tells lines text = (p : Progress) × Reaches (reverse lines) p × TellsSoFar p text
 
 tells : (lines : List (List ℕ)) (text : List ℕ) → Replays lines text → Tells lines text
-tells lines text (p, r, t) = (p, r, subst (λ x. TellsSoFar p x) (sym t) (tells_at p (Reaches-header refused (reverse lines) p r) (Reaches-valid (reverse lines) p r)))
+tells lines text (p, r, t) = (
+  p,
+  r,
+  subst (λ x. TellsSoFar p x) (sym t) (tells_at p (Reaches-header refused (reverse lines) p r)
+      (Reaches-valid (reverse lines) p r)),
+)
 
 -- an input that begins with these octets and more begins with them
-begins_front : (limit more : ℕ) (input : Option (List ℕ)) (front back : List ℕ) → length front ≤ limit → Begins more input (front ++ back) → Begins limit input front
+begins_front : (limit more : ℕ) (input : Option (List ℕ)) (front back : List ℕ) → length front ≤ limit → Begins more input (front ++ back) →
+    Begins limit input front
 begins_front limit more None front back small b = (small, tt)
 begins_front limit more (Some xs) front back small b = (small, (back ++ b.1.0, b.1.1 ∙ append_assoc front back b.1.0))
 
@@ -54,7 +61,8 @@ front_fits : (limit : ℕ) (front back : List ℕ) → length (front ++ back) �
 front_fits limit front back small = omega (arith, small, length-append front back)
 
 next_has : (limit : ℕ) (input : Option (List ℕ)) (lines : List (List ℕ)) (line : List ℕ) → HasNext limit input lines line → HasLines limit input lines
-next_has limit input lines line (n, inl b) = inl (begins_front limit limit input (closed lines) (close line) (front_fits limit (closed lines) (close line) b.0) b)
+next_has limit input lines line (n, inl b) = inl (begins_front limit limit input (closed lines) (close line) (front_fits limit (closed lines) (close line) b.0)
+    b)
 next_has limit input lines line (n, inr i) =
     let b = begins_whole limit input (closed lines ++ line) i.1 in
     inl (begins_front limit limit input (closed lines) line (front_fits limit (closed lines) line b.0) b)
@@ -63,23 +71,27 @@ past_has : (limit : ℕ) (input : Option (List ℕ)) (lines : List (List ℕ)) �
 past_has limit input lines (part, x, n, full, b) =
     inl (begins_front limit (limit + 1) input (closed lines) _ (omega (arith, full, length-append (closed lines) part)) b)
 
-bad_has : (limit : ℕ) (input : Option (List ℕ)) (lines : List (List ℕ)) (said : List ℕ) → IsBad replaying limit input lines said → HasLines limit input lines × ((cause : List ℕ) × (said ≡ bad_line (length lines + 1) cause))
+bad_has : (limit : ℕ) (input : Option (List ℕ)) (lines : List (List ℕ)) (said : List ℕ) → IsBad replaying limit input lines said → HasLines limit input lines ×
+    ((cause : List ℕ) × (said ≡ bad_line (length lines + 1) cause))
 bad_has limit input lines said (inl (line, cause, next, room, refuses, is)) = (next_has limit input lines line next, (cause, is))
 bad_has limit input lines said (inr (cause, whole, lacks, is)) = (inr whole, (cause, is))
 
-limit_has : (limit : ℕ) (input : Option (List ℕ)) (lines : List (List ℕ)) (said : List ℕ) → IsLimited replaying limit input lines said → HasLines limit input lines × (said ≡ limit_line (length lines + 1))
+limit_has : (limit : ℕ) (input : Option (List ℕ)) (lines : List (List ℕ)) (said : List ℕ) → IsLimited replaying limit input lines said →
+    HasLines limit input lines × (said ≡ limit_line (length lines + 1))
 limit_has limit input lines said (inl (line, next, limits), is) = (next_has limit input lines line next, is)
 limit_has limit input lines said (inr (inl past), is) = (past_has limit input lines past, is)
 limit_has limit input lines said (inr (inr (full, more)), is) = absurd full
 
-follows_has : (limit : ℕ) (input : Option (List ℕ)) (lines : List (List ℕ)) (said : List ℕ) → Follows replaying limit input lines said → HasLines limit input lines × IsLastLine lines said
+follows_has : (limit : ℕ) (input : Option (List ℕ)) (lines : List (List ℕ)) (said : List ℕ) → Follows replaying limit input lines said →
+    HasLines limit input lines × IsLastLine lines said
 follows_has limit input lines said (inl on) = (on.0, inl on.1)
 follows_has limit input lines said (inr (inl bad)) = let h = bad_has limit input lines said bad in (h.0, inr (inl h.1))
 follows_has limit input lines said (inr (inr (inl full))) = let h = limit_has limit input lines said full in (h.0, inr (inr h.1))
 follows_has limit input lines said (inr (inr (inr done))) = (inr done.0, inl done.1.1)
 
 -- accepted lines with what was written
-prints : (status : Status) (input written now : Option (List ℕ)) (lines : List (List ℕ)) (text : List ℕ) → All NoFeed lines → HasLines MOST_INPUT input lines → Replays lines text → WritesSoFar status lines text written now → PrintsSoFar input written now status
+prints : (status : Status) (input written now : Option (List ℕ)) (lines : List (List ℕ)) (text : List ℕ) → All NoFeed lines → HasLines MOST_INPUT input lines →
+    Replays lines text → WritesSoFar status lines text written now → PrintsSoFar input written now status
 prints status input written now lines text n has accepts w = let t = tells lines text accepts in (lines, t.0, text, n, has, t.1, t.2, w)
 
 -- a part of what was to be written
@@ -92,10 +104,12 @@ prints_part input written now rest (lines, text, said, part, n, accepts, follows
 prints_got : (input left written now : Option (List ℕ)) → WritesGot replaying MOST_INPUT input left written now → PrintsSoFar input written now ReadFault
 prints_got input left written now (lines, text, part, n, accepts, feedless, small, full, gives, grows) =
     let b = begins_given MOST_INPUT input left (closed lines ++ part) small gives in
-    prints ReadFault input written now lines text n (inl (begins_front MOST_INPUT MOST_INPUT input (closed lines) part (front_fits MOST_INPUT (closed lines) part small) b)) accepts grows
+    prints ReadFault input written now lines text n (inl (begins_front MOST_INPUT MOST_INPUT input (closed lines) part
+    (front_fits MOST_INPUT (closed lines) part small) b)) accepts grows
 
 -- whatever the status, this is what was printed
-pub EndsAs-so-far : (input left written now : Option (List ℕ)) (status : Status) → EndsAs replaying input left written now status → PrintsSoFar input written now status
+pub EndsAs-so-far : (input left written now : Option (List ℕ)) (status : Status) → EndsAs replaying input left written now status →
+    PrintsSoFar input written now status
 EndsAs-so-far input left written now Ok ((lines, text, said, n, accepts, done, grows), over) =
     let all : text ++ said ≡ text = ap (λ l. text ++ l) done.1.1 ∙ append-nil text in
     prints Ok input written now lines text n (inr done.0) accepts (subst (λ l. Grows written now l) all grows)
@@ -123,4 +137,7 @@ has_none limit (Some xs) = inl (omega arith, (xs, refl))
 
 -- without memory for the command nothing was read and nothing written
 pub nothing-so-far : (input written : Option (List ℕ)) → PrintsSoFar input written written OutOfMemory
-nothing-so-far input written = prints OutOfMemory input written written [] [] (All-nil NoFeed) (has_none MOST_INPUT input) (Untitled, refl, refl) ([], ([], [], inl refl, refl, Grows-nil written))
+nothing-so-far input written = prints OutOfMemory input written written [] [] (All-nil NoFeed) (has_none MOST_INPUT input) (Untitled, refl, refl) (
+  [],
+  ([], [], inl refl, refl, Grows-nil written),
+)

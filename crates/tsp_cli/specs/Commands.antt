@@ -55,7 +55,8 @@ pub record RunsDaemon (s : ServeWords) (old new : Observed) (links links_now wri
   pub serves : ServesIfTold s old new served
   -- if the wall clock is told and in its range, and no count rose but that of failed sends: the status is Ok, or
   -- OutOfMemory
-  pub complete : (wall : ℤ) → old.wall ≡ Some wall → is_clock_value wall ≡ true → ¬ Rose links links_now → ¬ Rose writes writes_now → (status ≡ Ok) ⊎ (status ≡ OutOfMemory)
+  pub complete : (wall : ℤ) → old.wall ≡ Some wall → is_clock_value wall ≡ true → ¬ Rose links links_now → ¬ Rose writes writes_now → (status ≡ Ok) ⊎
+      (status ≡ OutOfMemory)
 
 -- what comes of a question to a daemon. The last numbers are the counts of the link's faults, of its failed sends, and
 -- of the sink's faults, each before and after
@@ -92,10 +93,12 @@ pub record RunsAudit (input left written now : Option (List ℕ)) (ended : Bool)
   -- if the input is told: it agrees with the answer to it
   pub answers : Answers auditing MOST_INPUT input written now outcome
   -- if the input is told and no count rose: the status is that of the answer, or OutOfMemory
-  pub decided : (octets : List ℕ) (answer : Outcome) (output : List ℕ) → input ≡ Some octets → IsAnswerTo auditing MOST_INPUT octets answer output → ¬ Rose reads reads_now → ¬ Rose writes writes_now → (status ≡ status_of answer) ⊎ (status ≡ OutOfMemory)
+  pub decided : (octets : List ℕ) (answer : Outcome) (output : List ℕ) → input ≡ Some octets → IsAnswerTo auditing MOST_INPUT octets answer output →
+      ¬ Rose reads reads_now → ¬ Rose writes writes_now → (status ≡ status_of answer) ⊎ (status ≡ OutOfMemory)
   -- if the input is told, has at most 64 MiB, nothing of it is refused, and no count rose: the status is Ok, or
   -- OutOfMemory
-  pub complete : (octets : List ℕ) → input ≡ Some octets → length octets ≤ MOST_INPUT → IsAuditText octets → ¬ Rose reads reads_now → ¬ Rose writes writes_now → (status ≡ Ok) ⊎ (status ≡ OutOfMemory)
+  pub complete : (octets : List ℕ) → input ≡ Some octets → length octets ≤ MOST_INPUT → IsAuditText octets → ¬ Rose reads reads_now → ¬ Rose writes writes_now →
+      (status ≡ Ok) ⊎ (status ≡ OutOfMemory)
   -- the input was read to its end, or to the first octet past the limit, unless a read failed or memory ran out
   pub gathered : status ≢ ReadFault → status ≢ OutOfMemory → IsGathered MOST_INPUT input left ended
   -- with Ok the source was read to its end

@@ -17,13 +17,15 @@ use Rattle.tsp_run.specs.{Premised.KeptByText, Promises.Promises, Ranges.Accepte
 -- its premises; and a premise that holds of the text holds of the history
 abbrev pub PrintsHistory : Option (List ℕ) → Option (List ℕ) → Option (List ℕ) → Option (List ℕ) → Type 0
 PrintsHistory input left written now =
-    (header : HeaderValue) × (events : List Event) × (octets : List ℕ) × IsInput MOST_INPUT input octets × IsSchedule octets header events × Accepted header events × IsOver left × Grows written now (trace header events)
+    (header : HeaderValue) × (events : List Event) × (octets : List ℕ) × IsInput MOST_INPUT input octets × IsSchedule octets header events ×
+    Accepted header events × IsOver left × Grows written now (trace header events)
     × ((setting : Setting) → SetBy header setting → Promises setting (run header events)) × KeptByText header events
 
 -- a header and events that are accepted, and whose history keeps the promises, each under its premises; and a premise
 -- that holds of the text holds of the history
 abbrev pub KeepsPromises : HeaderValue → List Event → Type 0
-KeepsPromises header events = Accepted header events × ((setting : Setting) → SetBy header setting → Promises setting (run header events)) × KeptByText header events
+KeepsPromises header events = Accepted header events × ((setting : Setting) → SetBy header setting → Promises setting (run header events)) ×
+    KeptByText header events
 
 -- the trace of the lines of a schedule that have come so far: nothing, as long as they are of its header; later the
 -- trace of their run, which keeps the promises
@@ -55,4 +57,5 @@ WritesSoFar _ lines text written now = ⊥
 -- one line after it, or the beginning of these, as the status says
 abbrev pub PrintsSoFar : Option (List ℕ) → Option (List ℕ) → Option (List ℕ) → Status → Type 0
 PrintsSoFar input written now status =
-    (lines : List (List ℕ)) × (p : Progress) × (text : List ℕ) × All NoFeed lines × HasLines MOST_INPUT input lines × Reaches (reverse lines) p × TellsSoFar p text × WritesSoFar status lines text written now
+    (lines : List (List ℕ)) × (p : Progress) × (text : List ℕ) × All NoFeed lines × HasLines MOST_INPUT input lines × Reaches (reverse lines) p ×
+    TellsSoFar p text × WritesSoFar status lines text written now

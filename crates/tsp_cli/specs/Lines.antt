@@ -5,7 +5,8 @@ use Rattle.tsp_cli.specs.{Statuses.status_of, declared.status.Status.Status}
 use Rattle.tsp_convert.specs.{Packs.AreMessageLines, Packs.pack_meaning, Shows.AreHexLines, Shows.show_meaning}
 use Rattle.tsp_io.specs.Counts.{Rose}
 use Rattle.tsp_lines.specs.declared.{limits.TheConstants.MOST_INPUT, treat.Outcome.Outcome}
-use Rattle.tsp_lines.specs.declared.treat.Outcome.TheVariants.{Ok as Done, Bad as Refused, ReadFault as NotRead, WriteFault as NotWritten, Limit as Limited, OutOfMemory as NoMemory}
+use Rattle.tsp_lines.specs.declared.treat.Outcome.TheVariants.{Ok as Done, Bad as Refused, ReadFault as NotRead, WriteFault as NotWritten, Limit as Limited}
+use Rattle.tsp_lines.specs.declared.treat.Outcome.TheVariants.{OutOfMemory as NoMemory}
 use Rattle.tsp_lines.specs.{Answers.IsAnswer, Answers.Agrees, Meanings.Meaning, Outcomes.Comes, Outcomes.KeepsUp}
 use Rattle.tsp_query.specs.Outside.{WritesBeginning as SaysAs}
 use Rattle.tsp_icmp_command.specs.Meaning.{AreExchangeLines, averaging}
@@ -59,16 +60,20 @@ AgreesAs outcome output written now Limit = Agrees outcome output written now Li
 AgreesAs outcome output written now OutOfMemory = Agrees outcome output written now NoMemory
 
 -- how such a command ends. The last numbers are the counts of failed reads and of failed writes, each before and after
-pub record Runs (command : LineCommand) (input left written now : Option (List ℕ)) (ended : Bool) (reads reads_now writes writes_now : ℕ) (status : Status) : Type 0 where
+pub record Runs (command : LineCommand) (input left written now : Option (List ℕ)) (ended : Bool) (reads reads_now writes writes_now : ℕ) (status : Status) :
+    Type 0 where
   -- what the status says of input and output
   pub ends : EndsAs (meaning_of command) input left written now status
   -- if the input is told: the status agrees with the answer to it
-  pub answers : (octets : List ℕ) (outcome : Outcome) (output : List ℕ) → input ≡ Some octets → IsAnswer (meaning_of command) MOST_INPUT octets outcome output → AgreesAs outcome output written now status
+  pub answers : (octets : List ℕ) (outcome : Outcome) (output : List ℕ) → input ≡ Some octets → IsAnswer (meaning_of command) MOST_INPUT octets outcome output →
+      AgreesAs outcome output written now status
   -- if the input is told and no count rose: the status is that of the answer, or OutOfMemory
-  pub decided : (octets : List ℕ) (outcome : Outcome) (output : List ℕ) → input ≡ Some octets → IsAnswer (meaning_of command) MOST_INPUT octets outcome output → ¬ Rose reads reads_now → ¬ Rose writes writes_now → (status ≡ status_of outcome) ⊎ (status ≡ OutOfMemory)
+  pub decided : (octets : List ℕ) (outcome : Outcome) (output : List ℕ) → input ≡ Some octets → IsAnswer (meaning_of command) MOST_INPUT octets outcome output →
+      ¬ Rose reads reads_now → ¬ Rose writes writes_now → (status ≡ status_of outcome) ⊎ (status ≡ OutOfMemory)
   -- if the input is told, has at most 64 MiB, nothing of it is refused, and no count rose: the status is Ok, or
   -- OutOfMemory
-  pub complete : (octets : List ℕ) → input ≡ Some octets → length octets ≤ MOST_INPUT → IsTextOf command octets → ¬ Rose reads reads_now → ¬ Rose writes writes_now → (status ≡ Ok) ⊎ (status ≡ OutOfMemory)
+  pub complete : (octets : List ℕ) → input ≡ Some octets → length octets ≤ MOST_INPUT → IsTextOf command octets → ¬ Rose reads reads_now →
+      ¬ Rose writes writes_now → (status ≡ Ok) ⊎ (status ≡ OutOfMemory)
   -- but for at most the last 64 KiB that were read, the output of each line was written
   pub keeps_up : KeepsUp (meaning_of command) MOST_INPUT input left written now
   -- with Ok the source was read to its end

@@ -1,15 +1,18 @@
 -- The exit status of each way to end, as docs/FORMATS.md lists them.
 use Rattle.std.specs.Prelude.{ℕ}
 use Rattle.tsp_query.specs.declared.exit.QueryExit.{QueryExit}
-use Rattle.tsp_query.specs.declared.exit.QueryExit.TheVariants.{Answered, NoAnswer as Unanswered, LinkFault as NotAsked, WriteFault as Untold, OutOfMemory as Unasked}
+use Rattle.tsp_query.specs.declared.exit.QueryExit.TheVariants.{Answered, NoAnswer as Unanswered, LinkFault as NotAsked, WriteFault as Untold}
+use Rattle.tsp_query.specs.declared.exit.QueryExit.TheVariants.{OutOfMemory as Unasked}
 use Rattle.tsp_cli.specs.declared.status.Status.{Status}
 use Rattle.tsp_cli.specs.declared.status.Status.TheVariants.{Ok as Done, Usage, Bad, ReadFault, WriteFault, LinkFault, NoAnswer, Limit, OutOfMemory}
 use Rattle.tsp_lines.specs.declared.treat.Outcome.{Outcome}
-use Rattle.tsp_lines.specs.declared.treat.Outcome.TheVariants.{Ok as Treated, Bad as Refused, ReadFault as NotRead, WriteFault as NotWritten, Limit as Limited, OutOfMemory as NoMemory}
+use Rattle.tsp_lines.specs.declared.treat.Outcome.TheVariants.{Ok as Treated, Bad as Refused, ReadFault as NotRead, WriteFault as NotWritten, Limit as Limited}
+use Rattle.tsp_lines.specs.declared.treat.Outcome.TheVariants.{OutOfMemory as NoMemory}
 use Rattle.tsp_storm.specs.declared.run.StormEnd.{StormEnd}
 use Rattle.tsp_storm.specs.declared.run.StormEnd.TheVariants.{Done as Summed, Limit as Full, WriteFault as Unsaid, OutOfMemory as Unmade}
 use Rattle.tsp_daemon.specs.declared.exit.DaemonExit.{DaemonExit}
-use Rattle.tsp_daemon.specs.declared.exit.DaemonExit.TheVariants.{Done as AllTurns, BadWall, LinkFault as NotHeard, WriteFault as NotShown, OutOfMemory as Unserved}
+use Rattle.tsp_daemon.specs.declared.exit.DaemonExit.TheVariants.{Done as AllTurns, BadWall, LinkFault as NotHeard, WriteFault as NotShown}
+use Rattle.tsp_daemon.specs.declared.exit.DaemonExit.TheVariants.{OutOfMemory as Unserved}
 
 -- the exit status, as a number
 abbrev pub status_number : Status → ℕ

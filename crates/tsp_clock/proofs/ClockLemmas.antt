@@ -1,5 +1,6 @@
 -- What keeps a clock in its range.
-use Rattle.std.proofs.Common.{arith, SFits, w64, ◌≡◌, ℕ, ◌+◌, ◌-◌, ◌/◌, ◌%◌, ◌^◌, ◌≤◌, ℤ, pos, negsuc, ◌+ℤ◌, ◌-ℤ◌, ◌≤ℤ◌, ◌<ℤ◌, Bool, true, false, if◌then◌else◌, refl}
+use Rattle.std.proofs.Common.{arith, SFits, w64, ◌≡◌, ℕ, ◌+◌, ◌-◌, ◌/◌, ◌%◌, ◌^◌, ◌≤◌, ℤ, pos, negsuc, ◌+ℤ◌, ◌-ℤ◌, ◌≤ℤ◌, ◌<ℤ◌, Bool, true, false, if◌then◌else◌}
+use Rattle.std.proofs.Common.{refl}
 use Rattle.std.proofs.lemmas.Int.{ints}
 use Rattle.tsp_base.specs.Words.{Past, plain, eased, base, moved, word, corrects, grown}
 use Rattle.tsp_base.proofs.TickLemmas.{eased_none}
@@ -45,7 +46,8 @@ Stands_sets value x past v h = record {
 }
 
 -- and so does one that was adjusted
-pub Stands_adjusts : (amount : ℤ) (x : ℕ) (past : Past) (v : ClockValue) → ClockStands past v → ClockStands (grown x past (adjusts amount x past)) (adjusted v x amount)
+pub Stands_adjusts : (amount : ℤ) (x : ℕ) (past : Past) (v : ClockValue) → ClockStands past v →
+    ClockStands (grown x past (adjusts amount x past)) (adjusted v x amount)
 unfolding adjusts
 Stands_adjusts amount x past v h = record {
   offset_is = rw h.offset_is (adjusted_offset (base (plain past.seen)) (moved (plain past.seen)) amount);
@@ -70,14 +72,16 @@ fits_between (pos n) low high = record { sfits = omega (arith, ints) }
 fits_between (negsuc n) low high = record { sfits = omega (arith, ints) }
 
 -- and its rest fits its type
-pub left_fits : (t left amount : ℤ) (x : ℕ) → x ≤ 2 ^ 61 → is_clock_value (t +ℤ amount) ≡ true → negsuc 2147483647999999 <ℤ (t -ℤ left) → (t -ℤ left) ≤ℤ pos (2147483648000000 + x) → SFits w64 (left +ℤ amount)
+pub left_fits : (t left amount : ℤ) (x : ℕ) → x ≤ 2 ^ 61 → is_clock_value (t +ℤ amount) ≡ true → negsuc 2147483647999999 <ℤ (t -ℤ left) →
+    (t -ℤ left) ≤ℤ pos (2147483648000000 + x) → SFits w64 (left +ℤ amount)
 left_fits t left amount x early h shown_low shown_high =
     let low : negsuc 2147483647999999 <ℤ (t +ℤ amount) = clock_value_low (t +ℤ amount) h in
     let high : (t +ℤ amount) <ℤ pos 2147483648000000 = clock_value_high (t +ℤ amount) h in
     fits_between (left +ℤ amount) (omega (arith, ints)) (omega (arith, ints))
 
 -- from a target to a value
-pub amount_fits : (value t : ℤ) (x : ℕ) → x ≤ 2 ^ 61 → is_clock_value value ≡ true → negsuc 2147483647999999 <ℤ t → t <ℤ pos (2147483648000000 + x) → SFits w64 (value -ℤ t)
+pub amount_fits : (value t : ℤ) (x : ℕ) → x ≤ 2 ^ 61 → is_clock_value value ≡ true → negsuc 2147483647999999 <ℤ t → t <ℤ pos (2147483648000000 + x) →
+    SFits w64 (value -ℤ t)
 amount_fits value t x early h from to =
     let low : negsuc 2147483647999999 <ℤ value = clock_value_low value h in
     let high : value <ℤ pos 2147483648000000 = clock_value_high value h in

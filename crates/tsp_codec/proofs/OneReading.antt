@@ -13,7 +13,8 @@ use Rattle.tsp_codec.specs.Numbers.{octet_at, be16_at, be64_at}
 use Rattle.tsp_codec.specs.Spelling.{Spells, SpellsBody, SpellsMessage, IsTime, SpellsRequest, SpellsReply, HasHead, IsStamp, reading_field}
 
 -- a list is split at a zero of its front
-pub split_at_nul : (xs : List ℕ) (n end : ℕ) → end < length (take n xs) → slice_index_or (take n xs) end 0 ≡ 0 → (rest : List ℕ) × (xs ≡ take end (take n xs) ++ 0 ∷ rest)
+pub split_at_nul : (xs : List ℕ) (n end : ℕ) → end < length (take n xs) → slice_index_or (take n xs) end 0 ≡ 0 → (rest : List ℕ) ×
+    (xs ≡ take end (take n xs) ++ 0 ∷ rest)
 split_at_nul [] zero end h e = absurd (omega arith)
 split_at_nul [] (suc n) end h e = absurd (omega arith)
 split_at_nul (x ∷ xs) zero end h e = absurd (omega arith)
@@ -168,10 +169,13 @@ IsFault-StampLength o h s z = record { applies = (s, z); first = search rules }
 pub IsFault-NoEnd : (o : List ℕ) (k : Kind) → HasHead o → kind_of (octet_at o 0) ≡ Some k → ¬ Contains (name_room o) 0 → length o < 268 → IsFault o NoEnd
 IsFault-NoEnd o k h e n s = record { applies = (HasKind-kind o k e, grind (arith, common_steps), n); first = search (HasStampType-kind, rules) }
 
-pub IsFault-NameTooLong : (o : List ℕ) (k : Kind) → HasHead o → kind_of (octet_at o 0) ≡ Some k → ¬ Contains (name_room o) 0 → 268 ≤ length o → IsFault o NameTooLong
-IsFault-NameTooLong o k h e n s = let l : 256 ≤ length (drop 12 o) = grind (arith, common_steps) in record { applies = (HasKind-kind o k e, l, n); first = search (HasStampType-kind, rules) }
+pub IsFault-NameTooLong : (o : List ℕ) (k : Kind) → HasHead o → kind_of (octet_at o 0) ≡ Some k → ¬ Contains (name_room o) 0 → 268 ≤ length o →
+    IsFault o NameTooLong
+IsFault-NameTooLong o k h e n s = let l : 256 ≤ length (drop 12 o) = grind (arith, common_steps) in
+    record { applies = (HasKind-kind o k e, l, n); first = search (HasStampType-kind, rules) }
 
-pub IsFault-Time : (o : List ℕ) (k : Kind) → HasHead o → kind_of (octet_at o 0) ≡ Some k → Contains (name_room o) 0 → carries_time k ≡ true → ¬ IsTime o → IsFault o Time
+pub IsFault-Time : (o : List ℕ) (k : Kind) → HasHead o → kind_of (octet_at o 0) ≡ Some k → Contains (name_room o) 0 → carries_time k ≡ true → ¬ IsTime o →
+    IsFault o Time
 IsFault-Time o k h e n t b = record { applies = inl ((k, e, t), b); first = search (HasStampType-kind, rules) }
 
 pub IsFault-Reserved-request : (o : List ℕ) → IsStamp o 128 → (be16_at o 2 ≢ 0) ⊎ (be64_at o 20 ≢ 0) → IsFault o Reserved
@@ -180,7 +184,8 @@ IsFault-Reserved-request o h r = record { applies = inl (h.first, r); first = se
 pub IsFault-Reserved-reply : (o : List ℕ) → IsStamp o 129 → 32767 < be16_at o 2 → IsFault o Reserved
 IsFault-Reserved-reply o h t = record { applies = inr (h.first, t); first = search (HasKind-stamp, rules) }
 
-pub IsFault-Time-reply : (o : List ℕ) (ticket : ℕ) (reading : ℤ) → IsStamp o 129 → ticket ≡ be16_at o 2 → reading ≡ reading_field o → ticket ≤ 32767 → ¬ IsReply ticket reading → IsFault o Time
+pub IsFault-Time-reply : (o : List ℕ) (ticket : ℕ) (reading : ℤ) → IsStamp o 129 → ticket ≡ be16_at o 2 → reading ≡ reading_field o → ticket ≤ 32767 →
+    ¬ IsReply ticket reading → IsFault o Time
 IsFault-Time-reply o t z h e f s b = let l : be16_at o 2 ≤ 32767 = rw (← e) s in record {
   applies = inr (h.first, λ r. b (record { small = omega (arith, s); low = rw f r.low; high = rw f r.high }));
   first = search (HasKind-stamp, rules);

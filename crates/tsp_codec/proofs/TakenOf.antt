@@ -1,5 +1,6 @@
 -- What is computed from octets is what a reader takes.
-use Rattle.std.proofs.Common.{◌≡◌, ◌≢◌, ℕ, ◌+◌, ◌<◌, ◌≤◌, List, [], ◌∷◌, ◌++◌, zero, suc, length, drop, slice_index_or, length-append, length-take, refl, ap, sym, ◌∙◌}
+use Rattle.std.proofs.Common.{◌≡◌, ◌≢◌, ℕ, ◌+◌, ◌<◌, ◌≤◌, List, [], ◌∷◌, ◌++◌, zero, suc, length, drop, slice_index_or, length-append, length-take, refl, ap}
+use Rattle.std.proofs.Common.{sym, ◌∙◌}
 use Rattle.std.proofs.Common.{arith, Some, None, true, false, Bool, ◌&&◌, inl, inr, ◌↔◌, Contains, ℤ, T, if◌then◌else◌, option_map, ◌==◌, nat_lt, Option}
 use Rattle.std.proofs.lemmas.Bool.{ltb-true, ltb-false, eqb-true, eqb-false, and_parts, and_from, both_ways}
 use Rattle.std.proofs.lemmas.{Float.T_from_true, List.append_assoc, List.take-append-drop}
@@ -24,7 +25,8 @@ no_place : (x : ℕ) (xs : List ℕ) → x ≢ 0 → ¬ Contains xs 0 → (i : �
 no_place x xs p q zero l e = p e
 no_place x xs p q (suc i) l e = q (i, omega (arith, l), e)
 
-EndsAtNul-∷ : (x : ℕ) (xs : List ℕ) (b : Bool) → (x == 0) ≡ b → (r : Option (List ℕ)) → EndsAtNul xs r → EndsAtNul (x ∷ xs) (if b then Some [] else option_map (λ name. x ∷ name) r)
+EndsAtNul-∷ : (x : ℕ) (xs : List ℕ) (b : Bool) → (x == 0) ≡ b → (r : Option (List ℕ)) → EndsAtNul xs r →
+    EndsAtNul (x ∷ xs) (if b then Some [] else option_map (λ name. x ∷ name) r)
 EndsAtNul-∷ x xs true e r p = ((λ k. absurd (omega (arith, k.1))), (xs, ap (λ y. y ∷ xs) (eqb-true x 0 e)))
 EndsAtNul-∷ x xs false e None p = λ k. no_place x xs (eqb-false x 0 e) p k.0 k.1 k.2
 EndsAtNul-∷ x xs false e (Some name) p = ((λ k. no_place x name (eqb-false x 0 e) p.0 k.0 k.1 k.2), (p.1.0, ap (λ y. x ∷ y) p.1.1))
@@ -44,7 +46,11 @@ length-before xs name rest l e = let m : length xs ≡ length name + length (0 �
 SpellsName-room : (o name : List ℕ) → EndsAtNul (name_room o) (Some name) → SpellsName o name
 SpellsName-room o name p = (
   record { short = length-before (name_room o) name p.1.0 (omega (arith, length-take 256 (drop 12 o))) p.1.1; no_nul = p.0 },
-  (p.1.0 ++ drop 256 (drop 12 o), sym (take-append-drop 256 (drop 12 o)) ∙ ap (λ z. z ++ drop 256 (drop 12 o)) p.1.1 ∙ append_assoc name (0 ∷ p.1.0) (drop 256 (drop 12 o))),
+  (
+    p.1.0 ++ drop 256 (drop 12 o),
+    sym (take-append-drop 256 (drop 12 o)) ∙ ap (λ z. z ++ drop 256 (drop 12 o)) p.1.1 ∙
+        append_assoc name (0 ∷ p.1.0) (drop 256 (drop 12 o)),
+  ),
 )
 
 true_from_T : (b : Bool) → T b → b ≡ true
@@ -56,10 +62,18 @@ IsTime-is_time o e =
     let p = and_parts _ _ e in
     let a = and_parts _ _ p.0 in
     let b = and_parts _ _ p.1 in
-    record { low = record { le = T_from_true _ a.0 }; high = record { le = T_from_true _ a.1 }; value = record { low = record { le = T_from_true _ b.0 }; high = record { lt = T_from_true _ b.1 } } }
+    record {
+      low = record { le = T_from_true _ a.0 };
+      high = record { le = T_from_true _ a.1 };
+      value = record {
+        low = record { le = T_from_true _ b.0 };
+        high = record { lt = T_from_true _ b.1 };
+      };
+    }
 
 is_time-IsTime : (o : List ℕ) → IsTime o → is_time o ≡ true
-is_time-IsTime o p = and_from _ _ (and_from _ _ (true_from_T _ p.low.le) (true_from_T _ p.high.le)) (and_from _ _ (true_from_T _ p.value.low.le) (true_from_T _ p.value.high.lt))
+is_time-IsTime o p = and_from _ _ (and_from _ _ (true_from_T _ p.low.le) (true_from_T _ p.high.le))
+    (and_from _ _ (true_from_T _ p.value.low.le) (true_from_T _ p.value.high.lt))
 
 IsCodedReading-is_reading : (r : ℤ) → is_reading r ≡ true → IsCodedReading r
 IsCodedReading-is_reading r e = let p = and_parts _ _ e in record { low = record { lt = T_from_true _ p.0 }; high = record { lt = T_from_true _ p.1 } }
@@ -79,23 +93,36 @@ ReadsBody-if o k true false c d e f = (d, λ t. both_ways _ e (is_time-IsTime o 
 ReadsBody-if o k false b true d e f = (d, f, refl)
 ReadsBody-if o k false b false d e f = (d, f)
 
-Reads-short_name : (o : List ℕ) (k : Kind) (b : Bool) → nat_lt (length o) 268 ≡ b → HasHead o → kind_of (octet_at o 0) ≡ Some k → ¬ Contains (name_room o) 0 → Reads o (Bad (if b then NoEnd else NameTooLong))
+Reads-short_name : (o : List ℕ) (k : Kind) (b : Bool) → nat_lt (length o) 268 ≡ b → HasHead o → kind_of (octet_at o 0) ≡ Some k → ¬ Contains (name_room o) 0 →
+    Reads o (Bad (if b then NoEnd else NameTooLong))
 Reads-short_name o k true e h t n = IsFault-NoEnd o k h t n (ltb-true (length o) 268 e)
 Reads-short_name o k false e h t n = IsFault-NameTooLong o k h t n (ltb-false (length o) 268 e)
 
-Reads-message_taken : (o : List ℕ) (k : Kind) → HasHead o → kind_of (octet_at o 0) ≡ Some k → (name : Option (List ℕ)) → EndsAtNul (name_room o) name → (body : Option Body) → ReadsBody o k body → Reads o (message_taken o k name body)
+Reads-message_taken : (o : List ℕ) (k : Kind) → HasHead o → kind_of (octet_at o 0) ≡ Some k → (name : Option (List ℕ)) → EndsAtNul (name_room o) name →
+    (body : Option Body) → ReadsBody o k body → Reads o (message_taken o k name body)
 Reads-message_taken o k h t None n body b = Reads-short_name o k (nat_lt (length o) 268) refl h t n
 Reads-message_taken o k h t (Some name) n None b = IsFault-Time o k h t (rw n.1.1 (Contains-append name n.1.0)) b.0 b.1
 Reads-message_taken o k h t (Some name) n (Some body) b = record { head = h; kind = t; number = refl; body = b; name = SpellsName-room o name n }
 
 Reads-request_taken : (o : List ℕ) (a b : Bool) → (be16_at o 2 == 0) ≡ a → (be64_at o 20 == 0) ≡ b → IsStamp o 128
     → Reads o (if a && b then Good (Stamp (Request (be64_at o 4) (be64_at o 12))) else Bad Reserved)
-Reads-request_taken o true true d e h = record { head = h; ticket = eqb-true (be16_at o 2) 0 d; word_read = refl; counter_read = refl; reading = eqb-true (be64_at o 20) 0 e }
+Reads-request_taken o true true d e h = record {
+  head = h;
+  ticket = eqb-true (be16_at o 2) 0 d;
+  word_read = refl;
+  counter_read = refl;
+  reading = eqb-true (be64_at o 20) 0 e;
+}
 Reads-request_taken o true false d e h = IsFault-Reserved-request o h (inr (eqb-false (be64_at o 20) 0 e))
 Reads-request_taken o false b d e h = IsFault-Reserved-request o h (inl (eqb-false (be16_at o 2) 0 d))
 
 Reads-reply_taken : (o : List ℕ) (a b : Bool) → nat_lt 32767 (be16_at o 2) ≡ a → is_reading (reading_field o) ≡ b → IsStamp o 129
-    → Reads o (if a then Bad Reserved else (if b then Good (Stamp (Reply (record { ticket = be16_at o 2; word = be64_at o 4; counter = be64_at o 12; reading = reading_field o }))) else Bad Time))
+    → Reads o (if a then Bad Reserved else (if b then Good (Stamp (Reply (record {
+      ticket = be16_at o 2;
+      word = be64_at o 4;
+      counter = be64_at o 12;
+      reading = reading_field o;
+    }))) else Bad Time))
 Reads-reply_taken o true b d e h = IsFault-Reserved-reply o h (ltb-true 32767 (be16_at o 2) d)
 Reads-reply_taken o false true d e h =
     let r = IsCodedReading-is_reading (reading_field o) e in
@@ -111,23 +138,34 @@ Reads-reply_taken o false false d e h =
     IsFault-Time-reply o (be16_at o 2) (reading_field o) h refl refl (ltb-false 32767 (be16_at o 2) d)
     (λ r. both_ways _ e (is_reading-IsCodedReading (reading_field o) (record { low = r.low; high = r.high })))
 
-Reads-stamp_taken : (o : List ℕ) (a b c : Bool) → (octet_at o 0 == 128) ≡ a → (octet_at o 0 == 129) ≡ b → (length o == 28) ≡ c → HasHead o → kind_of (octet_at o 0) ≡ None
+Reads-stamp_taken : (o : List ℕ) (a b c : Bool) → (octet_at o 0 == 128) ≡ a → (octet_at o 0 == 129) ≡ b → (length o == 28) ≡ c → HasHead o →
+    kind_of (octet_at o 0) ≡ None
     → Reads o (if a then (if c then request_taken o else Bad StampLength) else (if b then (if c then reply_taken o else Bad StampLength) else Bad BadKind))
-Reads-stamp_taken o true b true d e f h n = Reads-request_taken o (be16_at o 2 == 0) (be64_at o 20 == 0) refl refl (record { size = eqb-true (length o) 28 f; first = eqb-true (octet_at o 0) 128 d; version = h.version })
+Reads-stamp_taken o true b true d e f h n = Reads-request_taken o (be16_at o 2 == 0) (be64_at o 20 == 0) refl refl (record {
+  size = eqb-true (length o) 28 f;
+  first = eqb-true (octet_at o 0) 128 d;
+  version = h.version;
+})
 Reads-stamp_taken o true b false d e f h n = IsFault-StampLength o h (inl (eqb-true (octet_at o 0) 128 d)) (eqb-false (length o) 28 f)
-Reads-stamp_taken o false true true d e f h n = Reads-reply_taken o (nat_lt 32767 (be16_at o 2)) (is_reading (reading_field o)) refl refl (record { size = eqb-true (length o) 28 f; first = eqb-true (octet_at o 0) 129 e; version = h.version })
+Reads-stamp_taken o false true true d e f h n = Reads-reply_taken o (nat_lt 32767 (be16_at o 2)) (is_reading (reading_field o)) refl refl
+    (record { size = eqb-true (length o) 28 f; first = eqb-true (octet_at o 0) 129 e; version = h.version })
 Reads-stamp_taken o false true false d e f h n = IsFault-StampLength o h (inr (eqb-true (octet_at o 0) 129 e)) (eqb-false (length o) 28 f)
 Reads-stamp_taken o false false c d e f h n = IsFault-Kind o h n (eqb-false (octet_at o 0) 128 d) (eqb-false (octet_at o 0) 129 e)
 
 Reads-kind_taken : (o : List ℕ) (k : Option Kind) → kind_of (octet_at o 0) ≡ k → HasHead o → Reads o (kind_taken o k)
 Reads-kind_taken o None e h = Reads-stamp_taken o (octet_at o 0 == 128) (octet_at o 0 == 129) (length o == 28) refl refl refl h e
-Reads-kind_taken o (Some k) e h = Reads-message_taken o k h e (before_nul (name_room o)) (EndsAtNul-before_nul (name_room o)) (body_of o k) (ReadsBody-if o k (carries_time k) (is_time o) (carries_hops k) refl refl refl)
+Reads-kind_taken o (Some k) e h = Reads-message_taken o k h e (before_nul (name_room o)) (EndsAtNul-before_nul (name_room o)) (body_of o k)
+    (ReadsBody-if o k (carries_time k) (is_time o) (carries_hops k) refl refl refl)
 
 Reads-if : (o : List ℕ) (a b c : Bool) → nat_lt (length o) 13 ≡ a → nat_lt 268 (length o) ≡ b → (octet_at o 1 == 1) ≡ c
     → Reads o (if a then Bad Short else (if b then Bad Long else (if c then kind_taken o (kind_of (octet_at o 0)) else Bad Version)))
 Reads-if o true b c d e f = IsFault-Short o (ltb-true (length o) 13 d)
 Reads-if o false true c d e f = IsFault-Long o (ltb-true 268 (length o) e)
-Reads-if o false false true d e f = Reads-kind_taken o (kind_of (octet_at o 0)) refl (record { low = ltb-false (length o) 13 d; high = ltb-false 268 (length o) e; version = eqb-true (octet_at o 1) 1 f })
+Reads-if o false false true d e f = Reads-kind_taken o (kind_of (octet_at o 0)) refl (record {
+  low = ltb-false (length o) 13 d;
+  high = ltb-false 268 (length o) e;
+  version = eqb-true (octet_at o 1) 1 f;
+})
 Reads-if o false false false d e f = IsFault-Version o (ltb-false (length o) 13 d) (ltb-false 268 (length o) e) (eqb-false (octet_at o 1) 1 f)
 
 pub Reads-taken_of : (o : List ℕ) → Reads o (taken_of o)

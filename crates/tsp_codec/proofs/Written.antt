@@ -61,10 +61,12 @@ int_rem_euclid-range (negsuc a) = (omega (arith, ints), omega (arith, ints), ome
 
 -- numbers in two's complement are read back from their octets
 cast_signed-octets_4 : (z : ℤ) → SFits w32 z → cast_signed w32 (from_be_bytes w32 (to_be_bytes w32 (cast_unsigned w32 z))) ≡ z
-cast_signed-octets_4 z f = ap (cast_signed w32) (from_be_bytes-to_be_bytes_4 (cast_unsigned w32 z) (let u : Fits w32 (cast_unsigned w32 z) = Fits-of_z f in omega (arith, u))) ∙ to_z-of_z w32 z f
+cast_signed-octets_4 z f = ap (cast_signed w32) (from_be_bytes-to_be_bytes_4 (cast_unsigned w32 z) (let u : Fits w32 (cast_unsigned w32 z) = Fits-of_z f in
+    omega (arith, u))) ∙ to_z-of_z w32 z f
 
 cast_signed-octets_8 : (z : ℤ) → SFits w64 z → cast_signed w64 (from_be_bytes w64 (to_be_bytes w64 (cast_unsigned w64 z))) ≡ z
-cast_signed-octets_8 z f = ap (cast_signed w64) (from_be_bytes-to_be_bytes_8 (cast_unsigned w64 z) (let u : Fits w64 (cast_unsigned w64 z) = Fits-of_z f in omega (arith, u))) ∙ to_z-of_z w64 z f
+cast_signed-octets_8 z f = ap (cast_signed w64) (from_be_bytes-to_be_bytes_8 (cast_unsigned w64 z) (let u : Fits w64 (cast_unsigned w64 z) = Fits-of_z f in
+    omega (arith, u))) ∙ to_z-of_z w64 z f
 
 abbrev message : Kind → ℕ → Body → List ℕ → MessageValue
 message k n b name = record { kind = k; number = n; body = b; name = name }
@@ -78,7 +80,8 @@ drop-message_octets : (k : Kind) (n : ℕ) (b : Body) (name : List ℕ) → drop
 drop-message_octets k n Nothing name = refl
 drop-message_octets k n _ name = refl
 
-SpellsBody-octets : (k : Kind) (n : ℕ) (b : Body) (name : List ℕ) → body_fits k b ≡ true → IsWritableBody b → SpellsBody (message_octets (message k n b name)) k b
+SpellsBody-octets : (k : Kind) (n : ℕ) (b : Body) (name : List ℕ) → body_fits k b ≡ true → IsWritableBody b →
+    SpellsBody (message_octets (message k n b name)) k b
 unfolding body_fits
 SpellsBody-octets k n Nothing name fits w = let p = and_parts _ _ fits in (not-true _ p.0, not-true _ p.1)
 SpellsBody-octets k n (Hops h) name fits w = (carries_time-hops k fits, fits, refl)

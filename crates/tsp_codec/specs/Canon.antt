@@ -35,7 +35,8 @@ message_octets m = (((kind_number m.kind ∷ 1 ∷ []) ++ to_be_bytes w16 m.numb
 -- the 28 octets of a stamp
 abbrev pub stamp_octets : StampValue → List ℕ
 stamp_octets (Request word counter) = (((128 ∷ 1 ∷ 0 ∷ 0 ∷ []) ++ to_be_bytes w64 word) ++ to_be_bytes w64 counter) ++ replicate 8 0
-stamp_octets (Reply r) = ((((129 ∷ 1 ∷ []) ++ to_be_bytes w16 r.ticket) ++ to_be_bytes w64 r.word) ++ to_be_bytes w64 r.counter) ++ to_be_bytes w64 (cast_unsigned w64 r.reading)
+stamp_octets (Reply r) = ((((129 ∷ 1 ∷ []) ++ to_be_bytes w16 r.ticket) ++ to_be_bytes w64 r.word) ++ to_be_bytes w64 r.counter) ++
+    to_be_bytes w64 (cast_unsigned w64 r.reading)
 
 -- the octets that are written for a datagram
 abbrev pub canon : Datagram → List ℕ

@@ -35,7 +35,8 @@ Applies octets BadKind = (kind_of (octet_at octets 0) ≡ None) × (octet_at oct
 Applies octets StampLength = HasStampType octets × (length octets ≢ 28)
 Applies octets NoEnd = HasKind octets × (length (drop 12 octets) < 256) × ¬ Contains (name_room octets) 0
 Applies octets NameTooLong = HasKind octets × (256 ≤ length (drop 12 octets)) × ¬ Contains (name_room octets) 0
-Applies octets Reserved = ((octet_at octets 0 ≡ 128) × ((be16_at octets 2 ≢ 0) ⊎ (be64_at octets 20 ≢ 0))) ⊎ ((octet_at octets 0 ≡ 129) × (32767 < be16_at octets 2))
+Applies octets Reserved = ((octet_at octets 0 ≡ 128) × ((be16_at octets 2 ≢ 0) ⊎ (be64_at octets 20 ≢ 0))) ⊎
+    ((octet_at octets 0 ≡ 129) × (32767 < be16_at octets 2))
 Applies octets Time = (HasTimedKind octets × ¬ IsTime octets) ⊎ ((octet_at octets 0 ≡ 129) × ¬ IsCodedReading (reading_field octets))
 
 -- the place of a fault in the order in which faults are looked for

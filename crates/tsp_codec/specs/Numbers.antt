@@ -16,4 +16,5 @@ be32_at o i = from_be_bytes w32 (octet_at o i ∷ octet_at o (i + 1) ∷ octet_a
 
 -- the number of eight octets
 abbrev pub be64_at : List ℕ → ℕ → ℕ
-be64_at o i = from_be_bytes w64 (octet_at o i ∷ octet_at o (i + 1) ∷ octet_at o (i + 2) ∷ octet_at o (i + 3) ∷ octet_at o (i + 4) ∷ octet_at o (i + 5) ∷ octet_at o (i + 6) ∷ octet_at o (i + 7) ∷ [])
+be64_at o i = from_be_bytes w64 (octet_at o i ∷ octet_at o (i + 1) ∷ octet_at o (i + 2) ∷ octet_at o (i + 3) ∷ octet_at o (i + 4) ∷ octet_at o (i + 5) ∷
+    octet_at o (i + 6) ∷ octet_at o (i + 7) ∷ [])

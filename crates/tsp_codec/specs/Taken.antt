@@ -16,7 +16,8 @@ before_nul (x ∷ xs) = if x == 0 then Some [] else option_map (λ name. x ∷ n
 
 -- whether a time's parts are in their ranges
 abbrev pub is_time : List ℕ → Bool
-is_time o = (int_le (negsuc 999998) (micros_field o) && int_le (micros_field o) (pos 999999)) && (int_le (negsuc 2147483647999999) (time_field o) && int_lt (time_field o) (pos 2147483648000000))
+is_time o = (int_le (negsuc 999998) (micros_field o) && int_le (micros_field o) (pos 999999)) && (int_le (negsuc 2147483647999999) (time_field o) && int_lt
+    (time_field o) (pos 2147483648000000))
 
 -- whether a reply's reading is in its range
 abbrev pub is_reading : ℤ → Bool
@@ -24,7 +25,8 @@ is_reading r = int_lt (negsuc 2147483647999999) r && int_lt r (pos 2147483648000
 
 -- the body of a message of this kind; None where its time is out of its range
 abbrev pub body_of : List ℕ → Kind → Option Body
-body_of o k = if carries_time k then (if is_time o then Some (TimeBody (time_field o)) else None) else (if carries_hops k then Some (Hops (octet_at o 4)) else Some Nothing)
+body_of o k = if carries_time k then (if is_time o then Some (TimeBody (time_field o)) else None) else (if carries_hops k then Some (Hops (octet_at o 4)) else
+    Some Nothing)
 
 -- a message of this kind, with this name and this body
 abbrev pub message_taken : List ℕ → Kind → Option (List ℕ) → Option Body → Taken
@@ -38,11 +40,13 @@ request_taken o = if be16_at o 2 == 0 && be64_at o 20 == 0 then Good (Stamp (Req
 
 -- a stamp reply
 abbrev pub reply_taken : List ℕ → Taken
-reply_taken o = if nat_lt 32767 (be16_at o 2) then Bad Reserved else (if is_reading (reading_field o) then Good (Stamp (Reply (record { ticket = be16_at o 2; word = be64_at o 4; counter = be64_at o 12; reading = reading_field o }))) else Bad Time)
+reply_taken o = if nat_lt 32767 (be16_at o 2) then Bad Reserved else (if is_reading (reading_field o) then Good
+    (Stamp (Reply (record { ticket = be16_at o 2; word = be64_at o 4; counter = be64_at o 12; reading = reading_field o }))) else Bad Time)
 
 -- octets whose type isn't a message's: a stamp, or a fault
 abbrev pub stamp_taken : List ℕ → Taken
-stamp_taken o = if octet_at o 0 == 128 then (if length o == 28 then request_taken o else Bad StampLength) else (if octet_at o 0 == 129 then (if length o == 28 then reply_taken o else Bad StampLength) else Bad BadKind)
+stamp_taken o = if octet_at o 0 == 128 then (if length o == 28 then request_taken o else Bad StampLength) else
+    (if octet_at o 0 == 129 then (if length o == 28 then reply_taken o else Bad StampLength) else Bad BadKind)
 
 -- octets with a valid head, by the kind that their type names, if it names one
 abbrev pub kind_taken : List ℕ → Option Kind → Taken
@@ -51,4 +55,5 @@ kind_taken o (Some k) = message_taken o k (before_nul (name_room o)) (body_of o 
 
 -- what a reader makes of octets
 unfoldable pub taken_of : List ℕ → Taken
-taken_of o = if nat_lt (length o) 13 then Bad Short else (if nat_lt 268 (length o) then Bad Long else (if octet_at o 1 == 1 then kind_taken o (kind_of (octet_at o 0)) else Bad Version))
+taken_of o = if nat_lt (length o) 13 then Bad Short else (if nat_lt 268 (length o) then Bad Long else
+    (if octet_at o 1 == 1 then kind_taken o (kind_of (octet_at o 0)) else Bad Version))

@@ -77,7 +77,8 @@ AllZip-more R (a ∷ xs) [] x y h r = absurd h
 AllZip-more R (a ∷ xs) (b ∷ ys) x y h r = (h.0, AllZip-more R xs ys x y h.1 r)
 
 -- the last line is the last value
-AllZip-before : {A B : Type 0} (R : A → B → Type 0) (xs : List A) (x : A) (ys : List B) → AllZip R (xs ++ x ∷ []) ys → (front : List B) × (y : B) × AllZip R xs front × R x y × (ys ≡ front ++ y ∷ [])
+AllZip-before : {A B : Type 0} (R : A → B → Type 0) (xs : List A) (x : A) (ys : List B) → AllZip R (xs ++ x ∷ []) ys → (front : List B) × (y : B) ×
+    AllZip R xs front × R x y × (ys ≡ front ++ y ∷ [])
 AllZip-before R [] x [] h = absurd h
 AllZip-before R [] x (y ∷ []) h = ([], y, tt, h.0, refl)
 AllZip-before R [] x (y ∷ z ∷ ys) h = absurd h.1
@@ -86,7 +87,8 @@ AllZip-before R (a ∷ xs) x (b ∷ ys) h = let t = AllZip-before R xs x ys h.1 
 
 -- the lines of one value more
 closed-more : {A : Type 0} (f : A → List ℕ) (xs : List A) (x : A) → closed (map f xs) ++ close (f x) ≡ closed (map f (xs ++ x ∷ []))
-closed-more f xs x = sym (ap closed (map-append f xs (x ∷ [])) ∙ flat_map-append close (map f xs) (f x ∷ []) ∙ ap (λ l. closed (map f xs) ++ l) (append-nil (close (f x))))
+closed-more f xs x = sym (ap closed (map-append f xs (x ∷ [])) ∙ flat_map-append close (map f xs) (f x ∷ []) ∙
+    ap (λ l. closed (map f xs) ++ l) (append-nil (close (f x))))
 
 -- one line more
 pub Converts-more : {A : Type 0} (Is : List ℕ → A → Type 0) (write : A → List ℕ) (lines : List (List ℕ)) (text : List ℕ) (line more : List ℕ) (x : A)
@@ -98,14 +100,17 @@ Converts-more Is write lines text line more x c is e = (
 )
 
 -- a line's output was handed over, or not
-pub Goes-or_StopsAt : (m : Meaning) (Stands : List (List ℕ) → Type 0) (lines : List (List ℕ)) (text line more : List ℕ) (written : Option (List ℕ)) (held : List ℕ) (now : Option (List ℕ)) (keeps : List ℕ) (r : Result Unit Stop)
+pub Goes-or_StopsAt : (m : Meaning) (Stands : List (List ℕ) → Type 0) (lines : List (List ℕ)) (text line more : List ℕ) (written : Option (List ℕ))
+    (held : List ℕ) (now : Option (List ℕ)) (keeps : List ℕ) (r : Result Unit Stop)
     → OnOk r (Hands written held now keeps more) → OnErr r (Hands written held now keeps []) → IfErr r (λ stop. (fault : Unwritten) × (stop ≡ stop_of fault))
     → m.accepts (lines ++ line ∷ []) (text ++ more) → Stands (lines ++ line ∷ [])
     → MatchResult r (λ _. Goes m Stands lines text line written held now keeps) (λ stop. StopsAt m lines text line written held now keeps stop)
 Goes-or_StopsAt m Stands lines text line more written held now keeps (Ok x) ok err stop a s = (more, ok, a, s)
-Goes-or_StopsAt m Stands lines text line more written held now keeps (Err x) ok err stop a s = rw stop.1 (StopsAt-stop_of m lines text line written now held keeps stop.0 ([], err, inl refl))
+Goes-or_StopsAt m Stands lines text line more written held now keeps (Err x) ok err stop a s =
+    rw stop.1 (StopsAt-stop_of m lines text line written now held keeps stop.0 ([], err, inl refl))
 
-AllZip-one : {A B : Type 0} (R : A → B → Type 0) (one : (x : A) (y z : B) → R x y → R x z → y ≡ z) (xs : List A) (ys zs : List B) → AllZip R xs ys → AllZip R xs zs → ys ≡ zs
+AllZip-one : {A B : Type 0} (R : A → B → Type 0) (one : (x : A) (y z : B) → R x y → R x z → y ≡ z) (xs : List A) (ys zs : List B) → AllZip R xs ys →
+    AllZip R xs zs → ys ≡ zs
 AllZip-one R one [] [] [] h k = refl
 AllZip-one R one [] [] (z ∷ zs) h k = absurd k
 AllZip-one R one [] (y ∷ ys) zs h k = absurd h
@@ -119,7 +124,8 @@ pub Converts-one : {A : Type 0} (Is : List ℕ → A → Type 0) (write : A → 
 Converts-one Is write one lines text other c d = c.2 ∙ ap (λ xs. closed (map write xs)) (AllZip-one Is one lines c.0 d.0 c.1 d.1) ∙ sym d.2
 
 -- a line stands after lines with their output, and is a value
-pub Converts-before : {A : Type 0} (Is : List ℕ → A → Type 0) (write : A → List ℕ) (lines : List (List ℕ)) (line text : List ℕ) → Converts Is write (lines ++ line ∷ []) text
+pub Converts-before : {A : Type 0} (Is : List ℕ → A → Type 0) (write : A → List ℕ) (lines : List (List ℕ)) (line text : List ℕ) →
+    Converts Is write (lines ++ line ∷ []) text
     → ((front : List ℕ) × (more : List ℕ) × Converts Is write lines front × (text ≡ front ++ more)) × ((x : A) × Is line x)
 Converts-before Is write lines line text c =
     let t = AllZip-before Is lines line c.0 c.1 in (
@@ -144,7 +150,8 @@ pub IsDefinite_show : IsDefinite show_meaning
 IsDefinite_show = record {
   one_output = Converts-one IsHexLineOf message_text IsHexLineOf-one;
   before = λ lines line text a. ((λ f. f), (Converts-before IsHexLineOf message_text lines line text a).0);
-  not_refused = λ lines line text cause a r. let x = (Converts-before IsHexLineOf message_text lines line text a).1 in IsHexLineOf-not_refused line cause x.0 x.1 r;
+  not_refused = λ lines line text cause a r. let x = (Converts-before IsHexLineOf message_text lines line text a).1 in
+      IsHexLineOf-not_refused line cause x.0 x.1 r;
   not_limited = λ lines line text a l. l;
   one_cause = λ lines line cause other r s. RefusesHex-one line cause other r s;
   refused_within = λ lines line cause r l. l;
@@ -178,7 +185,8 @@ answer_hex limit octets l (lines, datagrams, n, are, z) = record {
   whole = sym (append-nil (lines_shown datagrams));
 }
 
-pub answer_messages : (limit : ℕ) (octets : List ℕ) → length octets ≤ limit → (a : AreMessageLines octets) → IsAnswer pack_meaning limit octets Done (packed a.1)
+pub answer_messages : (limit : ℕ) (octets : List ℕ) → length octets ≤ limit → (a : AreMessageLines octets) →
+    IsAnswer pack_meaning limit octets Done (packed a.1)
 answer_messages limit octets l (lines, datagrams, n, are, z) = record {
   lines = lines;
   text = packed datagrams;

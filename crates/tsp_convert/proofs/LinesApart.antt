@@ -22,7 +22,8 @@ digits_apart : (c d : ℕ) (r s : List ℕ) → c < 256 → d < 256 → encode_l
 unfolding encode_with
 digits_apart c d r s h k e =
     let p : encode_lower (c ∷ []) ≡ encode_lower (d ∷ []) = ap (take 2) e in
-    let q : Ok (c ∷ []) ≡ Ok (d ∷ []) = sym (decode_of-encode_lower (c ∷ []) (IsBytes-one c h)) ∙ ap decode_of p ∙ decode_of-encode_lower (d ∷ []) (IsBytes-one d k) in
+    let q : Ok (c ∷ []) ≡ Ok (d ∷ []) = sym (decode_of-encode_lower (c ∷ []) (IsBytes-one c h)) ∙ ap decode_of p ∙
+    decode_of-encode_lower (d ∷ []) (IsBytes-one d k) in
     (cc, ap (drop 2) e)
 
 octets_case : (a b : Bool) (c d : ℕ) (r s : List ℕ) → is_plain c ≡ a → is_plain d ≡ b → c < 256 → d < 256
@@ -58,7 +59,8 @@ spaced : (w r : List ℕ) → (w ++ space) ++ r ≡ w ++ 32 ∷ r
 spaced w r = append_assoc w space r
 
 -- bodies of one kind
-bodies_apart : (k : Kind) (b c : Body) (r s : List ℕ) → IsBody b → IsBody c → body_fits k b ≡ true → body_fits k c ≡ true → body_text b ++ r ≡ body_text c ++ s → (b ≡ c) × (r ≡ s)
+bodies_apart : (k : Kind) (b c : Body) (r s : List ℕ) → IsBody b → IsBody c → body_fits k b ≡ true → body_fits k c ≡ true → body_text b ++ r ≡ body_text c ++
+    s → (b ≡ c) × (r ≡ s)
 unfolding body_fits
 bodies_apart k Nothing Nothing r s h i f g e = (refl, e)
 bodies_apart k Nothing (TimeBody u) r s h i f g e = absurd (time_body k Nothing g f)
@@ -77,31 +79,37 @@ bodies_apart k (Hops m) (Hops n) r s h i f g e =
 
 messages_apart : (m n : MessageValue) → IsMessage m → IsMessage n → message_line m ≡ message_line n → m ≡ n
 messages_apart m n h i e =
-    let w = words_apart (kind_word m.kind) (kind_word n.kind) (message_rest m) (message_rest n) (no_space-kind_word m.kind) (no_space-kind_word n.kind) (sym (message_form m) ∙ e ∙ message_form n) in
+    let w = words_apart (kind_word m.kind) (kind_word n.kind) (message_rest m) (message_rest n) (no_space-kind_word m.kind) (no_space-kind_word n.kind)
+    (sym (message_form m) ∙ e ∙ message_form n) in
     let k = kind_word-injective m.kind n.kind w.0 in
-    let v = numbers_apart m.number n.number (body_text m.body ++ name_text m.name) (body_text n.body ++ name_text n.name) (omega (arith, h.number)) (omega (arith, i.number)) w.1 in
+    let v = numbers_apart m.number n.number (body_text m.body ++ name_text m.name) (body_text n.body ++ name_text n.name) (omega (arith, h.number))
+    (omega (arith, i.number)) w.1 in
     let fit : body_fits n.kind m.body ≡ true = rw (sym k) h.fits in
     let b = bodies_apart n.kind m.body n.body (name_text m.name) (name_text n.name) h.body i.body fit i.fits v.1 in
     let names = name_text-injective m.name n.name h.octets i.octets b.1 in
     message_parts m.kind m.number m.body m.name n k v.0 b.0 names
 
-replies_apart : (r s : ReplyValue) → (r.word < 2 ^ 64) × (r.counter < 2 ^ 64) × IsReply r.ticket r.reading → (s.word < 2 ^ 64) × (s.counter < 2 ^ 64) × IsReply s.ticket s.reading
+replies_apart : (r s : ReplyValue) → (r.word < 2 ^ 64) × (r.counter < 2 ^ 64) × IsReply r.ticket r.reading → (s.word < 2 ^ 64) × (s.counter < 2 ^ 64) ×
+    IsReply s.ticket s.reading
     → reply_rest r ≡ reply_rest s → r ≡ s
 replies_apart r s h i e =
     let t = numbers_apart r.ticket s.ticket _ _ (omega (arith, h.2.small)) (omega (arith, i.2.small)) e in
     let w = numbers_apart r.word s.word _ _ h.0 i.0 t.1 in
     let c = numbers_apart r.counter s.counter _ _ h.1 i.1 w.1 in
-    let z = signed_decimal_injective r.reading s.reading (small r.reading (omega (arith, ints, h.2.low), h.2.high)) (small s.reading (omega (arith, ints, i.2.low), i.2.high)) c.1 in
+    let z = signed_decimal_injective r.reading s.reading (small r.reading (omega (arith, ints, h.2.low), h.2.high))
+    (small s.reading (omega (arith, ints, i.2.low), i.2.high)) c.1 in
     reply_parts r.ticket r.word r.counter r.reading s t.0 w.0 c.0 z
 
 stamps_differ : (r s : List ℕ) → codes "request" ++ 32 ∷ r ≡ codes "reply" ++ 32 ∷ s → ⊥
 stamps_differ r s e = let q : ◌≡◌ {A = ℕ} 113 112 = ap (λ l. slice_index_or l 2 0) e in omega (arith, q)
 
 no_request : (m : MessageValue) (r : List ℕ) → message_line m ≡ codes "request" ++ 32 ∷ r → ⊥
-no_request m r e = kind_word-not_request m.kind (words_apart (kind_word m.kind) (codes "request") (message_rest m) r (no_space-kind_word m.kind) (no_space-spaceless (codes "request") refl) (sym (message_form m) ∙ e)).0
+no_request m r e = kind_word-not_request m.kind (words_apart (kind_word m.kind) (codes "request") (message_rest m) r (no_space-kind_word m.kind)
+    (no_space-spaceless (codes "request") refl) (sym (message_form m) ∙ e)).0
 
 no_reply : (m : MessageValue) (r : List ℕ) → message_line m ≡ codes "reply" ++ 32 ∷ r → ⊥
-no_reply m r e = kind_word-not_reply m.kind (words_apart (kind_word m.kind) (codes "reply") (message_rest m) r (no_space-kind_word m.kind) (no_space-spaceless (codes "reply") refl) (sym (message_form m) ∙ e)).0
+no_reply m r e = kind_word-not_reply m.kind (words_apart (kind_word m.kind) (codes "reply") (message_rest m) r (no_space-kind_word m.kind)
+    (no_space-spaceless (codes "reply") refl) (sym (message_form m) ∙ e)).0
 
 -- a line is one datagram's
 pub message_text-injective : (d e : Datagram) → IsDatagram d → IsDatagram e → message_text d ≡ message_text e → d ≡ e
@@ -111,13 +119,17 @@ message_text-injective (Message m) (Stamp (Reply r)) h i e = absurd (no_reply m 
 message_text-injective (Stamp (Request w c)) (Message n) h i e = absurd (no_request n (request_rest w c) (sym e ∙ request_form w c))
 message_text-injective (Stamp (Reply r)) (Message n) h i e = absurd (no_reply n (reply_rest r) (sym e ∙ reply_form r))
 message_text-injective (Stamp (Request v c)) (Stamp (Request w d)) h i e =
-    let r = (words_apart (codes "request") (codes "request") (request_rest v c) (request_rest w d) (no_space-spaceless (codes "request") refl) (no_space-spaceless (codes "request") refl) (sym (request_form v c) ∙ e ∙ request_form w d)).1 in
+    let r = (words_apart (codes "request") (codes "request") (request_rest v c) (request_rest w d) (no_space-spaceless (codes "request") refl)
+    (no_space-spaceless (codes "request") refl) (sym (request_form v c) ∙ e ∙ request_form w d)).1 in
     let p = numbers_apart v w (decimal c) (decimal d) h.0 i.0 r in
     rw (p.0, decimal_injective c d h.1 i.1 p.1) refl
-message_text-injective (Stamp (Request v c)) (Stamp (Reply r)) h i e = absurd (stamps_differ (request_rest v c) (reply_rest r) (sym (request_form v c) ∙ e ∙ reply_form r))
-message_text-injective (Stamp (Reply r)) (Stamp (Request w d)) h i e = absurd (stamps_differ (request_rest w d) (reply_rest r) (sym (request_form w d) ∙ sym e ∙ reply_form r))
+message_text-injective (Stamp (Request v c)) (Stamp (Reply r)) h i e = absurd (stamps_differ (request_rest v c) (reply_rest r) (sym (request_form v c) ∙ e ∙
+    reply_form r))
+message_text-injective (Stamp (Reply r)) (Stamp (Request w d)) h i e = absurd (stamps_differ (request_rest w d) (reply_rest r) (sym (request_form w d) ∙ sym e ∙
+    reply_form r))
 message_text-injective (Stamp (Reply r)) (Stamp (Reply s)) h i e =
-    let p = (words_apart (codes "reply") (codes "reply") (reply_rest r) (reply_rest s) (no_space-spaceless (codes "reply") refl) (no_space-spaceless (codes "reply") refl) (sym (reply_form r) ∙ e ∙ reply_form s)).1 in
+    let p = (words_apart (codes "reply") (codes "reply") (reply_rest r) (reply_rest s) (no_space-spaceless (codes "reply") refl)
+    (no_space-spaceless (codes "reply") refl) (sym (reply_form r) ∙ e ∙ reply_form s)).1 in
     ap (λ z. Stamp (Reply z)) (replies_apart r s h i p)
 
 pub IsLineOf-one : (line : List ℕ) (d e : Datagram) → IsLineOf line d → IsLineOf line e → d ≡ e

@@ -48,7 +48,8 @@ octet c h = at (is_plain c) refl where
   at : (b : Bool) → is_plain c ≡ b → NoFeed (if b then c ∷ [] else 37 ∷ encode_lower (c ∷ []))
   at true e = later c [] (λ f. let g : is_plain 10 ≡ true = rw f at e in cc) (word [] refl)
   at false e = later 37 (encode_lower (c ∷ [])) (omega arith)
-      (later (slice_index lower_digits (c / 16)) (slice_index lower_digits (c % 16) ∷ []) (hex_digit (c / 16) (omega arith)) (later (slice_index lower_digits (c % 16)) [] (hex_digit (c % 16) (omega arith)) (word [] refl)))
+      (later (slice_index lower_digits (c / 16)) (slice_index lower_digits (c % 16) ∷ []) (hex_digit (c / 16) (omega arith))
+      (later (slice_index lower_digits (c % 16)) [] (hex_digit (c % 16) (omega arith)) (word [] refl)))
 
 octets : (cs : List ℕ) → IsBytes cs → NoFeed (flat_map escaped cs)
 octets [] b = word [] refl
@@ -65,19 +66,25 @@ body (Hops n) h = NoFeed-append (decimal n) space (number n (omega (arith, h))) 
 
 message : (m : MessageValue) → IsMessage m → NoFeed (message_text (Message m))
 message m h =
-    let front = NoFeed-append (((kind_word m.kind ++ space) ++ decimal m.number)) space (NoFeed-append (kind_word m.kind ++ space) (decimal m.number) (NoFeed-append (kind_word m.kind) space (kind m.kind) blank) (number m.number (omega (arith, h.number)))) blank in
-    NoFeed-append ((((kind_word m.kind ++ space) ++ decimal m.number) ++ space) ++ body_text m.body) (name_text m.name) (NoFeed-append (((kind_word m.kind ++ space) ++ decimal m.number) ++ space) (body_text m.body) front (body m.body h.body)) (name m.name h.octets)
+    let front = NoFeed-append (((kind_word m.kind ++ space) ++ decimal m.number)) space (NoFeed-append (kind_word m.kind ++
+    space) (decimal m.number) (NoFeed-append (kind_word m.kind) space (kind m.kind) blank) (number m.number (omega (arith, h.number)))) blank in
+    NoFeed-append ((((kind_word m.kind ++ space) ++ decimal m.number) ++ space) ++ body_text m.body) (name_text m.name)
+    (NoFeed-append (((kind_word m.kind ++ space) ++ decimal m.number) ++ space) (body_text m.body) front (body m.body h.body)) (name m.name h.octets)
 
 request : (word' counter : ℕ) → word' < 2 ^ 64 → counter < 2 ^ 64 → NoFeed (message_text (Stamp (Request word' counter)))
-request w c h k = NoFeed-append ((codes "request " ++ decimal w) ++ space) (decimal c) (NoFeed-append (codes "request " ++ decimal w) space (NoFeed-append (codes "request ") (decimal w) (word (codes "request ") refl) (number w h)) blank) (number c k)
+request w c h k = NoFeed-append ((codes "request " ++ decimal w) ++ space) (decimal c) (NoFeed-append (codes "request " ++
+    decimal w) space (NoFeed-append (codes "request ") (decimal w) (word (codes "request ") refl) (number w h)) blank) (number c k)
 
 reply : (r : ReplyValue) → r.word < 2 ^ 64 → r.counter < 2 ^ 64 → IsReply r.ticket r.reading → NoFeed (message_text (Stamp (Reply r)))
 reply r h k v =
     let a = NoFeed-append (codes "reply ") (decimal r.ticket) (word (codes "reply ") refl) (number r.ticket (omega (arith, v.small))) in
-    let b = NoFeed-append ((codes "reply " ++ decimal r.ticket) ++ space) (decimal r.word) (NoFeed-append (codes "reply " ++ decimal r.ticket) space a blank) (number r.word h) in
-    let c = NoFeed-append ((((codes "reply " ++ decimal r.ticket) ++ space) ++ decimal r.word) ++ space) (decimal r.counter) (NoFeed-append (((codes "reply " ++ decimal r.ticket) ++ space) ++ decimal r.word) space b blank) (number r.counter k) in
+    let b = NoFeed-append ((codes "reply " ++ decimal r.ticket) ++ space) (decimal r.word) (NoFeed-append (codes "reply " ++ decimal r.ticket) space a blank)
+    (number r.word h) in
+    let c = NoFeed-append ((((codes "reply " ++ decimal r.ticket) ++ space) ++ decimal r.word) ++
+    space) (decimal r.counter) (NoFeed-append (((codes "reply " ++ decimal r.ticket) ++ space) ++ decimal r.word) space b blank) (number r.counter k) in
     NoFeed-append ((((((codes "reply " ++ decimal r.ticket) ++ space) ++ decimal r.word) ++ space) ++ decimal r.counter) ++ space) (signed_decimal r.reading)
-    (NoFeed-append (((((codes "reply " ++ decimal r.ticket) ++ space) ++ decimal r.word) ++ space) ++ decimal r.counter) space c blank) (time r.reading (omega (arith, ints, v.low), v.high))
+    (NoFeed-append (((((codes "reply " ++ decimal r.ticket) ++ space) ++ decimal r.word) ++ space) ++ decimal r.counter) space c blank)
+    (time r.reading (omega (arith, ints, v.low), v.high))
 
 -- a message line has no line feed
 pub NoFeed-message_text : (d : Datagram) → IsDatagram d → NoFeed (message_text d)
@@ -86,7 +93,8 @@ NoFeed-message_text (Stamp (Request w c)) h = request w c h.0 h.1
 NoFeed-message_text (Stamp (Reply r)) h = reply r h.0 h.1 h.2
 
 -- the lines of datagrams in hexadecimal, of which none has a line feed
-lines_of : (lines : List (List ℕ)) (ds : List Datagram) → AllZip IsHexLineOf lines ds → AllZip IsLineOf (map message_text ds) ds × All NoFeed (map message_text ds)
+lines_of : (lines : List (List ℕ)) (ds : List Datagram) → AllZip IsHexLineOf lines ds → AllZip IsLineOf (map message_text ds) ds ×
+    All NoFeed (map message_text ds)
 lines_of [] [] z = (tt, λ k d h. absurd (omega (arith, h)))
 lines_of (l ∷ ls) (d ∷ ds) z =
     let range = IsHexLineOf-in_ranges l d z.0 in
@@ -112,7 +120,8 @@ shown_packs lines text w a =
     (map message_text a.0, back.1, a.2, (a.0, back.0, ap closed (written_lines lines a.0 w a.1)))
 
 -- the answer to what was shown
-pub answer_shown : (limit : ℕ) (lines : List (List ℕ)) (output : List ℕ) → All NoFeed lines → All IsWritten lines → IsAnswer show_meaning limit (closed lines) Done output → length output ≤ limit → IsAnswer pack_meaning limit output Done (closed lines)
+pub answer_shown : (limit : ℕ) (lines : List (List ℕ)) (output : List ℕ) → All NoFeed lines → All IsWritten lines →
+    IsAnswer show_meaning limit (closed lines) Done output → length output ≤ limit → IsAnswer pack_meaning limit output Done (closed lines)
 answer_shown limit lines output n w a l =
     let whole = a.ending.0 in
     let are : AreLines (closed lines) a.lines = rw whole.2.1 whole.1 in

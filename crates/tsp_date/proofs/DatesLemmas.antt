@@ -1,5 +1,6 @@
 -- Where a peer's date is, and how it changes.
-use Rattle.std.proofs.Common.{◌≡◌, ℕ, zero, suc, ◌+◌, ◌<◌, ◌==◌, nat_lt, not, cond, get_or, set, Bool, true, false, if◌then◌else◌, ◌||◌, List, [], ◌∷◌, length, map, Option, Some, None, refl, sym, ◌∙◌, ap, arith, eqb-true, position}
+use Rattle.std.proofs.Common.{◌≡◌, ℕ, zero, suc, ◌+◌, ◌<◌, ◌==◌, nat_lt, not, cond, get_or, set, Bool, true, false, if◌then◌else◌, ◌||◌, List, [], ◌∷◌, length}
+use Rattle.std.proofs.Common.{map, Option, Some, None, refl, sym, ◌∙◌, ap, arith, eqb-true, position}
 use Rattle.std.{proofs.lemmas.Bool.ltb-true, proofs.lemmas.Bool.lt-ltb, proofs.lemmas.Bool.false≢true, specs.List.position_or_len}
 use Rattle.tsp_rules.specs.Values.{PeerId}
 use Rattle.tsp_base.specs.Words.{is_among, Dating}
@@ -39,7 +40,8 @@ last-none ds p e = absent ds (missing p ds e) where
   absent : (ds : List Dated) → (at p ds < length ds → ⊥) → last_in ds p ≡ None
   absent [] n = refl
   absent (e ∷ ds) n = by_test (e.peer.0 == p.0) (at p ds) n (absent ds) where
-    by_test : (b : Bool) (k : ℕ) → (cond (not b) (1 + k) 0 < length (e ∷ ds) → ⊥) → ((k < length ds → ⊥) → last_in ds p ≡ None) → (if b then dating_in e.last else last_in ds p) ≡ None
+    by_test : (b : Bool) (k : ℕ) → (cond (not b) (1 + k) 0 < length (e ∷ ds) → ⊥) → ((k < length ds → ⊥) → last_in ds p ≡ None) →
+        (if b then dating_in e.last else last_in ds p) ≡ None
     by_test true k n r = absurd (n (omega arith))
     by_test false k n r = r (λ h. n (omega arith))
 
@@ -47,7 +49,8 @@ last-none ds p e = absent ds (missing p ds e) where
 pub always_known : (ds : List Dated) (p : PeerId) → is_among p (peers_of ds) ≡ true → at p ds < length ds
 always_known [] p e = absurd (false≢true e)
 always_known (d ∷ ds) p e = by_test (d.peer.0 == p.0) (at p ds) e (always_known ds p) where
-  by_test : (b : Bool) (n : ℕ) → (b || is_among p (peers_of ds)) ≡ true → (is_among p (peers_of ds) ≡ true → n < length ds) → cond (not b) (1 + n) 0 < length (d ∷ ds)
+  by_test : (b : Bool) (n : ℕ) → (b || is_among p (peers_of ds)) ≡ true → (is_among p (peers_of ds) ≡ true → n < length ds) →
+      cond (not b) (1 + n) 0 < length (d ∷ ds)
   by_test true n e k = omega arith
   by_test false n e k = let h = k e in omega (arith, h)
 
@@ -58,7 +61,8 @@ never_missing ds p e m = missing p ds m (always_known ds p e)
 pub peer-at : (ds : List Dated) (p : PeerId) (d : Dated) → at p ds < length ds → (get_or ds (at p ds) d).peer.0 ≡ p.0
 peer-at [] p d h = absurd (omega arith)
 peer-at (e ∷ ds) p d h = by_test (e.peer.0 == p.0) refl (at p ds) h (peer-at ds p d) where
-  by_test : (b : Bool) → (e.peer.0 == p.0) ≡ b → (n : ℕ) → cond (not b) (1 + n) 0 < length (e ∷ ds) → (n < length ds → (get_or ds n d).peer.0 ≡ p.0) → (get_or (e ∷ ds) (cond (not b) (1 + n) 0) d).peer.0 ≡ p.0
+  by_test : (b : Bool) → (e.peer.0 == p.0) ≡ b → (n : ℕ) → cond (not b) (1 + n) 0 < length (e ∷ ds) → (n < length ds → (get_or ds n d).peer.0 ≡ p.0) →
+      (get_or (e ∷ ds) (cond (not b) (1 + n) 0) d).peer.0 ≡ p.0
   by_test true t n h k = eqb-true e.peer.0 p.0 t
   by_test false t n h k = let one : 1 + n ≡ suc n = omega arith in rw one (k (omega arith))
 
@@ -70,18 +74,22 @@ last-set (e ∷ ds) p new q h f = by_test (e.peer.0 == p.0) refl (at p ds) h (λ
   same true l = refl
   same false l = refl
 
-  other : (b : Bool) → (e.peer.0 == q.0) ≡ b → (e.peer.0 == p.0) ≡ false → (l : Option Dating) → (if b then dating_in e.last else (if p.0 == q.0 then dating_in new.last else l)) ≡ (if p.0 == q.0 then dating_in new.last else (if b then dating_in e.last else l))
+  other : (b : Bool) → (e.peer.0 == q.0) ≡ b → (e.peer.0 == p.0) ≡ false → (l : Option Dating) →
+      (if b then dating_in e.last else (if p.0 == q.0 then dating_in new.last else l)) ≡
+      (if p.0 == q.0 then dating_in new.last else (if b then dating_in e.last else l))
   other true t n l =
       let apart : (p.0 == q.0) ≡ false = sym (ap (λ k. p.0 == k) (eqb-true e.peer.0 q.0 t)) ∙ turned (e.peer.0 == p.0) n in
       rw apart refl where
         turned : (b : Bool) → (e.peer.0 == p.0) ≡ false → (p.0 == e.peer.0) ≡ false
         turned b k = by_case (p.0 == e.peer.0) refl where
           by_case : (c : Bool) → (p.0 == e.peer.0) ≡ c → c ≡ false
-          by_case true m = let is : p.0 ≡ e.peer.0 = eqb-true p.0 e.peer.0 m in absurd (false≢true (sym k ∙ ap (λ n. e.peer.0 == n) is ∙ sym (ap (λ n. n == e.peer.0) is) ∙ m))
+          by_case true m = let is : p.0 ≡ e.peer.0 = eqb-true p.0 e.peer.0 m in absurd (false≢true (sym k ∙ ap (λ n. e.peer.0 == n) is ∙
+              sym (ap (λ n. n == e.peer.0) is) ∙ m))
           by_case false m = refl
   other false t n l = refl
 
-  by_test : (b : Bool) → (e.peer.0 == p.0) ≡ b → (n : ℕ) → cond (not b) (1 + n) 0 < length (e ∷ ds) → (n < length ds → last_in (set ds n new) q ≡ (if p.0 == q.0 then dating_in new.last else last_in ds q)) →
+  by_test : (b : Bool) → (e.peer.0 == p.0) ≡ b → (n : ℕ) → cond (not b) (1 + n) 0 < length (e ∷ ds) →
+      (n < length ds → last_in (set ds n new) q ≡ (if p.0 == q.0 then dating_in new.last else last_in ds q)) →
       last_in (set (e ∷ ds) (cond (not b) (1 + n) 0) new) q ≡ (if p.0 == q.0 then dating_in new.last else last_in (e ∷ ds) q)
   by_test true t n h k =
       let is : e.peer.0 ≡ p.0 = eqb-true e.peer.0 p.0 t in

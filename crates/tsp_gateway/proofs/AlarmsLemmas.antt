@@ -16,8 +16,10 @@ alarms_room-front [] (suc i) peers = omega arith
 alarms_room-front (a ∷ rest) (suc i) peers = let front = alarms_room-front rest i peers in omega (arith, front)
 
 -- one alarm more of all
-pub alarms_room-next : (i peers : ℕ) → i < length ALL → alarms_room (take (i + 1) ALL) peers ≡ alarms_room (take i ALL) peers + alarm_room (slice_index_or ALL i Quiet) peers
-alarms_room-next i peers lt = ap (λ alarms. alarms_room alarms peers) (take_one_more ALL i Quiet lt) ∙ alarms_room-more (take i ALL) (slice_index_or ALL i Quiet) peers
+pub alarms_room-next : (i peers : ℕ) → i < length ALL → alarms_room (take (i + 1) ALL) peers ≡
+    alarms_room (take i ALL) peers + alarm_room (slice_index_or ALL i Quiet) peers
+alarms_room-next i peers lt = ap (λ alarms. alarms_room alarms peers) (take_one_more ALL i Quiet lt) ∙
+    alarms_room-more (take i ALL) (slice_index_or ALL i Quiet) peers
 
 pub little_room : (a : Alarm) (peers : ℕ) → 2 * peers + 8 ≤ alarm_room a peers
 little_room Probe peers = omega arith
@@ -54,6 +56,7 @@ drop_all zero (x ∷ xs) h = absurd (omega arith)
 drop_all (suc i) (x ∷ xs) h = drop_all i xs (omega arith)
 
 -- with no alarm left nothing is to be done
-pub nothing_left : {S : Type 0} {p : NodePast → S → Type 0} (q : Port) {x : ℕ} {state : S} {old : List Placed} → PerformsAll p p (all_on q []) x state state old old
+pub nothing_left : {S : Type 0} {p : NodePast → S → Type 0} (q : Port) {x : ℕ} {state : S} {old : List Placed} →
+    PerformsAll p p (all_on q []) x state state old old
 unfolding nothing_at_all
 nothing_left q = All_nothing

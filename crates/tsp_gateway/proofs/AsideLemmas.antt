@@ -42,7 +42,13 @@ stands-aside x past _ v n h = record {
     peers = h.master.peers;
     entries = h.master.entries;
     asked_is = h.master.asked_is;
-    going = λ g. let r = h.master.going g in record { requests = r.requests; samples = r.samples; probes_is = r.probes_is; opened = r.opened; recent = r.recent };
+    going = λ g. let r = h.master.going g in record {
+      requests = r.requests;
+      samples = r.samples;
+      probes_is = r.probes_is;
+      opened = r.opened;
+      recent = r.recent;
+    };
     idle = h.master.idle;
     probing = h.master.probing;
     empty = h.master.empty;
@@ -60,12 +66,14 @@ record Remembered (past : Past) (tick : Option ℕ) (took : Option Correcting) :
   pub tick_is : tick ≡ correct_tick (plain past.seen)
   pub taken_is : took ≡ last_taken past.seen
 
-still-aside : (x : ℕ) (past : Past) (a : Act) (tick : Option ℕ) (took : Option Correcting) → (a ≡ Boot → ⊥) → is_correct a ≡ false → Remembered past tick took → Remembered (aside x past a) tick took
+still-aside : (x : ℕ) (past : Past) (a : Act) (tick : Option ℕ) (took : Option Correcting) → (a ≡ Boot → ⊥) → is_correct a ≡ false → Remembered past tick took →
+    Remembered (aside x past a) tick took
 still-aside x past Boot tick took n c h = absurd (n refl)
 still-aside x past (Correct amount stepped shown) tick took n c h = absurd (true≢false c)
 still-aside x past _ tick took n c h = record { tick_is = h.tick_is; taken_is = h.taken_is }
 
-still-all-aside : (x : ℕ) (past : Past) (acts : List Act) (tick : Option ℕ) (took : Option Correcting) → Bootless acts → corrects acts ≡ false → Remembered past tick took → Remembered (all_aside x past acts) tick took
+still-all-aside : (x : ℕ) (past : Past) (acts : List Act) (tick : Option ℕ) (took : Option Correcting) → Bootless acts → corrects acts ≡ false →
+    Remembered past tick took → Remembered (all_aside x past acts) tick took
 still-all-aside x past [] tick took b c h = record { tick_is = h.tick_is; taken_is = h.taken_is }
 still-all-aside x past (a ∷ later) tick took b c h =
     let both = or_parts (is_correct a) (corrects later) c in
@@ -88,7 +96,8 @@ told-all-aside x past (a ∷ later) b h = told-all-aside x (aside x past a) late
 moved-all-aside : (x : ℕ) (past : Past) (acts : List Act) → Bootless acts → corrects acts ≡ true → Remembered (all_aside x past acts) (Some x) None
 moved-all-aside x past [] b c = absurd (true≢false (sym c))
 moved-all-aside x past (a ∷ later) b c = by_case (is_correct a) refl c (λ f. moved-all-aside x (aside x past a) later b.1 f) where
-  by_case : (d : Bool) → is_correct a ≡ d → (d || corrects later) ≡ true → (corrects later ≡ true → Remembered (all_aside x (aside x past a) later) (Some x) None) → Remembered (all_aside x (aside x past a) later) (Some x) None
+  by_case : (d : Bool) → is_correct a ≡ d → (d || corrects later) ≡ true → (corrects later ≡ true →
+      Remembered (all_aside x (aside x past a) later) (Some x) None) → Remembered (all_aside x (aside x past a) later) (Some x) None
   by_case true e f more = told-all-aside x (aside x past a) later b.1 (moved-aside x past a e)
   by_case false e f more = more f
 
@@ -96,20 +105,36 @@ aside-of : (past : Past) (part : Part) (clock : ClockValue) → PortStands past 
 aside-of past part clock h = record { station = h.station; name_is = h.last.name_is; master = h.master; resolve = h.resolve; dates = h.dates }
 
 -- another port's acts leave a port alone that don't correct
-pub stands_still : (x : ℕ) (past : Past) (acts : List Act) (part : Part) (before after : ClockValue) → Bootless acts → corrects acts ≡ false → ClockStands (all_aside x past acts) after → PortStands past (port_with part before) →
+pub stands_still : (x : ℕ) (past : Past) (acts : List Act) (part : Part) (before after : ClockValue) → Bootless acts → corrects acts ≡ false →
+    ClockStands (all_aside x past acts) after → PortStands past (port_with part before) →
     PortStands (all_aside x past acts) (port_with part after)
 stands_still x past acts part before after b c k h =
     let s = stands-all-aside x past acts (port_with part before) b (aside-of past part before h) in
     let r = still-all-aside x past acts part.last.tick part.last.taken b c (record { tick_is = h.last.tick_is; taken_is = h.last.taken_is }) in
-    record { station = s.station; last = record { tick_is = r.tick_is; taken_is = r.taken_is; name_is = s.name_is }; master = s.master; resolve = s.resolve; dates = s.dates; clock = k }
+    record {
+      station = s.station;
+      last = record { tick_is = r.tick_is; taken_is = r.taken_is; name_is = s.name_is };
+      master = s.master;
+      resolve = s.resolve;
+      dates = s.dates;
+      clock = k;
+    }
 
 -- it stands once it is told where they do
-pub stands_told : (x : ℕ) (past : Past) (acts : List Act) (part : Part) (before after : ClockValue) → Bootless acts → corrects acts ≡ true → ClockStands (all_aside x past acts) after → PortStands past (port_with part before) →
+pub stands_told : (x : ℕ) (past : Past) (acts : List Act) (part : Part) (before after : ClockValue) → Bootless acts → corrects acts ≡ true →
+    ClockStands (all_aside x past acts) after → PortStands past (port_with part before) →
     PortStands (all_aside x past acts) (told x part after)
 stands_told x past acts part before after b c k h =
     let s = stands-all-aside x past acts (port_with part before) b (aside-of past part before h) in
     let r = moved-all-aside x past acts b c in
-    record { station = s.station; last = record { tick_is = r.tick_is; taken_is = r.taken_is; name_is = s.name_is }; master = s.master; resolve = s.resolve; dates = s.dates; clock = k }
+    record {
+      station = s.station;
+      last = record { tick_is = r.tick_is; taken_is = r.taken_is; name_is = s.name_is };
+      master = s.master;
+      resolve = s.resolve;
+      dates = s.dates;
+      clock = k;
+    }
 
 -- what a port has taken and whether it has acted is its own
 pub taken_aside : (x : ℕ) (past : Past) (acts : List Act) → taken (all_aside x past acts).seen ≡ taken past.seen

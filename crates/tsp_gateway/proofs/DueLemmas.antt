@@ -1,5 +1,6 @@
 -- The earliest of several ports' deadlines.
-use Rattle.std.proofs.Common.{refl, sym, ◌∙◌, ap, subst, inl, inr, arith, ◌≡◌, ◌⊎◌, ℕ, zero, suc, ◌<◌, false, min, List, [], ◌∷◌, ◌++◌, length, Option, None, Some, slice_get}
+use Rattle.std.proofs.Common.{refl, sym, ◌∙◌, ap, subst, inl, inr, arith, ◌≡◌, ◌⊎◌, ℕ, zero, suc, ◌<◌, false, min, List, [], ◌∷◌, ◌++◌, length, Option, None}
+use Rattle.std.proofs.Common.{Some, slice_get}
 use Rattle.std.proofs.lemmas.{Bool.lt-leb, Option.same_Some}
 use Rattle.tsp_base.specs.Words.{earlier, least_deadline, Past}
 use Rattle.tsp_rules.specs.{Guards.is_over, NodeRows.NodePast, NodeRows.on_port}
@@ -30,7 +31,8 @@ get-append (o ∷ rest) d x zero e = inl e
 get-append (o ∷ rest) d x (suc q) e = elim (get-append rest d x q e) [ inl h ↦ inl h | inr h ↦ inr (ap suc h.0, h.1) ]
 
 -- a port's deadline by what the node keeps of it is that of its past
-IsPortDue-of : (past : Past) (station : Station) (due : Option ℕ) (sends : Option ℕ) → StationStands past station → IsEarliest (sending_to station.sends) sends → due ≡ earlier (least_deadline station.alarms) sends → IsPortDue past.seen due
+IsPortDue-of : (past : Past) (station : Station) (due : Option ℕ) (sends : Option ℕ) → StationStands past station →
+    IsEarliest (sending_to station.sends) sends → due ≡ earlier (least_deadline station.alarms) sends → IsPortDue past.seen due
 IsPortDue-of past station due sends s first e = record {
   sends = sends;
   first = IsEarliest-open past station sends s first;

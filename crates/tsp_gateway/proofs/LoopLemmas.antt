@@ -1,5 +1,6 @@
 -- Calls for a node's ports, one after the other.
-use Rattle.std.proofs.Common.{sym, subst, ap, append-nil, arith, ◌∙◌, ◌≡◌, ℕ, zero, suc, ◌+◌, ◌-◌, ◌<◌, ◌≤◌, Bool, true, false, if◌then◌else◌, List, [], ◌∷◌, filter, length, refl}
+use Rattle.std.proofs.Common.{sym, subst, ap, append-nil, arith, ◌∙◌, ◌≡◌, ℕ, zero, suc, ◌+◌, ◌-◌, ◌<◌, ◌≤◌, Bool, true, false, if◌then◌else◌, List, [], ◌∷◌}
+use Rattle.std.proofs.Common.{filter, length, refl}
 use Rattle.tsp_rules.specs.{GateRows.ports_from, NodePerforms.PerformsAll, Values.Placed, Values.Port}
 use Rattle.tsp_rules.specs.NodeRows.{NodePast, NodeRow, PortSetup, for_ports, nothing_at_all, reading_all}
 use Rattle.tsp_rules.proofs.NodeRowLemmas.{All_then}
@@ -35,12 +36,14 @@ left whole q r n = filter (is_upset whole q) (between r (n - r))
 pub left_kept : (whole : Bool) (q r n : ℕ) → r < n → is_upset whole q (port_at r) ≡ true → left whole q r n ≡ port_at r ∷ left whole q (r + 1) n
 unfolding left
 left_kept whole q r n lt e =
-    ap (filter (is_upset whole q)) (between-more r n lt) ∙ ap (λ (b : Bool). if b then port_at r ∷ filter (is_upset whole q) (between (r + 1) (n - (r + 1))) else filter (is_upset whole q) (between (r + 1) (n - (r + 1)))) e
+    ap (filter (is_upset whole q)) (between-more r n lt) ∙ ap (λ (b : Bool). if b then port_at r ∷
+    filter (is_upset whole q) (between (r + 1) (n - (r + 1))) else filter (is_upset whole q) (between (r + 1) (n - (r + 1)))) e
 
 pub left_passed : (whole : Bool) (q r n : ℕ) → r < n → is_upset whole q (port_at r) ≡ false → left whole q r n ≡ left whole q (r + 1) n
 unfolding left
 left_passed whole q r n lt e =
-    ap (filter (is_upset whole q)) (between-more r n lt) ∙ ap (λ (b : Bool). if b then port_at r ∷ filter (is_upset whole q) (between (r + 1) (n - (r + 1))) else filter (is_upset whole q) (between (r + 1) (n - (r + 1)))) e
+    ap (filter (is_upset whole q)) (between-more r n lt) ∙ ap (λ (b : Bool). if b then port_at r ∷
+    filter (is_upset whole q) (between (r + 1) (n - (r + 1))) else filter (is_upset whole q) (between (r + 1) (n - (r + 1)))) e
 
 pub left_none : (whole : Bool) (q r n : ℕ) → n ≤ r → left whole q r n ≡ []
 unfolding left
@@ -60,24 +63,33 @@ left_all true q x past = sym (filter-all (ports_from 0 past.ports) q) ∙ ap (fi
 left_all false q x past = ap (filter (is_upset false q)) (all-between past.ports)
 
 -- a call for one port more
-pub next_port : {P Q R : NodePast → Gateway → Type 0} (row : Port → NodeRow) (whole : Bool) (q r n x : ℕ) {g h last : Gateway} {old mid new : List Placed} → r < n → is_upset whole q (port_at r) ≡ true → PerformsAll P Q (row (port_at r)) x g h old mid →
+pub next_port : {P Q R : NodePast → Gateway → Type 0} (row : Port → NodeRow) (whole : Bool) (q r n x : ℕ) {g h last : Gateway} {old mid new : List Placed} →
+    r < n → is_upset whole q (port_at r) ≡ true → PerformsAll P Q (row (port_at r)) x g h old mid →
     PerformsAll Q R (for_ports row (left whole q (r + 1) n)) x h last mid new → PerformsAll P R (for_ports row (left whole q r n)) x g last old new
 unfolding for_ports
 next_port {P} {Q} {R} row whole q r n x {g} {h} {last} {old} {mid} {new} lt e one more =
     subst (λ ports. PerformsAll P R (for_ports row ports) x g last old new) (sym (left_kept whole q r n lt e)) (All_then one more)
 
 -- a port that is passed over
-pub no_port : {P R : NodePast → Gateway → Type 0} (row : Port → NodeRow) (whole : Bool) (q r n x : ℕ) {g last : Gateway} {old new : List Placed} → r < n → is_upset whole q (port_at r) ≡ false →
+pub no_port : {P R : NodePast → Gateway → Type 0} (row : Port → NodeRow) (whole : Bool) (q r n x : ℕ) {g last : Gateway} {old new : List Placed} → r < n →
+    is_upset whole q (port_at r) ≡ false →
     PerformsAll P R (for_ports row (left whole q (r + 1) n)) x g last old new → PerformsAll P R (for_ports row (left whole q r n)) x g last old new
-no_port {P} {R} row whole q r n x {g} {last} {old} {new} lt e more = subst (λ ports. PerformsAll P R (for_ports row ports) x g last old new) (sym (left_passed whole q r n lt e)) more
+no_port {P} {R} row whole q r n x {g} {last} {old} {new} lt e more = subst (λ ports. PerformsAll P R (for_ports row ports) x g last old new)
+    (sym (left_passed whole q r n lt e)) more
 
 -- no port is left
-pub last_port : {P R : NodePast → Gateway → Type 0} (row : Port → NodeRow) (whole : Bool) (q r n x : ℕ) {g : Gateway} {old : List Placed} → n ≤ r → ((past : NodePast) → P past g → R past g) → PerformsAll P R (for_ports row (left whole q r n)) x g g old old
+pub last_port : {P R : NodePast → Gateway → Type 0} (row : Port → NodeRow) (whole : Bool) (q r n x : ℕ) {g : Gateway} {old : List Placed} → n ≤ r →
+    ((past : NodePast) → P past g → R past g) → PerformsAll P R (for_ports row (left whole q r n)) x g g old old
 unfolding for_ports nothing_at_all
 last_port {P} {R} row whole q r n x {g} {old} le k =
-    subst (λ ports. PerformsAll P R (for_ports row ports) x g g old old) (sym (left_none whole q r n le)) (record { acts = λ past h. sym (append-nil old); stands = λ past h. k past h })
+    subst (λ ports. PerformsAll P R (for_ports row ports) x g g old old) (sym (left_none whole q r n le)) (record {
+      acts = λ past h. sym (append-nil old);
+      stands = λ past h. k past h;
+    })
 
 -- the calls of all that are upset
-pub upset_all : {P R : NodePast → Gateway → Type 0} (row : Port → NodeRow) (whole : Bool) (q x : ℕ) {g last : Gateway} {old new : List Placed} → ((past : NodePast) → P past g → GatewayStands past g) → PerformsAll P R (for_ports row (left whole q 0 (length g.ports.items))) x g last old new →
+pub upset_all : {P R : NodePast → Gateway → Type 0} (row : Port → NodeRow) (whole : Bool) (q x : ℕ) {g last : Gateway} {old new : List Placed} →
+    ((past : NodePast) → P past g → GatewayStands past g) → PerformsAll P R (for_ports row (left whole q 0 (length g.ports.items))) x g last old new →
     PerformsAll P R (reading_all (upset_ports whole (port_at q)) (for_ports row)) x g last old new
-upset_all row whole q x {g} stands d = All_reading (upset_ports whole (port_at q)) (for_ports row) (left whole q 0 (length g.ports.items)) (λ past h. left_all whole q x past ∙ ap (left whole q 0) (sym (stands past h).many)) d
+upset_all row whole q x {g} stands d = All_reading (upset_ports whole (port_at q)) (for_ports row) (left whole q 0 (length g.ports.items))
+    (λ past h. left_all whole q x past ∙ ap (left whole q 0) (sym (stands past h).many)) d

@@ -17,10 +17,12 @@ cons_same s t a b e f = cc
 setups_same : (parts : List Part) (setups : List PortSetup) → length parts ≡ length setups
     → ((q : ℕ) (part : Part) → slice_get parts q ≡ Some part → setup_in part ≡ slice_index_or setups q no_port) → map setup_in parts ≡ setups
 setups_same [] [] e f = refl
-setups_same (p ∷ parts) (s ∷ rest) e f = cons_same (setup_in p) s (map setup_in parts) rest (f 0 p refl) (setups_same parts rest (omega (arith, e)) (λ q part h. f (suc q) part h))
+setups_same (p ∷ parts) (s ∷ rest) e f = cons_same (setup_in p) s (map setup_in parts) rest (f 0 p refl)
+    (setups_same parts rest (omega (arith, e)) (λ q part h. f (suc q) part h))
 setups_same _ _ e f = absurd (cc)
 
 -- the ports are set up as the node's past says
 pub setups-stand : (past : NodePast) (g : Gateway) → GatewayStands past g → setups_in g ≡ past.ports
 setups-stand past g s =
-    setups_same g.ports.items past.ports s.many (λ q part h. same_setup (setup_in part) (slice_index_or past.ports q no_port) (s.ports q part h).station.own (s.ports q part h).station.peers)
+    setups_same g.ports.items past.ports s.many (λ q part h. same_setup (setup_in part) (slice_index_or past.ports q no_port) (s.ports q part h).station.own
+    (s.ports q part h).station.peers)

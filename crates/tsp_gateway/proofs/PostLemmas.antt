@@ -21,7 +21,8 @@ sort-loop m sorts k e = rw k e
 emits-post : {sorts : List Sort} (p : PeerId) (m : MessageValue) → m.kind ≡ LoopKind → is_in Posting sorts ≡ true → Emits sorts (puts (repost m p))
 emits-post {sorts} p m k i = Emits_puts (repost m p) (sort-loop m sorts k i)
 
-one-post : (p : PeerId) (m : MessageValue) (x : ℕ) (past : Past) (state : TracedValue) → m.kind ≡ LoopKind → TakeStands past state → TakeStands (grown x past (repost m p ∷ [])) state
+one-post : (p : PeerId) (m : MessageValue) (x : ℕ) (past : Past) (state : TracedValue) → m.kind ≡ LoopKind → TakeStands past state →
+    TakeStands (grown x past (repost m p ∷ [])) state
 unfolding puts
 one-post p m x past state k h =
     let numbered : is_numbered m.kind ≡ false = rw k refl in
@@ -37,22 +38,29 @@ one-post p m x past state k h =
       trace = TraceStands_by (puts (repost m p)) (emits-post p m k refl) x past state.tracing h.trace;
     }
 
-all-posts : (ps : List PeerId) (m : MessageValue) (x : ℕ) (past : Past) (state : TracedValue) → m.kind ≡ LoopKind → TakeStands past state → TakeStands (grown x past (map (repost m) ps)) state
+all-posts : (ps : List PeerId) (m : MessageValue) (x : ℕ) (past : Past) (state : TracedValue) → m.kind ≡ LoopKind → TakeStands past state →
+    TakeStands (grown x past (map (repost m) ps)) state
 all-posts [] m x past state k h = h
 all-posts (p ∷ later) m x past state k h = all-posts later m x (grown x past (repost m p ∷ [])) state k (one-post p m x past state k h)
 
 -- a LOOP to each other peer of a port
-pub All_posted : {x : ℕ} {g : Gateway} {part : Part} {old new : List Placed} (q : ℕ) (row : Row) (m : MessageValue) → m.kind ≡ LoopKind → Emits still_sorts row → slice_get g.ports.items q ≡ Some part →
+pub All_posted : {x : ℕ} {g : Gateway} {part : Part} {old new : List Placed} (q : ℕ) (row : Row) (m : MessageValue) → m.kind ≡ LoopKind →
+    Emits still_sorts row → slice_get g.ports.items q ≡ Some part →
     new ≡ old ++ placed (port_at q) (map (repost m) (others part.station.me.own part.station.peers)) →
-    ((past : Past) → TakeStands past (traced_with part g.clock g.tracing) → map (repost m) (others part.station.me.own part.station.peers) ≡ row x past) → PerformsAll GatewayStands GatewayStands (on (port_at q) row) x g g old new
+    ((past : Past) → TakeStands past (traced_with part g.clock g.tracing) → map (repost m) (others part.station.me.own part.station.peers) ≡ row x past) →
+    PerformsAll GatewayStands GatewayStands (on (port_at q) row) x g g old new
 All_posted {x} {g} {part} {old} {new} q row m k e was put same =
-    All_on {W = GatewayStands} {P = TakeStands} {Q = TakeStands} false part part (bootless_silent (silent_still e)) (λ past w. still_by e x (on_port (port_at q) past)) (sym (set_same g.ports.items q part was)) (λ past w. w) (λ past w. take_stands q past g part was w) (λ past t. t)
+    All_on {W = GatewayStands} {P = TakeStands} {Q = TakeStands} false part part (bootless_silent (silent_still e))
+    (λ past w. still_by e x (on_port (port_at q) past)) (sym (set_same g.ports.items q part was)) (λ past w. w) (λ past w. take_stands q past g part was w)
+    (λ past t. t)
     (record {
       acts = λ past h. put ∙ ap (λ acts. old ++ placed (port_at q) acts) (same past h);
-      stands = λ past h. subst (λ acts. TakeStands (grown x past acts) (traced_with part g.clock g.tracing)) (same past h) (all-posts (others part.station.me.own part.station.peers) m x past (traced_with part g.clock g.tracing) k h);
+      stands = λ past h. subst (λ acts. TakeStands (grown x past acts) (traced_with part g.clock g.tracing)) (same past h)
+          (all-posts (others part.station.me.own part.station.peers) m x past (traced_with part g.clock g.tracing) k h);
     })
 
 -- a node's own LOOP, posted as it is
-pub loops_are : (q : Port) (name : List ℕ) (ps : List PeerId) → map (repost (record { kind = LoopKind; number = q.0; body = Hops HOPS; name = name })) ps ≡ map (loop_to q name) ps
+pub loops_are : (q : Port) (name : List ℕ) (ps : List PeerId) → map (repost (record { kind = LoopKind; number = q.0; body = Hops HOPS; name = name })) ps ≡
+    map (loop_to q name) ps
 loops_are q name [] = refl
 loops_are q name (p ∷ later) = ap (λ rest. loop_to q name p ∷ rest) (loops_are q name later)

@@ -22,35 +22,49 @@ upset_are q kind x past = by_case (sets_date kind) where
   by_case false = refl
 
 -- the same row by other names of what it reads
-same-row : (q : Port) (from : Place) (t : Taken) (x : ℕ) (past : NodePast) (s s' c c' : Bool) (ports ports' : List Port) → s' ≡ s → c' ≡ c → ports ≡ ports' → stirring q ports (takes s c from t) x past ≡ stirring q ports' (takes s' c' from t) x past
+same-row : (q : Port) (from : Place) (t : Taken) (x : ℕ) (past : NodePast) (s s' c c' : Bool) (ports ports' : List Port) → s' ≡ s → c' ≡ c → ports ≡ ports' →
+    stirring q ports (takes s c from t) x past ≡ stirring q ports' (takes s' c' from t) x past
 same-row q from t x past s s' c c' ports ports' e f g = rw (e, f, g) refl
 
 -- a message is taken that corrects
-pub All_taken : {x : ℕ} {g h i : Gateway} {before : Part} {old mid new : List Placed} (after : Part) (q : ℕ) (steer charge : Bool) (from : Place) (m : MessageValue) →
-    ((past : NodePast) → GatewayStands past g → (steers (port_at q) x past ≡ steer) × (in_charge (port_at q) x past ≡ charge)) → slice_get g.ports.items q ≡ Some before → h.ports.items ≡ set g.ports.items q after →
+pub All_taken : {x : ℕ} {g h i : Gateway} {before : Part} {old mid new : List Placed} (after : Part) (q : ℕ) (steer charge : Bool) (from : Place)
+    (m : MessageValue) →
+    ((past : NodePast) → GatewayStands past g → (steers (port_at q) x past ≡ steer) × (in_charge (port_at q) x past ≡ charge)) → slice_get g.ports.items q ≡
+    Some before → h.ports.items ≡ set g.ports.items q after →
     ((past : Past) → TakeStands past (traced_with before g.clock g.tracing) → corrects (takes steer charge from (Good (Message m)) x past) ≡ true) →
-    Performs TakeStands TakeStands (takes steer charge from (Good (Message m))) x (port_at q) (traced_with before g.clock g.tracing) (traced_with after h.clock h.tracing) old mid →
-    PerformsAll (Untold q x) GatewayStands (reading_all (upset_ports (sets_date m.kind) (port_at q)) (for_ports abandons_on)) x h i mid new → PerformsAll GatewayStands GatewayStands (takes_message (port_at q) from m) x g i old new
+    Performs TakeStands TakeStands (takes steer charge from (Good (Message m))) x (port_at q) (traced_with before g.clock g.tracing)
+    (traced_with after h.clock h.tracing) old mid →
+    PerformsAll (Untold q x) GatewayStands (reading_all (upset_ports (sets_date m.kind) (port_at q)) (for_ports abandons_on)) x h i mid new →
+    PerformsAll GatewayStands GatewayStands (takes_message (port_at q) from m) x g i old new
 unfolding takes_message
 All_taken {x} {g} {h} {i} {before} after q steer charge from m flags was is moves d upset =
     let row = takes steer charge from (Good (Message m)) in
     let moved = λ (past : NodePast) (w : GatewayStands past g). moves (on_port (port_at q) past) (take_stands q past g before was w) in
-    All_same (takes_message (port_at q) from m) (λ past w. same-row (port_at q) from (Good (Message m)) x past steer (steers (port_at q) x past) charge (in_charge (port_at q) x past) (upset_ports (sets_date m.kind) (port_at q) x past) (stirred_ports (port_at q) m.kind past) (flags past w).0 (flags past w).1 (upset_are q m.kind x past))
+    All_same (takes_message (port_at q) from m) (λ past w. same-row (port_at q) from (Good (Message m)) x past steer (steers (port_at q) x past) charge
+    (in_charge (port_at q) x past) (upset_ports (sets_date m.kind) (port_at q) x past) (stirred_ports (port_at q) m.kind past) (flags past w).0
+    (flags past w).1 (upset_are q m.kind x past))
     (All_stirred {W = GatewayStands} q row (sets_date m.kind) moved
-    (All_on {W = GatewayStands} {P = TakeStands} {Q = TakeStands} true before after (emits_takes steer charge from (Good (Message m))) moved is (λ past w. w) (λ past w. take_stands q past g before was w) (λ past t. t) d) upset)
+    (All_on {W = GatewayStands} {P = TakeStands} {Q = TakeStands} true before after (emits_takes steer charge from (Good (Message m))) moved is (λ past w. w)
+    (λ past w. take_stands q past g before was w) (λ past t. t) d) upset)
 
 -- a message is taken that doesn't
-pub All_passed : {x : ℕ} {g h : Gateway} {before : Part} {old new : List Placed} (after : Part) (q : ℕ) (steer charge : Bool) (from : Place) (m : MessageValue) →
-    ((past : NodePast) → GatewayStands past g → (steers (port_at q) x past ≡ steer) × (in_charge (port_at q) x past ≡ charge)) → slice_get g.ports.items q ≡ Some before → h.ports.items ≡ set g.ports.items q after →
+pub All_passed : {x : ℕ} {g h : Gateway} {before : Part} {old new : List Placed} (after : Part) (q : ℕ) (steer charge : Bool) (from : Place) (m : MessageValue)
+    →
+    ((past : NodePast) → GatewayStands past g → (steers (port_at q) x past ≡ steer) × (in_charge (port_at q) x past ≡ charge)) → slice_get g.ports.items q ≡
+    Some before → h.ports.items ≡ set g.ports.items q after →
     ((past : Past) → TakeStands past (traced_with before g.clock g.tracing) → corrects (takes steer charge from (Good (Message m)) x past) ≡ false) →
-    Performs TakeStands TakeStands (takes steer charge from (Good (Message m))) x (port_at q) (traced_with before g.clock g.tracing) (traced_with after h.clock h.tracing) old new → PerformsAll GatewayStands GatewayStands (takes_message (port_at q) from m) x g h old new
+    Performs TakeStands TakeStands (takes steer charge from (Good (Message m))) x (port_at q) (traced_with before g.clock g.tracing)
+    (traced_with after h.clock h.tracing) old new → PerformsAll GatewayStands GatewayStands (takes_message (port_at q) from m) x g h old new
 unfolding takes_message
 All_passed {x} {g} {h} {before} after q steer charge from m flags was is stays d =
     let row = takes steer charge from (Good (Message m)) in
     let still = λ (past : NodePast) (w : GatewayStands past g). stays (on_port (port_at q) past) (take_stands q past g before was w) in
-    All_same (takes_message (port_at q) from m) (λ past w. same-row (port_at q) from (Good (Message m)) x past steer (steers (port_at q) x past) charge (in_charge (port_at q) x past) (upset_ports (sets_date m.kind) (port_at q) x past) (stirred_ports (port_at q) m.kind past) (flags past w).0 (flags past w).1 (upset_are q m.kind x past))
+    All_same (takes_message (port_at q) from m) (λ past w. same-row (port_at q) from (Good (Message m)) x past steer (steers (port_at q) x past) charge
+    (in_charge (port_at q) x past) (upset_ports (sets_date m.kind) (port_at q) x past) (stirred_ports (port_at q) m.kind past) (flags past w).0
+    (flags past w).1 (upset_are q m.kind x past))
     (All_unstirred {W = GatewayStands} q row (sets_date m.kind) still
-    (All_on {W = GatewayStands} {P = TakeStands} {Q = TakeStands} false before after (emits_takes steer charge from (Good (Message m))) still is (λ past w. w) (λ past w. take_stands q past g before was w) (λ past t. t) d))
+    (All_on {W = GatewayStands} {P = TakeStands} {Q = TakeStands} false before after (emits_takes steer charge from (Good (Message m))) still is (λ past w. w)
+    (λ past w. take_stands q past g before was w) (λ past t. t) d))
 
 -- what spells no message is taken
 still-part : (t : Taken) → HoldsNoMessage t → is_part (taken_sorts t) still_sorts ≡ true
@@ -61,7 +75,8 @@ other-emits : (from : Place) (t : Taken) → HoldsNoMessage t → Emits still_so
 unfolding takes
 other-emits from t none =
     Emits_then (puts (Took from t)) _ (Emits_puts (Took from t) refl)
-    (Emits_either (is_own from) nothing (handles true true from t) Emits_nothing (emits_built (still-part t none) (built_handles true true from t (place_unchanged from) tt (nothing_taken t))))
+    (Emits_either (is_own from) nothing (handles true true from t) Emits_nothing (emits_built (still-part t none)
+    (built_handles true true from t (place_unchanged from) tt (nothing_taken t))))
 
 -- it doesn't correct
 pub other_still : (from : Place) (t : Taken) → HoldsNoMessage t → (x : ℕ) (past : Past) → corrects (takes true true from t x past) ≡ false

@@ -6,4 +6,5 @@ use Rattle.tsp_gateway.specs.{GatewayStands.GatewayBegun, GatewayStands.GatewayS
 
 -- a node that stands for its past between two steps stands for it when the next step begins
 abbrev pub StepsBegin : Type 0
-StepsBegin = (step : Step) (x : ℕ) (past : NodePast) (g : Gateway) → GatewayStands past g → GatewayStands (record past { step = step }) g × GatewayBegun (in_node_step step x past) g
+StepsBegin = (step : Step) (x : ℕ) (past : NodePast) (g : Gateway) → GatewayStands past g → GatewayStands (record past { step = step }) g ×
+    GatewayBegun (in_node_step step x past) g

@@ -13,7 +13,8 @@ me_on c word s = record { own = s.own; name = c.name; word = word; may = c.may; 
 
 -- a port of a node that has just booted at this tick
 abbrev pub IsFreshPort : GateConfigValue → ℕ → ℕ → PortSetup → Part → Type 0
-IsFreshPort c word x s part = (part.station.peers ≡ s.peers) × ((past : Past) (wall : ℤ) (clock : ClockValue) → IsPortOf (me_on c word s) s.peers past → past.step.cause ≡ Booted word wall →
+IsFreshPort c word x s part = (part.station.peers ≡ s.peers) × ((past : Past) (wall : ℤ) (clock : ClockValue) → IsPortOf (me_on c word s) s.peers past →
+    past.step.cause ≡ Booted word wall →
     ClockStands (grown x past (Boot ∷ [])) clock → PortStands (grown x past (Boot ∷ [])) (port_with part clock))
 
 -- all ports of a node that has just booted at this tick

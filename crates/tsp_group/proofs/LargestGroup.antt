@@ -9,7 +9,8 @@ use Rattle.tsp_group.proofs.{Members.is_member-inside, Precedence.goes_before-ti
 use Rattle.tsp_group.proofs.Permutations.{Passing, passing_from_filter, group_from-permutation}
 
 some_pass : (p : ℤ → Bool) (xs : List ℤ) (x : ℤ) → Contains xs x → p x ≡ true → 0 < length (filter p xs)
-some_pass p xs x c e = All-contains (Passing p (λ _. 0 < length (filter p xs))) xs x (passing_from_filter p (λ _. 0 < length (filter p xs)) xs (λ k d h. omega arith)) c e
+some_pass p xs x c e = All-contains (Passing p (λ _. 0 < length (filter p xs))) xs x (passing_from_filter p (λ _. 0 < length (filter p xs)) xs
+    (λ k d h. omega arith)) c e
 
 member_of_own : (span : ℕ) (lo : ℤ) → is_member span lo lo ≡ true
 member_of_own span lo = is_member-inside span lo lo (omega (arith, ints)) (omega (arith, ints))
@@ -35,8 +36,10 @@ largest_cases : (span : ℕ) (xs : List ℤ) (r : Group) → 0 < length xs → A
 largest_cases span xs r some first (inl e) =
     let x : ℤ = get_or xs 0 (pos 0) in
     let c : Contains xs (get_or xs 0 (pos 0)) = Contains-get_or xs 0 (pos 0) some in
-    let a : goes_before (group_from span xs (get_or xs 0 (pos 0))) r ≡ false = All-contains (λ lo. goes_before (group_from span xs lo) r ≡ false) xs (get_or xs 0 (pos 0)) first c in
-    let b : goes_before (group_from span xs (get_or xs 0 (pos 0))) no_group ≡ true = goes_before-no_group (group_from span xs (get_or xs 0 (pos 0))) (group_from-count span xs (get_or xs 0 (pos 0)) c) in
+    let a : goes_before (group_from span xs (get_or xs 0 (pos 0))) r ≡ false = All-contains (λ lo. goes_before (group_from span xs lo) r ≡
+    false) xs (get_or xs 0 (pos 0)) first c in
+    let b : goes_before (group_from span xs (get_or xs 0 (pos 0))) no_group ≡ true =
+    goes_before-no_group (group_from span xs (get_or xs 0 (pos 0))) (group_from-count span xs (get_or xs 0 (pos 0)) c) in
     absurd (cc)
 largest_cases span xs r some first (inr w) =
     let lo : r.lo ≡ w.0 = ap (λ (g : Group). g.lo) w.2 ∙ group_from-lo span xs w.0 in
@@ -47,21 +50,25 @@ largest_cases span xs r some first (inr w) =
     }
 
 pub group_of-IsLargest : (span : ℕ) (xs : List ℤ) → 0 < length xs → IsLargest span xs (group_of span xs)
-group_of-IsLargest span xs some = largest_cases span xs (group_of span xs) some (best_of-first (group_from span xs) xs no_group (group_of span xs) refl) (best_of-cases (group_from span xs) xs no_group (group_of span xs) refl)
+group_of-IsLargest span xs some = largest_cases span xs (group_of span xs) some (best_of-first (group_from span xs) xs no_group (group_of span xs) refl)
+    (best_of-cases (group_from span xs) xs no_group (group_of span xs) refl)
 
 not_before : (span : ℕ) (xs : List ℤ) (g h : Group) → IsLargest span xs g → IsLargest span xs h → goes_before g h ≡ false
 not_before span xs g h p q = subst (λ (k : Group). goes_before k h ≡ false) (sym p.whole) (q.first g.lo p.from)
 
 pub IsLargest-unique : (span : ℕ) (xs : List ℤ) (g h : Group) → IsLargest span xs g → IsLargest span xs h → g ≡ h
-IsLargest-unique span xs g h p q = p.whole ∙ ap (group_from span xs) (goes_before-tie g h (not_before span xs g h p q) (not_before span xs h g q p)) ∙ sym q.whole
+IsLargest-unique span xs g h p q = p.whole ∙ ap (group_from span xs) (goes_before-tie g h (not_before span xs g h p q) (not_before span xs h g q p)) ∙
+    sym q.whole
 
 IsLargest-permutation : (span : ℕ) (xs ys : List ℤ) (g : Group) → IsPermutation xs ys → IsLargest span xs g → IsLargest span ys g
 IsLargest-permutation span xs ys g h p = record {
   from = Contains-permutation xs ys g.lo h p.from;
   whole = p.whole ∙ sym (group_from-permutation span xs ys g.lo h);
-  first = λ lo c. subst (λ (k : Group). goes_before k g ≡ false) (sym (group_from-permutation span xs ys lo h)) (p.first lo (Contains-permutation ys xs lo (IsPermutation-sym xs ys h) c));
+  first = λ lo c. subst (λ (k : Group). goes_before k g ≡ false) (sym (group_from-permutation span xs ys lo h))
+      (p.first lo (Contains-permutation ys xs lo (IsPermutation-sym xs ys h) c));
 }
 
 -- the largest group is that of the list in any order
 pub group_of-permutation : (span : ℕ) (xs ys : List ℤ) → IsPermutation xs ys → 0 < length xs → 0 < length ys → group_of span ys ≡ group_of span xs
-group_of-permutation span xs ys h some more = IsLargest-unique span ys (group_of span ys) (group_of span xs) (group_of-IsLargest span ys more) (IsLargest-permutation span xs ys (group_of span xs) h (group_of-IsLargest span xs some))
+group_of-permutation span xs ys h some more = IsLargest-unique span ys (group_of span ys) (group_of span xs) (group_of-IsLargest span ys more)
+    (IsLargest-permutation span xs ys (group_of span xs) h (group_of-IsLargest span xs some))

@@ -1,7 +1,9 @@
 -- Lemmas on the mean of the largest group, and on the values of a majority.
-use Rattle.std.proofs.Common.{◌≡◌, ◌∙◌, refl, ap, sym, subst, ℕ, ◌+◌, ◌*◌, ◌<◌, ◌≤◌, ◌==◌, nat_lt, Bool, true, false, cond, ℤ, pos, negsuc, ◌+ℤ◌, ◌*ℤ◌, ◌≤ℤ◌, List, [], ◌∷◌, length, get_or, arith, inl, inr, unsigned_abs}
+use Rattle.std.proofs.Common.{◌≡◌, ◌∙◌, refl, ap, sym, subst, ℕ, ◌+◌, ◌*◌, ◌<◌, ◌≤◌, ◌==◌, nat_lt, Bool, true, false, cond, ℤ, pos, negsuc, ◌+ℤ◌, ◌*ℤ◌, ◌≤ℤ◌}
+use Rattle.std.proofs.Common.{List, [], ◌∷◌, length, get_or, arith, inl, inr, unsigned_abs}
 use Rattle.std.proofs.lemmas.{Bool.Decides.nat_tests, Int.ints, Int.fold-int_min_bounds, Int.fold-int_min_reached}
-use Rattle.std.proofs.lemmas.List.Elements.{All-head, All-tail, All-contains, All-filter, All-weaker, All-contains_itself, filter_passes, Contains-get_or, Contains-append_right}
+use Rattle.std.proofs.lemmas.List.Elements.{All-head, All-tail, All-contains, All-filter, All-weaker, All-contains_itself, filter_passes, Contains-get_or}
+use Rattle.std.proofs.lemmas.List.Elements.{Contains-append_right}
 use Rattle.std.{proofs.lemmas.List.Sums.sum_by-cons, proofs.lemmas.List.Sums.length-filter, specs.Int.int_min}
 use Rattle.std.specs.List.{All, Contains, fold, filter, count_by}
 use Rattle.tsp_group.specs.Groups.{is_member, members, total, group_from, goes_before, IsLargest, HasMean, mean_of, IsWithin, Agree}
@@ -11,18 +13,22 @@ use Rattle.tsp_group.proofs.{Permutations.Passing, Permutations.passing_from_fil
 use Rattle.tsp_group.specs.{declared.group.Group.Group, Groups.FollowsMajority}
 
 members_low : (span : ℕ) (xs : List ℤ) (lo : ℤ) → All (λ x. lo ≤ℤ x) (members span xs lo)
-members_low span xs lo = All-weaker (λ x. is_member span lo x ≡ true) (λ x. lo ≤ℤ x) (is_member-low span lo) (members span xs lo) (filter_passes (is_member span lo) xs)
+members_low span xs lo = All-weaker (λ x. is_member span lo x ≡ true) (λ x. lo ≤ℤ x) (is_member-low span lo) (members span xs lo)
+    (filter_passes (is_member span lo) xs)
 
 members_high : (span : ℕ) (xs : List ℤ) (lo : ℤ) → All (λ x. x ≤ℤ (lo +ℤ pos span)) (members span xs lo)
-members_high span xs lo = All-weaker (λ x. is_member span lo x ≡ true) (λ x. x ≤ℤ (lo +ℤ pos span)) (is_member-high span lo) (members span xs lo) (filter_passes (is_member span lo) xs)
+members_high span xs lo = All-weaker (λ x. is_member span lo x ≡ true) (λ x. x ≤ℤ (lo +ℤ pos span)) (is_member-high span lo) (members span xs lo)
+    (filter_passes (is_member span lo) xs)
 
 mean_low : (span : ℕ) (xs : List ℤ) (lo : ℤ) → Contains xs lo → lo ≤ℤ mean_of (group_from span xs lo)
 unfolding group_from
-mean_low span xs lo c = le-floor_div (total (members span xs lo)) lo (length (members span xs lo)) (group_from-count span xs lo c) (le-total lo (members span xs lo) (members_low span xs lo))
+mean_low span xs lo c = le-floor_div (total (members span xs lo)) lo (length (members span xs lo)) (group_from-count span xs lo c)
+    (le-total lo (members span xs lo) (members_low span xs lo))
 
 mean_high : (span : ℕ) (xs : List ℤ) (lo : ℤ) → Contains xs lo → mean_of (group_from span xs lo) ≤ℤ (lo +ℤ pos span)
 unfolding group_from
-mean_high span xs lo c = floor_div-le (total (members span xs lo)) (lo +ℤ pos span) (length (members span xs lo)) (group_from-count span xs lo c) (total-le (lo +ℤ pos span) (members span xs lo) (members_high span xs lo))
+mean_high span xs lo c = floor_div-le (total (members span xs lo)) (lo +ℤ pos span) (length (members span xs lo)) (group_from-count span xs lo c)
+    (total-le (lo +ℤ pos span) (members span xs lo) (members_high span xs lo))
 
 pub near_sum : (s : ℤ) (n : ℕ) → 0 < n → (negsuc 1073741823999998 *ℤ pos n) ≤ℤ s → s ≤ℤ (pos 1073741823999999 *ℤ pos n) → unsigned_abs s < n * 1073741824000000
 near_sum (pos s) n some low high = omega (arith, ints)
@@ -100,7 +106,8 @@ least p xs h =
     )
 
 -- the values that agree are members of the group of the least of them
-agreeing_members : (span : ℕ) (xs : List ℤ) (test : ℤ → Bool) (lo : ℤ) → Agree span xs test → Contains xs lo → test lo ≡ true → All (Passing test (λ x. lo ≤ℤ x)) xs → All (Passing test (λ x. is_member span lo x ≡ true)) xs
+agreeing_members : (span : ℕ) (xs : List ℤ) (test : ℤ → Bool) (lo : ℤ) → Agree span xs test → Contains xs lo → test lo ≡ true →
+    All (Passing test (λ x. lo ≤ℤ x)) xs → All (Passing test (λ x. is_member span lo x ≡ true)) xs
 agreeing_members span xs test lo agree c t low k d h e =
     let w = agree (get_or xs k d) lo (Contains-get_or xs k d h) c e t in
     is_member-inside span lo (get_or xs k d) (low k d h e) w.low
@@ -117,7 +124,8 @@ unfolding group_from
 count_of_group span xs lo = length-filter (is_member span lo) xs
 
 -- a mean in the span of lo, and two values of which one lies there too
-near_both : (span : ℕ) (lo mean x y : ℤ) → lo ≤ℤ mean → mean ≤ℤ (lo +ℤ pos span) → lo ≤ℤ y → y ≤ℤ (lo +ℤ pos span) → IsWithin span x y → IsWithin (2 * span) mean x
+near_both : (span : ℕ) (lo mean x y : ℤ) → lo ≤ℤ mean → mean ≤ℤ (lo +ℤ pos span) → lo ≤ℤ y → y ≤ℤ (lo +ℤ pos span) → IsWithin span x y →
+    IsWithin (2 * span) mean x
 near_both span lo mean x y a b c d w = let l = w.low in let h = w.high in record { low = omega (arith, ints); high = omega (arith, ints) }
 
 pub IsLargest-majority : (span : ℕ) (xs : List ℤ) (g : Group) → IsLargest span xs g → FollowsMajority span xs (mean_of g)
@@ -130,5 +138,6 @@ IsLargest-majority span xs g largest test most agree x c t =
     let d : g.count ≡ count_by (is_member span g.lo) xs = ap (λ (k : Group). k.count) largest.whole ∙ count_of_group span xs g.lo in
     let s = shared test (is_member span g.lo) xs (omega (arith, most, fewer, a, b, d)) in
     let low : g.lo ≤ℤ mean_of g = subst (λ (k : Group). g.lo ≤ℤ mean_of k) (sym largest.whole) (mean_low span xs g.lo largest.from) in
-    let high : mean_of g ≤ℤ (g.lo +ℤ pos span) = subst (λ (k : Group). mean_of k ≤ℤ (g.lo +ℤ pos span)) (sym largest.whole) (mean_high span xs g.lo largest.from) in
+    let high : mean_of g ≤ℤ (g.lo +ℤ pos span) = subst (λ (k : Group). mean_of k ≤ℤ (g.lo +ℤ pos span)) (sym largest.whole)
+    (mean_high span xs g.lo largest.from) in
     near_both span g.lo (mean_of g) x s.0 low high (is_member-low span g.lo s.0 s.3) (is_member-high span g.lo s.0 s.3) (agree x s.0 c s.1 t s.2)

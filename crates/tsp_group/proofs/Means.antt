@@ -21,11 +21,14 @@ floor_div-le (negsuc s) (pos b) n p h = omega (arith, ints)
 floor_div-le (negsuc s) (negsuc b) n p h = let k : b ≤ s / n = le-div b s n p (omega (arith, ints)) in omega (arith, ints)
 
 -- a mean of near values fits
-pub floor_div_fits : (s : ℤ) (n : ℕ) → 0 < n → unsigned_abs s < n * 1073741824000000 → (negsuc 1073741823999999 ≤ℤ floor_div s n) × (floor_div s n ≤ℤ pos 1073741823999999)
+pub floor_div_fits : (s : ℤ) (n : ℕ) → 0 < n → unsigned_abs s < n * 1073741824000000 → (negsuc 1073741823999999 ≤ℤ floor_div s n) ×
+    (floor_div s n ≤ℤ pos 1073741823999999)
 floor_div_fits (pos s) n p h = let k : s / n < 1073741824000000 = div_below s n 1073741824000000 p (omega arith) in (omega (arith, ints), omega (arith, ints))
-floor_div_fits (negsuc s) n p h = let k : s / n < 1073741824000000 = div_below s n 1073741824000000 p (omega arith) in (omega (arith, ints), omega (arith, ints))
+floor_div_fits (negsuc s) n p h = let k : s / n < 1073741824000000 = div_below s n 1073741824000000 p (omega arith) in
+    (omega (arith, ints), omega (arith, ints))
 
 -- what the code's division gives
-pub div_euclid_is : (r s d : ℤ) (n : ℕ) → FitsSigned w128 s → FitsSigned w128 d → r ≡ int_div_euclid (to_z w128 (of_z w128 s)) (to_z w128 (of_z w128 d)) → d ≡ pos n → r ≡ floor_div s n
+pub div_euclid_is : (r s d : ℤ) (n : ℕ) → FitsSigned w128 s → FitsSigned w128 d → r ≡ int_div_euclid (to_z w128 (of_z w128 s)) (to_z w128 (of_z w128 d)) → d ≡
+    pos n → r ≡ floor_div s n
 div_euclid_is r (pos s) d n f g e k = rw k at (rw (to_z-of_z w128 d g) at (rw (to_z-of_z w128 (pos s) f) at e))
 div_euclid_is r (negsuc s) d n f g e k = rw k at (rw (to_z-of_z w128 d g) at (rw (to_z-of_z w128 (negsuc s) f) at e))

@@ -27,14 +27,16 @@ split_value : (x : ℤ) → x ≡ pos (above x) -ℤ pos (below x)
 split_value (pos n) = omega (arith, ints)
 split_value (negsuc n) = omega (arith, ints)
 
-total_cond : (p : ℤ → Bool) (x : ℤ) (xs : List ℤ) (t : Bool) (a b : ℕ) → p x ≡ t → total (filter p xs) ≡ pos a -ℤ pos b → total (cond t (x ∷ filter p xs) (filter p xs)) ≡ pos (cond t (above x) 0 + a) -ℤ pos (cond t (below x) 0 + b)
+total_cond : (p : ℤ → Bool) (x : ℤ) (xs : List ℤ) (t : Bool) (a b : ℕ) → p x ≡ t → total (filter p xs) ≡ pos a -ℤ pos b →
+    total (cond t (x ∷ filter p xs) (filter p xs)) ≡ pos (cond t (above x) 0 + a) -ℤ pos (cond t (below x) 0 + b)
 total_cond p x xs true a b e h = let v = split_value x in omega (arith, ints, v, h, total-cons x (filter p xs))
 total_cond p x xs false a b e h = omega (arith, ints, h)
 
 -- the sum of the values that pass, as a difference of sums of natural numbers
 total_split : (p : ℤ → Bool) (xs : List ℤ) → total (filter p xs) ≡ pos (sum_by (above_in p) xs) -ℤ pos (sum_by (below_in p) xs)
 total_split p [] = refl
-total_split p (x ∷ xs) = rw (sum_by-cons (above_in p) x xs, sum_by-cons (below_in p) x xs) (total_cond p x xs (p x) (sum_by (above_in p) xs) (sum_by (below_in p) xs) refl (total_split p xs))
+total_split p (x ∷ xs) = rw (sum_by-cons (above_in p) x xs, sum_by-cons (below_in p) x xs) (total_cond p x xs (p x) (sum_by (above_in p) xs)
+    (sum_by (below_in p) xs) refl (total_split p xs))
 
 total-permutation : (p : ℤ → Bool) (xs ys : List ℤ) → IsPermutation xs ys → total (filter p ys) ≡ total (filter p xs)
 total-permutation p xs ys h =
@@ -48,7 +50,8 @@ count-permutation p xs ys h = sum_by-IsPermutation (λ x. cond (p x) 1 0) xs ys 
 abbrev pub Passing : (ℤ → Bool) → (ℤ → Type 0) → ℤ → Type 0
 Passing p P x = p x ≡ true → P x
 
-passing_cond : (p : ℤ → Bool) (P : ℤ → Type 0) (x : ℤ) (xs : List ℤ) (t : Bool) → p x ≡ t → All P (cond t (x ∷ filter p xs) (filter p xs)) → Passing p P x × All P (filter p xs)
+passing_cond : (p : ℤ → Bool) (P : ℤ → Type 0) (x : ℤ) (xs : List ℤ) (t : Bool) → p x ≡ t → All P (cond t (x ∷ filter p xs) (filter p xs)) → Passing p P x ×
+    All P (filter p xs)
 passing_cond p P x xs true e h = ((λ _. All-head P x (filter p xs) h), All-tail P x (filter p xs) h)
 passing_cond p P x xs false e h = ((λ k. absurd (cc)), h)
 
@@ -58,13 +61,15 @@ passing_from_filter p P (x ∷ xs) h =
     let k = passing_cond p P x xs (p x) refl h in
     All-cons (Passing p P) x xs k.0 (passing_from_filter p P xs k.1)
 
-filter_cond : (p : ℤ → Bool) (P : ℤ → Type 0) (x : ℤ) (xs : List ℤ) (t : Bool) → p x ≡ t → Passing p P x → All P (filter p xs) → All P (cond t (x ∷ filter p xs) (filter p xs))
+filter_cond : (p : ℤ → Bool) (P : ℤ → Type 0) (x : ℤ) (xs : List ℤ) (t : Bool) → p x ≡ t → Passing p P x → All P (filter p xs) →
+    All P (cond t (x ∷ filter p xs) (filter p xs))
 filter_cond p P x xs true e h k = All-cons P x (filter p xs) (h e) k
 filter_cond p P x xs false e h k = k
 
 filter_from_passing : (p : ℤ → Bool) (P : ℤ → Type 0) (xs : List ℤ) → All (Passing p P) xs → All P (filter p xs)
 filter_from_passing p P [] h = All-nil P
-filter_from_passing p P (x ∷ xs) h = filter_cond p P x xs (p x) refl (All-head (Passing p P) x xs h) (filter_from_passing p P xs (All-tail (Passing p P) x xs h))
+filter_from_passing p P (x ∷ xs) h = filter_cond p P x xs (p x) refl (All-head (Passing p P) x xs h)
+    (filter_from_passing p P xs (All-tail (Passing p P) x xs h))
 
 all_filter-permutation : (p : ℤ → Bool) (P : ℤ → Type 0) (xs ys : List ℤ) → IsPermutation xs ys → All P (filter p xs) → All P (filter p ys)
 all_filter-permutation p P xs ys h k = filter_from_passing p P ys (All-permutation (Passing p P) xs ys h (passing_from_filter p P xs k))
@@ -86,7 +91,8 @@ pub group_from-permutation : (span : ℕ) (xs ys : List ℤ) (lo : ℤ) → IsPe
 unfolding group_from
 group_from-permutation span xs ys lo h =
     let p : ℤ → Bool = is_member span lo in
-    let count : length (members span ys lo) ≡ length (members span xs lo) = length-filter (is_member span lo) ys ∙ count-permutation (is_member span lo) xs ys h ∙ sym (length-filter (is_member span lo) xs) in
+    let count : length (members span ys lo) ≡ length (members span xs lo) = length-filter (is_member span lo) ys ∙
+    count-permutation (is_member span lo) xs ys h ∙ sym (length-filter (is_member span lo) xs) in
     let sum = total-permutation (is_member span lo) xs ys h in
     let wide = greatest-permutation (is_member span lo) lo xs ys h in
     rw (wide, count, sum) refl

@@ -12,20 +12,24 @@ int_lt_chain x y z h k = grind (arith, ints)
 up_one_way : (a b : ℕ) (p q : Bool) → (p ≡ true → q ≡ false) → cond (a == b) p (nat_lt a b) ≡ true → cond (b == a) q (nat_lt b a) ≡ false
 up_one_way a b p q h k = grind (arith, nat_tests)
 
-up_chain : (a b c : ℕ) (p q r : Bool) → (p ≡ false → q ≡ false → r ≡ false) → cond (a == b) p (nat_lt a b) ≡ false → cond (b == c) q (nat_lt b c) ≡ false → cond (a == c) r (nat_lt a c) ≡ false
+up_chain : (a b c : ℕ) (p q r : Bool) → (p ≡ false → q ≡ false → r ≡ false) → cond (a == b) p (nat_lt a b) ≡ false → cond (b == c) q (nat_lt b c) ≡ false →
+    cond (a == c) r (nat_lt a c) ≡ false
 up_chain a b c p q r h k l = grind (arith, nat_tests)
 
 down_one_way : (a b : ℕ) (p q : Bool) → (p ≡ true → q ≡ false) → cond (a == b) p (nat_lt b a) ≡ true → cond (b == a) q (nat_lt a b) ≡ false
 down_one_way a b p q h k = grind (arith, nat_tests)
 
-down_chain : (a b c : ℕ) (p q r : Bool) → (p ≡ false → q ≡ false → r ≡ false) → cond (a == b) p (nat_lt b a) ≡ false → cond (b == c) q (nat_lt c b) ≡ false → cond (a == c) r (nat_lt c a) ≡ false
+down_chain : (a b c : ℕ) (p q r : Bool) → (p ≡ false → q ≡ false → r ≡ false) → cond (a == b) p (nat_lt b a) ≡ false → cond (b == c) q (nat_lt c b) ≡ false →
+    cond (a == c) r (nat_lt c a) ≡ false
 down_chain a b c p q r h k l = grind (arith, nat_tests)
 
 pub goes_before_order : IsStrictWeakOrder goes_before
 unfolding goes_before
 goes_before_order = record {
-  one_way = λ g h. down_one_way g.count h.count _ _ (up_one_way (unsigned_abs g.width) (unsigned_abs h.width) _ _ (up_one_way (unsigned_abs g.lo) (unsigned_abs h.lo) _ _ (int_lt_one_way g.lo h.lo)));
-  chain = λ g h k. down_chain g.count h.count k.count _ _ _ (up_chain (unsigned_abs g.width) (unsigned_abs h.width) (unsigned_abs k.width) _ _ _ (up_chain (unsigned_abs g.lo) (unsigned_abs h.lo) (unsigned_abs k.lo) _ _ _ (int_lt_chain g.lo h.lo k.lo)));
+  one_way = λ g h. down_one_way g.count h.count _ _ (up_one_way (unsigned_abs g.width) (unsigned_abs h.width) _ _
+      (up_one_way (unsigned_abs g.lo) (unsigned_abs h.lo) _ _ (int_lt_one_way g.lo h.lo)));
+  chain = λ g h k. down_chain g.count h.count k.count _ _ _ (up_chain (unsigned_abs g.width) (unsigned_abs h.width) (unsigned_abs k.width) _ _ _
+      (up_chain (unsigned_abs g.lo) (unsigned_abs h.lo) (unsigned_abs k.lo) _ _ _ (int_lt_chain g.lo h.lo k.lo)));
 }
 
 up_tie : (a b : ℕ) (p q : Bool) → cond (a == b) p (nat_lt a b) ≡ false → cond (b == a) q (nat_lt b a) ≡ false → (p ≡ false) × (q ≡ false)

@@ -16,7 +16,8 @@ first_inside xs w h (inl lt) = let a = h.some lt in omega arith
 first_inside xs w h (inr le) = let a = h.none (omega arith) in omega arith
 
 -- the value at its end is taken in
-pub window_more : (xs : List ℤ) (w : Window) (v : ℤ) → IsWindow xs w → w.end < length xs → v ≡ get_or xs w.end (pos 0) → IsWindow xs (record w { end = w.end + 1; sum = w.sum +ℤ v })
+pub window_more : (xs : List ℤ) (w : Window) (v : ℤ) → IsWindow xs w → w.end < length xs → v ≡ get_or xs w.end (pos 0) →
+    IsWindow xs (record w { end = w.end + 1; sum = w.sum +ℤ v })
 window_more xs w v h n e = record {
   inside = omega arith;
   starts = h.starts;
@@ -27,7 +28,8 @@ window_more xs w v h n e = record {
 }
 
 -- the first value goes
-pub window_less : (xs : List ℤ) (w : Window) → IsWindow xs w → w.first + 1 < w.end → IsWindow xs (record w { first = w.first + 1; lo = get_or xs (w.first + 1) (pos 0); sum = w.sum -ℤ w.lo })
+pub window_less : (xs : List ℤ) (w : Window) → IsWindow xs w → w.first + 1 < w.end →
+    IsWindow xs (record w { first = w.first + 1; lo = get_or xs (w.first + 1) (pos 0); sum = w.sum -ℤ w.lo })
 window_less xs w h lt = record {
   inside = h.inside;
   starts = let n = h.inside in omega arith;
@@ -38,7 +40,8 @@ window_less xs w h lt = record {
 }
 
 -- a value beyond the span isn't the first
-pub beyond_first : (span : ℕ) (xs : List ℤ) (w : Window) (v : ℤ) → IsWindow xs w → v ≡ get_or xs w.end (pos 0) → (w.lo +ℤ pos span) <ℤ v → (0 < w.end) ⊎ (w.end ≤ 0) → w.first + 1 < w.end + 1
+pub beyond_first : (span : ℕ) (xs : List ℤ) (w : Window) (v : ℤ) → IsWindow xs w → v ≡ get_or xs w.end (pos 0) → (w.lo +ℤ pos span) <ℤ v → (0 < w.end) ⊎
+    (w.end ≤ 0) → w.first + 1 < w.end + 1
 beyond_first span xs w v h e out (inl lt) = let a = h.some lt in omega arith
 beyond_first span xs w v h e out (inr le) =
     let l = h.lo in
@@ -56,20 +59,25 @@ not_first span xs i k le out (inr ge) =
     absurd (omega (arith, ints, e, out))
 
 -- the window within the span is tried
-pub step_tries : (span : ℕ) (xs : List ℤ) (i k next : ℕ) (best : Group) → IsAscending xs → k < length xs → i ≤ k → IsBest span xs (k - i) k best → Moves span xs i k next → get_or xs k (pos 0) ≤ℤ (get_or xs next (pos 0) +ℤ pos span) → IsBest span xs (k + 1 - next) (k + 1) (better best (window_of xs next (k + 1)))
+pub step_tries : (span : ℕ) (xs : List ℤ) (i k next : ℕ) (best : Group) → IsAscending xs → k < length xs → i ≤ k → IsBest span xs (k - i) k best →
+    Moves span xs i k next → get_or xs k (pos 0) ≤ℤ (get_or xs next (pos 0) +ℤ pos span) →
+    IsBest span xs (k + 1 - next) (k + 1) (better best (window_of xs next (k + 1)))
 step_tries span xs i k next best up n le h (inl m) within =
     let s : Spans span xs i (k + 1) = rw (last_is k) m.1 in
     let size : k + 1 - i ≡ k - i + 1 = omega arith in
-    rw m.0 (subst (λ n. IsBest span xs n (k + 1) (better best (window_of xs i (k + 1)))) (sym size) (best-grows span xs (k - i) k i best up n (omega arith) h s))
+    rw m.0 (subst (λ n. IsBest span xs n (k + 1) (better best (window_of xs i (k + 1)))) (sym size) (best-grows span xs (k - i) k i best up n (omega arith) h
+    s))
 step_tries span xs i k next best up n le h (inr m) within =
     let t : get_or xs k (pos 0) ≤ℤ (get_or xs (i + 1) (pos 0) +ℤ pos span) = rw m.0 at within in
     let s : Spans span xs (i + 1) (k + 1) = rw (last_is k) t in
     let some : 0 < k - i = not_first span xs i k le m.1 (cases_lt i k) in
     let size : k + 1 - (i + 1) ≡ k - i = omega arith in
-    rw m.0 (subst (λ n. IsBest span xs n (k + 1) (better best (window_of xs (i + 1) (k + 1)))) (sym size) (best-moves span xs (k - i) k i best up n (omega arith) some h m.1 s))
+    rw m.0 (subst (λ n. IsBest span xs n (k + 1) (better best (window_of xs (i + 1) (k + 1)))) (sym size)
+    (best-moves span xs (k - i) k i best up n (omega arith) some h m.1 s))
 
 -- the window beyond the span is passed over
-pub step_passes : (span : ℕ) (xs : List ℤ) (i k next : ℕ) (best : Group) → IsAscending xs → k < length xs → i ≤ k → IsBest span xs (k - i) k best → Moves span xs i k next → (get_or xs next (pos 0) +ℤ pos span) <ℤ get_or xs k (pos 0) → IsBest span xs (k + 1 - next) (k + 1) best
+pub step_passes : (span : ℕ) (xs : List ℤ) (i k next : ℕ) (best : Group) → IsAscending xs → k < length xs → i ≤ k → IsBest span xs (k - i) k best →
+    Moves span xs i k next → (get_or xs next (pos 0) +ℤ pos span) <ℤ get_or xs k (pos 0) → IsBest span xs (k + 1 - next) (k + 1) best
 step_passes span xs i k next best up n le h (inl m) out = absurd (let t = rw m.0 at out in omega (arith, ints, t, m.1))
 step_passes span xs i k next best up n le h (inr m) out =
     let t = rw m.0 at out in
@@ -78,5 +86,6 @@ step_passes span xs i k next best up n le h (inr m) out =
     rw m.0 (subst (λ n. IsBest span xs n (k + 1) best) (sym size) (best-passes span xs (k - i) k i best up n (omega arith) some h m.1 t))
 
 -- the group of a window
-pub group_is_window : (xs : List ℤ) (w : Window) (v : ℤ) (k : ℕ) → IsWindow xs w → w.end ≡ k + 1 → v ≡ get_or xs k (pos 0) → (let g : Group = record { lo = w.lo; width = v -ℤ w.lo; count = w.end - w.first; sum = w.sum } in g) ≡ window_of xs w.first (k + 1)
+pub group_is_window : (xs : List ℤ) (w : Window) (v : ℤ) (k : ℕ) → IsWindow xs w → w.end ≡ k + 1 → v ≡ get_or xs k (pos 0) →
+    (let g : Group = record { lo = w.lo; width = v -ℤ w.lo; count = w.end - w.first; sum = w.sum } in g) ≡ window_of xs w.first (k + 1)
 group_is_window xs w v k h e f = rw (h.sum, h.lo, e, f, last_is k) refl

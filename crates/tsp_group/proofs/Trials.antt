@@ -11,7 +11,8 @@ best_of f start los = fold (λ best lo. better best (f lo)) start los
 
 start_stays_behind : (f : ℤ → Group) (los : List ℤ) (start r : Group) → r ≡ best_of f start los → goes_before start r ≡ false
 start_stays_behind f [] start r e = rw e (goes_before-same start)
-start_stays_behind f (x ∷ los) start r e = goes_before_order.chain start (better start (f x)) r (better-left start (f x)) (start_stays_behind f los (better start (f x)) r e)
+start_stays_behind f (x ∷ los) start r e = goes_before_order.chain start (better start (f x)) r (better-left start (f x))
+    (start_stays_behind f los (better start (f x)) r e)
 
 -- no group that was tried goes before the best
 pub best_of-first : (f : ℤ → Group) (los : List ℤ) (start r : Group) → r ≡ best_of f start los → All (λ lo. goes_before (f lo) r ≡ false) los

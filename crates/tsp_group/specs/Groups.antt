@@ -1,5 +1,6 @@
 -- The largest group of values that lie within a span, and its mean (the averaging of the TEMPO method).
-use Rattle.std.specs.Prelude.{◌≡◌, ℕ, ◌*◌, ◌/◌, ◌<◌, ◌==◌, nat_lt, Bool, true, false, ◌&&◌, if◌then◌else◌, ℤ, pos, negsuc, ◌+ℤ◌, ◌-ℤ◌, ◌≤ℤ◌, int_lt, int_le, unsigned_abs, List, length}
+use Rattle.std.specs.Prelude.{◌≡◌, ℕ, ◌*◌, ◌/◌, ◌<◌, ◌==◌, nat_lt, Bool, true, false, ◌&&◌, if◌then◌else◌, ℤ, pos, negsuc, ◌+ℤ◌, ◌-ℤ◌, ◌≤ℤ◌, int_lt, int_le}
+use Rattle.std.specs.Prelude.{unsigned_abs, List, length}
 use Rattle.std.specs.List.{filter, fold, count_by, Contains}
 use Rattle.std.specs.Int.{int_max}
 use Rattle.tsp_group.specs.declared.group.Group.{Group}
@@ -18,7 +19,12 @@ total values = fold ◌+ℤ◌ (pos 0) values
 
 -- the group of the values from lo to lo + span: its width is the greatest member minus lo
 unfoldable pub group_from : ℕ → List ℤ → ℤ → Group
-group_from span values lo = record { lo = lo; width = fold int_max lo (members span values lo) -ℤ lo; count = length (members span values lo); sum = total (members span values lo) }
+group_from span values lo = record {
+  lo = lo;
+  width = fold int_max lo (members span values lo) -ℤ lo;
+  count = length (members span values lo);
+  sum = total (members span values lo);
+}
 
 -- whether g is better than h: more members, then the lesser width, then the lesser magnitude of lo, then the lesser lo
 unfoldable pub goes_before : Group → Group → Bool
@@ -76,4 +82,5 @@ Agree span values test = (x y : ℤ) → Contains values x → Contains values y
 
 -- where more than half of the values agree, the mean is at most twice the span from each of those
 abbrev pub FollowsMajority : ℕ → List ℤ → ℤ → Type 0
-FollowsMajority span values mean = (test : ℤ → Bool) → length values < 2 * count_by test values → Agree span values test → (x : ℤ) → Contains values x → test x ≡ true → IsWithin (2 * span) mean x
+FollowsMajority span values mean = (test : ℤ → Bool) → length values < 2 * count_by test values → Agree span values test → (x : ℤ) → Contains values x →
+    test x ≡ true → IsWithin (2 * span) mean x

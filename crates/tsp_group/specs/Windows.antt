@@ -4,7 +4,12 @@ use Rattle.tsp_group.specs.{Groups.total, Groups.goes_before, Groups.no_group, d
 
 -- the group of the values from place i to before place j
 abbrev pub window_of : List ℤ → ℕ → ℕ → Group
-window_of xs i j = record { lo = slice_index_or xs i (pos 0); width = slice_index_or xs (j - 1) (pos 0) -ℤ slice_index_or xs i (pos 0); count = j - i; sum = total (take j xs) -ℤ total (take i xs) }
+window_of xs i j = record {
+  lo = slice_index_or xs i (pos 0);
+  width = slice_index_or xs (j - 1) (pos 0) -ℤ slice_index_or xs i (pos 0);
+  count = j - i;
+  sum = total (take j xs) -ℤ total (take i xs);
+}
 
 -- the last of these values is at most the span above the first
 abbrev pub Spans : ℕ → List ℤ → ℕ → ℕ → Type 0
@@ -18,7 +23,8 @@ pub record IsBest (span : ℕ) (xs : List ℤ) (m k : ℕ) (best : Group) : Type
 
 -- what the value at place k does to a window that begins at place i: it still begins there, or one place later where that value is beyond the span
 abbrev pub Moves : ℕ → List ℤ → ℕ → ℕ → ℕ → Type 0
-Moves span xs i k next = ((next ≡ i) × (slice_index_or xs k (pos 0) ≤ℤ (slice_index_or xs i (pos 0) +ℤ pos span))) ⊎ ((next ≡ i + 1) × ((slice_index_or xs i (pos 0) +ℤ pos span) <ℤ slice_index_or xs k (pos 0)))
+Moves span xs i k next = ((next ≡ i) × (slice_index_or xs k (pos 0) ≤ℤ (slice_index_or xs i (pos 0) +ℤ pos span))) ⊎
+    ((next ≡ i + 1) × ((slice_index_or xs i (pos 0) +ℤ pos span) <ℤ slice_index_or xs k (pos 0)))
 
 -- a sum of at most 2 ^ 33 values that are averaged
 pub record IsSmallSum (sum : ℤ) : Type 0 where

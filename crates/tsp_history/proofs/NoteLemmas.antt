@@ -1,5 +1,6 @@
 -- What is known after the lines of a history.
-use Rattle.std.proofs.Common.{◌∙◌, ap, sym, subst, arith, refl, ◌⊎◌, inl, inr, eq-eqb, ◌≡◌, ◌<◌, ◌≤◌, ◌==◌, ◌+◌, ◌^◌, ℕ, ℤ, false, List, [], ◌∷◌, ◌++◌, length, get_or, take, min}
+use Rattle.std.proofs.Common.{◌∙◌, ap, sym, subst, arith, refl, ◌⊎◌, inl, inr, eq-eqb, ◌≡◌, ◌<◌, ◌≤◌, ◌==◌, ◌+◌, ◌^◌, ℕ, ℤ, false, List, [], ◌∷◌, ◌++◌, length}
+use Rattle.std.proofs.Common.{get_or, take, min}
 use Rattle.std.proofs.lemmas.List.{get_or_default, get_or-take, length-append, length-take, length-take-le, take_all, take_at, take-append-le, take-take}
 use Rattle.std.proofs.{Math.ListN.get_or-append, Math.Seq.get_or-append_seam, lemmas.Bool.cases_lt, lemmas.Int.ints}
 use Rattle.tsp_base.specs.Words.{Line, of, dids, posted, all_corrects, boot_tick, lives, moved, wall}
@@ -20,7 +21,8 @@ pub length-history : (ns : List HistoryLine) → length (history_of ns) ≡ leng
 length-history ns = omega (arith, length-noted [] ns)
 
 -- what holds of all lines is said of the first ones, and of the newest one of these
-pub newest-is : {A : Type 0} (F : List Line → A) (ns : List HistoryLine) (k j : ℕ) (n : HistoryLine) → k ≡ j + 1 → j < length ns → get_or ns j n ≡ n → F (history_of ns) ≡ F (history_of (take k ns)) → F (history_of ns) ≡ F (line_of n ∷ history_of (take j ns))
+pub newest-is : {A : Type 0} (F : List Line → A) (ns : List HistoryLine) (k j : ℕ) (n : HistoryLine) → k ≡ j + 1 → j < length ns → get_or ns j n ≡ n →
+    F (history_of ns) ≡ F (history_of (take k ns)) → F (history_of ns) ≡ F (line_of n ∷ history_of (take j ns))
 newest-is F ns k j n next below is so = so ∙ ap (λ i. F (history_of (take i ns))) next ∙ ap F (history-more ns j n below is)
 
 pub all-lines : {A : Type 0} (F : List Line → A) (ns : List HistoryLine) (k : ℕ) → length ns ≤ k → F (history_of ns) ≡ F (history_of (take k ns))
@@ -32,7 +34,8 @@ told_take ns k told = record { at = at } where
   at : (i : ℕ) (n : HistoryLine) → i < length (take k ns) → get_or (take k ns) i n ≡ n → NoteIs (line_of n) (history_of (take i (take k ns))) n.note
   at i n below is =
       let few : i < min k (length ns) = subst (λ m. i < m) (length-take k ns) below in
-      subst (λ ms. NoteIs (line_of n) (history_of ms) n.note) (sym (take-take i k ns (omega arith))) (told.at i n (omega arith) (sym (get_or-take k ns i n (omega arith)) ∙ is))
+      subst (λ ms. NoteIs (line_of n) (history_of ms) n.note) (sym (take-take i k ns (omega arith)))
+      (told.at i n (omega arith) (sym (get_or-take k ns i n (omega arith)) ∙ is))
 
 -- one line more tells too
 pub told_push : (ns : List HistoryLine) (n : HistoryLine) → Told ns → NoteIs (line_of n) (history_of ns) n.note → Told (ns ++ n ∷ [])
@@ -40,18 +43,25 @@ told_push ns n told note = record { at = at } where
   at : (i : ℕ) (m : HistoryLine) → i < length (ns ++ n ∷ []) → get_or (ns ++ n ∷ []) i m ≡ m → NoteIs (line_of m) (history_of (take i (ns ++ n ∷ []))) m.note
   at i m below is = by_case (cases_lt i (length ns)) where
     by_case : (i < length ns) ⊎ (length ns ≤ i) → NoteIs (line_of m) (history_of (take i (ns ++ n ∷ []))) m.note
-    by_case (inl lt) = subst (λ ms. NoteIs (line_of m) (history_of ms) m.note) (sym (take-append-le i ns (n ∷ []) (omega arith))) (told.at i m lt (sym (get_or-append ns (n ∷ []) m i lt) ∙ is))
+    by_case (inl lt) = subst (λ ms. NoteIs (line_of m) (history_of ms) m.note) (sym (take-append-le i ns (n ∷ []) (omega arith)))
+        (told.at i m lt (sym (get_or-append ns (n ∷ []) m i lt) ∙ is))
     by_case (inr le) =
         let last : i ≡ length ns = omega (arith, below, le, length-append ns (n ∷ [])) in
         let same : n ≡ m = sym (get_or-append_seam ns n [] m) ∙ ap (λ k. get_or (ns ++ n ∷ []) k m) (sym last) ∙ is in
-        subst (λ ms. NoteIs (line_of m) (history_of ms) m.note) (sym (take_at ns (n ∷ []) i (sym last))) (subst (λ (k : HistoryLine). NoteIs (line_of k) (history_of ns) k.note) same note)
+        subst (λ ms. NoteIs (line_of m) (history_of ms) m.note) (sym (take_at ns (n ∷ []) i (sym last)))
+        (subst (λ (k : HistoryLine). NoteIs (line_of k) (history_of ns) k.note) same note)
 
 -- a history after itself has nothing more
 pub quiet-all : (n : ℕ) (ns : List HistoryLine) (k : ℕ) → length ns ≤ k → Quiet n (history_of (take k ns)) (history_of ns)
-quiet-all n ns k le = subst (λ ms. Quiet n (history_of (take k ns)) (history_of ms)) (take_all k ns le) (record { same = refl; short = omega arith; spaced = λ o s. s })
+quiet-all n ns k le = subst (λ ms. Quiet n (history_of (take k ns)) (history_of ms)) (take_all k ns le) (record {
+  same = refl;
+  short = omega arith;
+  spaced = λ o s. s;
+})
 
 -- another node's line is nothing more
-pub quiet-back : (n : ℕ) (ns : List HistoryLine) (k j : ℕ) (l : HistoryLine) → k ≡ j + 1 → j < length ns → get_or ns j l ≡ l → (l.node == n) ≡ false → Quiet n (history_of (take k ns)) (history_of ns) → Quiet n (history_of (take j ns)) (history_of ns)
+pub quiet-back : (n : ℕ) (ns : List HistoryLine) (k j : ℕ) (l : HistoryLine) → k ≡ j + 1 → j < length ns → get_or ns j l ≡ l → (l.node == n) ≡ false →
+    Quiet n (history_of (take k ns)) (history_of ns) → Quiet n (history_of (take j ns)) (history_of ns)
 quiet-back n ns k j l next below is other q = record {
   same = q.same ∙ ap (λ h. of n h) more ∙ of-other n (line_of l) before other;
   short = omega (arith, q.short, ap (λ (h : List Line). length h) more);
@@ -87,29 +97,37 @@ known-quiet n s h m q known = record {
 }
 
 -- behind this line the node has nothing more
-pub quiet-here : (n : ℕ) (ns : List HistoryLine) (k j : ℕ) (l : HistoryLine) → k ≡ j + 1 → j < length ns → get_or ns j l ≡ l → Quiet n (history_of (take k ns)) (history_of ns) → Quiet n (line_of l ∷ history_of (take j ns)) (history_of ns)
+pub quiet-here : (n : ℕ) (ns : List HistoryLine) (k j : ℕ) (l : HistoryLine) → k ≡ j + 1 → j < length ns → get_or ns j l ≡ l →
+    Quiet n (history_of (take k ns)) (history_of ns) → Quiet n (line_of l ∷ history_of (take j ns)) (history_of ns)
 quiet-here n ns k j l next below is q = subst (λ s. Quiet n s (history_of ns)) (ap (λ i. history_of (take i ns)) next ∙ history-more ns j l below is) q
 
 -- what is known at a node's last line is known of it
 pub known-last : (ns : List HistoryLine) (n i : ℕ) (l : HistoryLine) → Told ns → LastAt ns n i → get_or ns i l ≡ l → NodeKnown n (history_of ns) l.note.node
 known-last ns n i l told last is =
     let same : last.noted ≡ l = sym last.noted_is ∙ get_or_default ns i last.noted l last.below ∙ is in
-    let known : NodeKnown last.noted.node (line_of last.noted ∷ history_of (take i ns)) last.noted.note.node = (told.at i last.noted last.below last.noted_is).node in
-    let own : NodeKnown n (line_of last.noted ∷ history_of (take i ns)) last.noted.note.node = subst (λ m. NodeKnown m (line_of last.noted ∷ history_of (take i ns)) last.noted.note.node) last.node known in
-    subst (λ (k : HistoryLine). NodeKnown n (history_of ns) k.note.node) same (known-quiet n (line_of last.noted ∷ history_of (take i ns)) (history_of ns) last.noted.note.node last.quiet own)
+    let known : NodeKnown last.noted.node (line_of last.noted ∷ history_of (take i ns)) last.noted.note.node =
+    (told.at i last.noted last.below last.noted_is).node in
+    let own : NodeKnown n (line_of last.noted ∷ history_of (take i ns)) last.noted.note.node =
+    subst (λ m. NodeKnown m (line_of last.noted ∷ history_of (take i ns)) last.noted.note.node) last.node known in
+    subst (λ (k : HistoryLine). NodeKnown n (history_of ns) k.note.node) same (known-quiet n (line_of last.noted ∷ history_of (take i ns)) (history_of ns)
+    last.noted.note.node last.quiet own)
 
 -- what is known behind a line is known of the first lines with it
-pub first-lines : (ns : List HistoryLine) (k j : ℕ) (l : HistoryLine) → k ≡ j + 1 → j < length ns → get_or ns j l ≡ l → history_of (take k ns) ≡ (line_of l ∷ history_of (take j ns))
+pub first-lines : (ns : List HistoryLine) (k j : ℕ) (l : HistoryLine) → k ≡ j + 1 → j < length ns → get_or ns j l ≡ l → history_of (take k ns) ≡
+    (line_of l ∷ history_of (take j ns))
 first-lines ns k j l next below is = ap (λ i. history_of (take i ns)) next ∙ history-more ns j l below is
 
-pub port-more : (n : ℕ) (q : Port) (ns : List HistoryLine) (k j : ℕ) (l : HistoryLine) → k ≡ j + 1 → j < length ns → get_or ns j l ≡ l → (m : PortNote) → PortKnown n q (line_of l ∷ history_of (take j ns)) m → PortKnown n q (history_of (take k ns)) m
+pub port-more : (n : ℕ) (q : Port) (ns : List HistoryLine) (k j : ℕ) (l : HistoryLine) → k ≡ j + 1 → j < length ns → get_or ns j l ≡ l → (m : PortNote) →
+    PortKnown n q (line_of l ∷ history_of (take j ns)) m → PortKnown n q (history_of (take k ns)) m
 port-more n q ns k j l next below is m known = subst (λ h. PortKnown n q h m) (sym (first-lines ns k j l next below is)) known
 
-pub posted-more : (ns : List HistoryLine) (k j : ℕ) (l : HistoryLine) → k ≡ j + 1 → j < length ns → get_or ns j l ≡ l → posted (dids (history_of (take k ns))) ≡ posted (dids (line_of l ∷ history_of (take j ns)))
+pub posted-more : (ns : List HistoryLine) (k j : ℕ) (l : HistoryLine) → k ≡ j + 1 → j < length ns → get_or ns j l ≡ l → posted (dids (history_of (take k ns))) ≡
+    posted (dids (line_of l ∷ history_of (take j ns)))
 posted-more ns k j l next below is = ap (λ h. posted (dids h)) (first-lines ns k j l next below is)
 
 -- the last line tells how many datagrams were posted
-pub posted-last : (ns : List HistoryLine) (j : ℕ) (l : HistoryLine) → length ns ≡ j + 1 → get_or ns j l ≡ l → Told ns → l.note.posted ≡ posted (dids (history_of ns))
+pub posted-last : (ns : List HistoryLine) (j : ℕ) (l : HistoryLine) → length ns ≡ j + 1 → get_or ns j l ≡ l → Told ns → l.note.posted ≡
+    posted (dids (history_of ns))
 posted-last ns j l last is told =
     let below : j < length ns = omega arith in
     let F : List Line → ℕ = λ h. posted (dids h) in
@@ -121,7 +139,8 @@ posted-few ns j l last is told =
     omega (arith, (told.at j l below is).few, length-history (take j ns), length-take-le j ns (omega arith))
 
 -- what is known of a line's node is small
-pub moved-small : (ns : List HistoryLine) (j : ℕ) (l : HistoryLine) → j < length ns → get_or ns j l ≡ l → length ns < 2 ^ 32 → Told ns → IsSumOf 4294967295 l.note.node.clock.moved
+pub moved-small : (ns : List HistoryLine) (j : ℕ) (l : HistoryLine) → j < length ns → get_or ns j l ≡ l → length ns < 2 ^ 32 → Told ns →
+    IsSumOf 4294967295 l.note.node.clock.moved
 moved-small ns j l below is few told =
     more-small (length (line_of l ∷ history_of (take j ns))) 4294967295 l.note.node.clock.moved
     (omega (arith, few, length-history (take j ns), length-take-le j ns (omega arith))) (told.at j l below is).node.small

@@ -10,11 +10,13 @@ use Rattle.tsp_history.proofs.{HistoryLemmas.Within-noted, NoteLemmas.begins-por
 -- a port's own line, as it sees it
 pub view-here : (n : ℕ) (q : Port) (l : Line) (h : List Line) → node_of l ≡ n → l.port ≡ q → view q (of n (l ∷ h)) ≡ (Here l.did ∷ view q (of n h))
 view-here n q l h node port =
-    let sees : ((l.port.0 == q.0) || is_shared l.did.deed) ≡ true = subst (λ (r : Port). ((r.0 == q.0) || is_shared l.did.deed) ≡ true) (sym port) (sees-own q (is_shared l.did.deed)) in
+    let sees : ((l.port.0 == q.0) || is_shared l.did.deed) ≡ true = subst (λ (r : Port). ((r.0 == q.0) || is_shared l.did.deed) ≡
+    true) (sym port) (sees-own q (is_shared l.did.deed)) in
     ap (view q) (of-own n l h node) ∙ ap (λ b. seen_as b l.did ∷ view q (of n h)) sees
 
 -- a send that a line of the port begins is told by the number of what it posts
-pub sent-here : (ns : List HistoryLine) (n : ℕ) (q : Port) (j : ℕ) (l : HistoryLine) (begins : Bool) (was seen : List Seen) → j < length ns → get_or ns j l ≡ l → BeginsOn l n q → IsPost l → Told ns → begins ≡ true →
+pub sent-here : (ns : List HistoryLine) (n : ℕ) (q : Port) (j : ℕ) (l : HistoryLine) (begins : Bool) (was seen : List Seen) → j < length ns → get_or ns j l ≡
+    l → BeginsOn l n q → IsPost l → Told ns → begins ≡ true →
     seen ≡ (if begins then Here (line_of l).did ∷ view q (of n (history_of (take j ns))) else was) → PostedAt n q (history_of ns) seen (l.note.posted - 1)
 sent-here ns n q j l begins was seen below is on post told acts place =
     let past : List Line = history_of (take j ns) in

@@ -1,5 +1,6 @@
 -- How spacing carries over a line.
-use Rattle.std.proofs.Common.{◌∙◌, ap, sym, subst, arith, refl, inl, inr, eq-eqb, ◌≡◌, ◌<◌, ◌≤◌, ◌+◌, ◌==◌, ℕ, ℤ, nat_lt, if◌then◌else◌, Bool, true, false, List, [], ◌∷◌, Option, None, Some, MatchBool}
+use Rattle.std.proofs.Common.{◌∙◌, ap, sym, subst, arith, refl, inl, inr, eq-eqb, ◌≡◌, ◌<◌, ◌≤◌, ◌+◌, ◌==◌, ℕ, ℤ, nat_lt, if◌then◌else◌, Bool, true, false}
+use Rattle.std.proofs.Common.{List, [], ◌∷◌, Option, None, Some, MatchBool}
 use Rattle.std.proofs.lemmas.Bool.{ltb-false, ltb-true}
 use Rattle.tsp_base.specs.declared.{act.Act.Act, act.Act.TheVariants.Boot, act.Act.TheVariants.Correct, constants.TheConstants.GAP}
 use Rattle.tsp_promises.{proofs.HistoryPlaces.of-other, proofs.SteadyProof.lives-more, specs.Fits.node_of}
@@ -26,7 +27,8 @@ lives-mono n s (l ∷ h) (inl e) = subst (λ k. lives (dids (of n k)) ≤ lives 
 lives-mono n s (l ∷ h) (inr w) = omega (arith, lives-mono n s h w, lives-no-fewer n l h (node_of l == n) refl)
 
 -- another node's line changes nothing
-pub spaced-other : (b : Bool) (n x : ℕ) (l : Line) (h : List Line) → (node_of l == n) ≡ false → MatchBool b (Spaced n x h) (Spaced n x h → ⊥) → MatchBool b (Spaced n x (l ∷ h)) (Spaced n x (l ∷ h) → ⊥)
+pub spaced-other : (b : Bool) (n x : ℕ) (l : Line) (h : List Line) → (node_of l == n) ≡ false → MatchBool b (Spaced n x h) (Spaced n x h → ⊥) →
+    MatchBool b (Spaced n x (l ∷ h)) (Spaced n x (l ∷ h) → ⊥)
 spaced-other b n x l h other m = over b m where
   same : lives (dids (of n (l ∷ h))) ≡ lives (dids (of n h))
   same = ap (λ o. lives (dids o)) (of-other n l h other)
@@ -43,7 +45,8 @@ spaced-other b n x l h other m = over b m where
   over false f = λ g. f (λ k older a s y w node deed lived. g k older a s y (inr w) node deed (lived ∙ sym same))
 
 -- nor does a line that neither boots nor corrects
-pub spaced-plain : (b : Bool) (n x : ℕ) (l : Line) (h : List Line) → node_of l ≡ n → ((k : ℕ) → lives_after l.did.deed k ≡ k) → ((a : ℤ) (s : Bool) (y : ℤ) → l.did.deed ≡ Acts (Correct a s y) → ⊥) →
+pub spaced-plain : (b : Bool) (n x : ℕ) (l : Line) (h : List Line) → node_of l ≡ n → ((k : ℕ) → lives_after l.did.deed k ≡ k) →
+    ((a : ℤ) (s : Bool) (y : ℤ) → l.did.deed ≡ Acts (Correct a s y) → ⊥) →
     MatchBool b (Spaced n x h) (Spaced n x h → ⊥) → MatchBool b (Spaced n x (l ∷ h)) (Spaced n x (l ∷ h) → ⊥)
 spaced-plain b n x l h own quiet other m = over b m where
   same : lives (dids (of n (l ∷ h))) ≡ lives (dids (of n h))
@@ -69,7 +72,8 @@ spaced-boot n x l h own boot k older a s y (inr w) node deed lived =
     absurd (omega (arith, more, few, lived))
 
 -- a correction that is far enough before
-pub spaced-far : (b : Bool) (n x : ℕ) (l : Line) (h : List Line) (a : ℤ) (s : Bool) (y : ℤ) → node_of l ≡ n → l.did.deed ≡ Acts (Correct a s y) → l.did.tick + GAP ≤ x →
+pub spaced-far : (b : Bool) (n x : ℕ) (l : Line) (h : List Line) (a : ℤ) (s : Bool) (y : ℤ) → node_of l ≡ n → l.did.deed ≡ Acts (Correct a s y) →
+    l.did.tick + GAP ≤ x →
     MatchBool b (Spaced n x h) (Spaced n x h → ⊥) → MatchBool b (Spaced n x (l ∷ h)) (Spaced n x (l ∷ h) → ⊥)
 spaced-far b n x l h a s y own correct far m = over b m where
   same : lives (dids (of n (l ∷ h))) ≡ lives (dids (of n h))
@@ -84,7 +88,8 @@ spaced-far b n x l h a s y own correct far m = over b m where
   over false f = λ g. f (λ k older c t z w node deed lived. g k older c t z (inr w) node deed (lived ∙ sym same))
 
 -- a correction that is too near
-pub spaced-near : (n x : ℕ) (l : Line) (h : List Line) (a : ℤ) (s : Bool) (y : ℤ) → node_of l ≡ n → l.did.deed ≡ Acts (Correct a s y) → x < l.did.tick + GAP → Spaced n x (l ∷ h) → ⊥
+pub spaced-near : (n x : ℕ) (l : Line) (h : List Line) (a : ℤ) (s : Bool) (y : ℤ) → node_of l ≡ n → l.did.deed ≡ Acts (Correct a s y) → x < l.did.tick + GAP →
+    Spaced n x (l ∷ h) → ⊥
 spaced-near n x l h a s y own correct near f =
     let same : lives (dids (of n (l ∷ h))) ≡ lives (dids (of n h)) = lives-own n l h own ∙ ap (λ d. lives_after d (lives (dids (of n h)))) correct in
     let far : l.did.tick + GAP ≤ x = f l h a s y (inl refl) own correct (sym same) in
@@ -99,9 +104,12 @@ pub no-boot : (o : Option Act) (b : Brief) → (name : List ℕ) × (o ≡ act_o
 no-boot o b (name, is) other k = ap (λ a. lives_after (deed_of a) k) is ∙ held-no-boot b name other k
 
 -- a correction, after a history that is spaced
-pub spaced-correct : (r b : Bool) (n x : ℕ) (l : Line) (h : List Line) (a : ℤ) (s : Bool) (y : ℤ) → node_of l ≡ n → l.did.deed ≡ Acts (Correct a s y) → b ≡ true →
-    MatchBool r (l.did.tick + GAP ≤ x) (x < l.did.tick + GAP) → MatchBool b (Spaced n x h) (Spaced n x h → ⊥) → MatchBool r (Spaced n x (l ∷ h)) (Spaced n x (l ∷ h) → ⊥)
-spaced-correct true b n x l h a s y own correct e far m = spaced-far true n x l h a s y own correct far (subst (λ c. MatchBool c (Spaced n x h) (Spaced n x h → ⊥)) e m)
+pub spaced-correct : (r b : Bool) (n x : ℕ) (l : Line) (h : List Line) (a : ℤ) (s : Bool) (y : ℤ) → node_of l ≡ n → l.did.deed ≡ Acts (Correct a s y) → b ≡
+    true →
+    MatchBool r (l.did.tick + GAP ≤ x) (x < l.did.tick + GAP) → MatchBool b (Spaced n x h) (Spaced n x h → ⊥) →
+    MatchBool r (Spaced n x (l ∷ h)) (Spaced n x (l ∷ h) → ⊥)
+spaced-correct true b n x l h a s y own correct e far m = spaced-far true n x l h a s y own correct far
+    (subst (λ c. MatchBool c (Spaced n x h) (Spaced n x h → ⊥)) e m)
 spaced-correct false b n x l h a s y own correct e near m = spaced-near n x l h a s y own correct near
 
 -- a correction, after a history that isn't spaced
@@ -118,21 +126,25 @@ spaced-not b n x l h a s y own correct e m = subst (λ c. MatchBool c (Spaced n 
   bad g = before (λ k older c t z w node deed lived. g k older c t z (inr w) node deed (lived ∙ sym same))
 
 -- an act that isn't held as a correction is none
-held-no-correct : (b : Brief) (name : List ℕ) → ((a : ℤ) (s : Bool) (y : ℤ) → b ≡ BriefCorrect a s y → ⊥) → (a : ℤ) (s : Bool) (y : ℤ) → deed_of (act_of b name) ≡ Acts (Correct a s y) → ⊥
+held-no-correct : (b : Brief) (name : List ℕ) → ((a : ℤ) (s : Bool) (y : ℤ) → b ≡ BriefCorrect a s y → ⊥) → (a : ℤ) (s : Bool) (y : ℤ) →
+    deed_of (act_of b name) ≡ Acts (Correct a s y) → ⊥
 held-no-correct (BriefCorrect c t z) name other a s y e = other c t z refl
 held-no-correct _ name other a s y e = cc
 
-pub no-correct : (o : Option Act) (b : Brief) → (name : List ℕ) × (o ≡ act_of b name) → ((a : ℤ) (s : Bool) (y : ℤ) → b ≡ BriefCorrect a s y → ⊥) → (a : ℤ) (s : Bool) (y : ℤ) → deed_of o ≡ Acts (Correct a s y) → ⊥
+pub no-correct : (o : Option Act) (b : Brief) → (name : List ℕ) × (o ≡ act_of b name) → ((a : ℤ) (s : Bool) (y : ℤ) → b ≡ BriefCorrect a s y → ⊥) →
+    (a : ℤ) (s : Bool) (y : ℤ) → deed_of o ≡ Acts (Correct a s y) → ⊥
 no-correct o b (name, is) other a s y e = held-no-correct b name other a s y (sym (ap deed_of is) ∙ e)
 
 -- after a correction the later one of the ticks tells
-pub spaced-later : (n : ℕ) (l : Line) (h : List Line) (o : Option ℕ) (a : ℤ) (s : Bool) (y : ℤ) → node_of l ≡ n → l.did.deed ≡ Acts (Correct a s y) → SpacedBy n h o → SpacedBy n (l ∷ h) (Some (later_of o l.did.tick))
+pub spaced-later : (n : ℕ) (l : Line) (h : List Line) (o : Option ℕ) (a : ℤ) (s : Bool) (y : ℤ) → node_of l ≡ n → l.did.deed ≡ Acts (Correct a s y) →
+    SpacedBy n h o → SpacedBy n (l ∷ h) (Some (later_of o l.did.tick))
 spaced-later n l h None a s y own correct spaced x b far = spaced-correct b true n x l h a s y own correct refl far (spaced x true refl)
 spaced-later n l h (Some e) a s y own correct spaced x b far = by_tick (nat_lt l.did.tick e) refl where
   by_tick : (t : Bool) → nat_lt l.did.tick e ≡ t → MatchBool b (Spaced n x (l ∷ h)) (Spaced n x (l ∷ h) → ⊥)
   by_tick true before =
       let tick : l.did.tick < e = ltb-true l.did.tick e before in
-      let last : MatchBool b (e + GAP ≤ x) (x < e + GAP) = subst (λ t. MatchBool b ((if t then e else l.did.tick) + GAP ≤ x) (x < (if t then e else l.did.tick) + GAP)) before far in
+      let last : MatchBool b (e + GAP ≤ x) (x < e + GAP) = subst (λ t. MatchBool b ((if t then e else l.did.tick) + GAP ≤ x)
+      (x < (if t then e else l.did.tick) + GAP)) before far in
       over b last tick
     where
       over : (b : Bool) → MatchBool b (e + GAP ≤ x) (x < e + GAP) → l.did.tick < e → MatchBool b (Spaced n x (l ∷ h)) (Spaced n x (l ∷ h) → ⊥)
@@ -140,7 +152,8 @@ spaced-later n l h (Some e) a s y own correct spaced x b far = by_tick (nat_lt l
       over false near tick = spaced-not false n x l h a s y own correct refl (spaced x false near)
   by_tick false after =
       let tick : e ≤ l.did.tick = ltb-false l.did.tick e after in
-      let last : MatchBool b (l.did.tick + GAP ≤ x) (x < l.did.tick + GAP) = subst (λ t. MatchBool b ((if t then e else l.did.tick) + GAP ≤ x) (x < (if t then e else l.did.tick) + GAP)) after far in
+      let last : MatchBool b (l.did.tick + GAP ≤ x) (x < l.did.tick + GAP) = subst (λ t. MatchBool b ((if t then e else l.did.tick) + GAP ≤ x)
+      (x < (if t then e else l.did.tick) + GAP)) after far in
       over b last tick
     where
       over : (b : Bool) → MatchBool b (l.did.tick + GAP ≤ x) (x < l.did.tick + GAP) → e ≤ l.did.tick → MatchBool b (Spaced n x (l ∷ h)) (Spaced n x (l ∷ h) → ⊥)
@@ -153,6 +166,7 @@ spaced-new n l h own boot x b far = subst (λ c. MatchBool c (Spaced n x (l ∷ 
 
 -- nothing tells where there is no line
 pub spaced-none : (n : ℕ) → SpacedBy n [] None
-spaced-none n x b far = subst (λ c. MatchBool c (Spaced n x []) (Spaced n x [] → ⊥)) (sym far) (λ other older a s y w node deed lived. absurd (no-place other older w)) where
-  no-place : (l : Line) (older : List Line) → Within (l ∷ older) [] → ⊥
-  no-place l older e = cc
+spaced-none n x b far = subst (λ c. MatchBool c (Spaced n x []) (Spaced n x [] → ⊥)) (sym far)
+    (λ other older a s y w node deed lived. absurd (no-place other older w)) where
+      no-place : (l : Line) (older : List Line) → Within (l ∷ older) [] → ⊥
+      no-place l older e = cc

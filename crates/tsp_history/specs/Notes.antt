@@ -55,4 +55,5 @@ pub record LastAt (ns : List HistoryLine) (n i : ℕ) : Type 0 where
 -- the line's port holds of it
 abbrev pub IsOwnLine : HistoryLine → ℕ → Port → Bool → Type 0
 IsOwnLine noted n q false = (before : List Line) (m : PortNote) → PortKnown n q before m → PortKnown n q (line_of noted ∷ before) m
-IsOwnLine noted n q true = (before : List Line) (m : PortNote) → PortKnown noted.node noted.port (line_of noted ∷ before) m → PortKnown n q (line_of noted ∷ before) m
+IsOwnLine noted n q true = (before : List Line) (m : PortNote) → PortKnown noted.node noted.port (line_of noted ∷ before) m →
+    PortKnown n q (line_of noted ∷ before) m

@@ -6,7 +6,8 @@ use Rattle.tsp_base.specs.Words.{Acts, Line, of, dids, lives, Within}
 
 -- each Correct of node n in its present life lies GAP ticks or more before tick x
 abbrev pub Spaced : ℕ → ℕ → List Line → Type 0
-Spaced n x h = (other : Line) (older : List Line) (a : ℤ) (s : Bool) (y : ℤ) → Within (other ∷ older) h → node_of other ≡ n → other.did.deed ≡ Acts (Correct a s y) →
+Spaced n x h = (other : Line) (older : List Line) (a : ℤ) (s : Bool) (y : ℤ) → Within (other ∷ older) h → node_of other ≡ n → other.did.deed ≡
+    Acts (Correct a s y) →
     lives (dids (of n older)) ≡ lives (dids (of n h)) → other.did.tick + GAP ≤ x
 
 -- the greater of two ticks; the second where there is no first

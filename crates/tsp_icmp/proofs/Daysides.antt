@@ -1,5 +1,6 @@
 -- What an exchange says is right where the clocks are at most half a day apart.
-use Rattle.std.proofs.Common.{◌≡◌, ℕ, ◌<◌, ◌/◌, refl, sym, ap, ◌∙◌, arith, ℤ, pos, negsuc, ◌+ℤ◌, ◌-ℤ◌, ◌*ℤ◌, ◌≤ℤ◌, ◌<ℤ◌, Bool, true, false, Some, None, int_le, if◌then◌else◌, IsSomeAnd}
+use Rattle.std.proofs.Common.{◌≡◌, ℕ, ◌<◌, ◌/◌, refl, sym, ap, ◌∙◌, arith, ℤ, pos, negsuc, ◌+ℤ◌, ◌-ℤ◌, ◌*ℤ◌, ◌≤ℤ◌, ◌<ℤ◌, Bool, true, false, Some, None, int_le}
+use Rattle.std.proofs.Common.{if◌then◌else◌, IsSomeAnd}
 use Rattle.std.{proofs.lemmas.Int.ints, specs.Int.int_div_euclid}
 use Rattle.tsp_icmp.specs.Days.{in_day, trip_of, shift_of, lesser_half, greater_half, difference_of, milli_of, IsAtMost, Dayside}
 
@@ -26,10 +27,16 @@ in_day-is z w q e low high = omega (arith, ints, days-in_day z, in_day-low z, in
 -- the rest of a difference of rests, moved by k, is the difference moved by k, where that lies within a day
 in_day-apart : (x y : ℤ) (o d k : ℕ) → in_day x ≡ pos o → in_day y ≡ pos d → pos 0 ≤ℤ ((y -ℤ x) +ℤ pos k) → ((y -ℤ x) +ℤ pos k) <ℤ pos 86400000
     → in_day ((pos d -ℤ pos o) +ℤ pos k) ≡ (y -ℤ x) +ℤ pos k
-in_day-apart x y o d k e f low high = in_day-is ((pos d -ℤ pos o) +ℤ pos k) ((y -ℤ x) +ℤ pos k) (days x -ℤ days y) (omega (arith, ints, days-in_day x, days-in_day y)) low high
+in_day-apart x y o d k e f low high = in_day-is ((pos d -ℤ pos o) +ℤ pos k) ((y -ℤ x) +ℤ pos k) (days x -ℤ days y) (omega (
+  arith,
+  ints,
+  days-in_day x,
+  days-in_day y,
+)) low high
 
 trip_of-is : (x y : ℤ) (o d : ℕ) → in_day x ≡ pos o → in_day y ≡ pos d → pos 0 ≤ℤ (y -ℤ x) → (y -ℤ x) <ℤ pos 43200000 → trip_of o d ≡ y -ℤ x
-trip_of-is x y o d e f low high = in_day-is (pos d -ℤ pos o) (y -ℤ x) (days x -ℤ days y) (omega (arith, ints, days-in_day x, days-in_day y)) low (omega (arith, ints))
+trip_of-is x y o d e f low high = in_day-is (pos d -ℤ pos o) (y -ℤ x) (days x -ℤ days y) (omega (arith, ints, days-in_day x, days-in_day y)) low
+    (omega (arith, ints))
 
 shift_of-is : (x y : ℤ) (o r : ℕ) → in_day x ≡ pos o → in_day y ≡ pos r → negsuc 43199999 ≤ℤ (y -ℤ x) → (y -ℤ x) <ℤ pos 43200000 → shift_of o r ≡ y -ℤ x
 shift_of-is x y o r e f low high = omega (arith, ints, in_day-apart x y o r 43200000 e f (omega (arith, ints)) (omega (arith, ints)))
@@ -85,11 +92,19 @@ int_le-false x y h = grind (arith, ints)
 
 pub Dayside-difference_of : (o r d : ℕ) → Dayside o r d (difference_of o r d)
 Dayside-difference_of o r d A L D R al ld a b c trip low high =
-    let t : trip_of o d ≡ milli_of D -ℤ milli_of A = trip_of-is (milli_of A) (milli_of D) o d a c (omega (arith, ints, milli_of-mono A L al, milli_of-mono L D ld)) trip in
+    let t : trip_of o d ≡ milli_of D -ℤ milli_of A = trip_of-is (milli_of A) (milli_of D) o d a c (omega (
+      arith,
+      ints,
+      milli_of-mono A L al,
+      milli_of-mono L D ld,
+    )) trip in
     let s : shift_of o r ≡ milli_of R -ℤ milli_of A = shift_of-is (milli_of A) (milli_of R) o r a b low high in
-    given (int_le (pos 43200000) (trip_of o d)) (shift_of o r -ℤ lesser_half (trip_of o d), greater_half (trip_of o d) +ℤ pos 1) (λ x. IsAtMost (pos 1000 *ℤ x.1) ((pos 1000 *ℤ x.0) -ℤ (R -ℤ L)))
+    given (int_le (pos 43200000) (trip_of o d)) (shift_of o r -ℤ lesser_half (trip_of o d), greater_half (trip_of o d) +ℤ pos 1)
+    (λ x. IsAtMost (pos 1000 *ℤ x.1) ((pos 1000 *ℤ x.0) -ℤ (R -ℤ L)))
     (rw t (int_le-false _ _ trip))
-    (rw s (bound A L D R (milli_of A) (milli_of D) (milli_of R) (lesser_half (trip_of o d)) (greater_half (trip_of o d)) al ld (milli_of-low A) (milli_of-high A) (milli_of-low R) (milli_of-high R) (milli_of-low D) (milli_of-high D) (halves (trip_of o d) ∙ t) (lesser_half-greater_half (trip_of o d))))
+    (rw s (bound A L D R (milli_of A) (milli_of D) (milli_of R) (lesser_half (trip_of o d)) (greater_half (trip_of o d)) al ld (milli_of-low A)
+    (milli_of-high A) (milli_of-low R) (milli_of-high R) (milli_of-low D) (milli_of-high D) (halves (trip_of o d) ∙
+    t) (lesser_half-greater_half (trip_of o d))))
 
 found_case : (b : Bool) (x y : ℤ × ℤ) → b ≡ false → x ≡ y → Some x ≡ (if b then None else Some y)
 found_case true x y e p = cc

@@ -8,7 +8,8 @@ use Rattle.tsp_icmp.specs.declared.timestamp.IcmpFault.TheVariants.{Kind}
 
 -- the octets behind the checksum, each by its place
 abbrev body_of : List ℕ → List ℕ
-body_of o = octet o 4 ∷ octet o 5 ∷ octet o 6 ∷ octet o 7 ∷ octet o 8 ∷ octet o 9 ∷ octet o 10 ∷ octet o 11 ∷ octet o 12 ∷ octet o 13 ∷ octet o 14 ∷ octet o 15 ∷ octet o 16 ∷ octet o 17 ∷ octet o 18 ∷ octet o 19 ∷ []
+body_of o = octet o 4 ∷ octet o 5 ∷ octet o 6 ∷ octet o 7 ∷ octet o 8 ∷ octet o 9 ∷ octet o 10 ∷ octet o 11 ∷ octet o 12 ∷ octet o 13 ∷ octet o 14 ∷
+    octet o 15 ∷ octet o 16 ∷ octet o 17 ∷ octet o 18 ∷ octet o 19 ∷ []
 
 -- 20 octets, each by its place
 twenty : (o : List ℕ) → length o ≡ 20 → o ≡ octet o 0 ∷ octet o 1 ∷ octet o 2 ∷ octet o 3 ∷ body_of o
@@ -56,9 +57,11 @@ pub read_is : (o : List ℕ) (m : Timestamp) → length o ≡ 20 → IsOctets o 
 read_is o m e h kind code sum ident seq originate receive transmit =
     let front : octet o 0 ∷ octet o 1 ∷ [] ≡ type_of m.reply ∷ 0 ∷ [] = rw (kind, code) refl in
     let blank : without_checksum o ≡ type_of m.reply ∷ 0 ∷ 0 ∷ 0 ∷ body_of o = ap without_checksum (twenty o e) ∙ ap (λ l. l ++ 0 ∷ 0 ∷ body_of o) front in
-    let sums : to_be_bytes w16 (checksum (type_of m.reply ∷ 0 ∷ 0 ∷ 0 ∷ body_of o)) ≡ octet o 2 ∷ octet o 3 ∷ [] = ap (λ l. to_be_bytes w16 (checksum l)) (sym blank) ∙ pair o 2 (checksum (without_checksum o)) h (sym sum) in
+    let sums : to_be_bytes w16 (checksum (type_of m.reply ∷ 0 ∷ 0 ∷ 0 ∷ body_of o)) ≡ octet o 2 ∷ octet o 3 ∷ [] =
+    ap (λ l. to_be_bytes w16 (checksum l)) (sym blank) ∙ pair o 2 (checksum (without_checksum o)) h (sym sum) in
     sym (
-    joined (type_of m.reply) _ _ _ _ _ _ _ _ _ _ (pair o 4 m.ident h ident) (pair o 6 m.seq h seq) (four o 8 m.originate h originate) (four o 12 m.receive h receive) (four o 16 m.transmit h transmit)
+    joined (type_of m.reply) _ _ _ _ _ _ _ _ _ _ (pair o 4 m.ident h ident) (pair o 6 m.seq h seq) (four o 8 m.originate h originate)
+    (four o 12 m.receive h receive) (four o 16 m.transmit h transmit)
     ∙ ap (λ l. (type_of m.reply ∷ 0 ∷ []) ++ l ++ body_of o) sums
     ∙ ap (λ l. l ++ octet o 2 ∷ octet o 3 ∷ body_of o) (sym front)
     ∙ sym (twenty o e)
@@ -71,14 +74,19 @@ type_of-injective false true e = absurd (omega (arith, e))
 type_of-injective false false e = refl
 
 -- two octets at a place say the same number
-pair-same : (m n i : ℕ) (o p : List ℕ) → m < 2 ^ 16 → n < 2 ^ 16 → to_be_bytes w16 m ≡ octet o i ∷ octet o (i + 1) ∷ [] → to_be_bytes w16 n ≡ octet p i ∷ octet p (i + 1) ∷ [] → o ≡ p → m ≡ n
-pair-same m n i o p hm hn em en e = sym (from_be_bytes-to_be_bytes_2 m hm) ∙ ap (from_be_bytes w16) (em ∙ ap (λ l. octet l i ∷ octet l (i + 1) ∷ []) e ∙ sym en) ∙ from_be_bytes-to_be_bytes_2 n hn
+pair-same : (m n i : ℕ) (o p : List ℕ) → m < 2 ^ 16 → n < 2 ^ 16 → to_be_bytes w16 m ≡ octet o i ∷ octet o (i + 1) ∷ [] → to_be_bytes w16 n ≡ octet p i ∷
+    octet p (i + 1) ∷ [] → o ≡ p → m ≡ n
+pair-same m n i o p hm hn em en e = sym (from_be_bytes-to_be_bytes_2 m hm) ∙ ap (from_be_bytes w16) (em ∙ ap (λ l. octet l i ∷ octet l (i + 1) ∷ []) e ∙
+    sym en) ∙ from_be_bytes-to_be_bytes_2 n hn
 
 four-same : (m n i : ℕ) (o p : List ℕ) → m < 2 ^ 32 → n < 2 ^ 32
-    → to_be_bytes w32 m ≡ octet o i ∷ octet o (i + 1) ∷ octet o (i + 2) ∷ octet o (i + 3) ∷ [] → to_be_bytes w32 n ≡ octet p i ∷ octet p (i + 1) ∷ octet p (i + 2) ∷ octet p (i + 3) ∷ [] → o ≡ p → m ≡ n
-four-same m n i o p hm hn em en e = sym (from_be_bytes-to_be_bytes_4 m hm) ∙ ap (from_be_bytes w32) (em ∙ ap (λ l. octet l i ∷ octet l (i + 1) ∷ octet l (i + 2) ∷ octet l (i + 3) ∷ []) e ∙ sym en) ∙ from_be_bytes-to_be_bytes_4 n hn
+    → to_be_bytes w32 m ≡ octet o i ∷ octet o (i + 1) ∷ octet o (i + 2) ∷ octet o (i + 3) ∷ [] → to_be_bytes w32 n ≡ octet p i ∷ octet p (i + 1) ∷
+    octet p (i + 2) ∷ octet p (i + 3) ∷ [] → o ≡ p → m ≡ n
+four-same m n i o p hm hn em en e = sym (from_be_bytes-to_be_bytes_4 m hm) ∙ ap (from_be_bytes w32) (em ∙
+    ap (λ l. octet l i ∷ octet l (i + 1) ∷ octet l (i + 2) ∷ octet l (i + 3) ∷ []) e ∙ sym en) ∙ from_be_bytes-to_be_bytes_4 n hn
 
-made : (m n : Timestamp) → m.reply ≡ n.reply → m.ident ≡ n.ident → m.seq ≡ n.seq → m.originate ≡ n.originate → m.receive ≡ n.receive → m.transmit ≡ n.transmit → m ≡ n
+made : (m n : Timestamp) → m.reply ≡ n.reply → m.ident ≡ n.ident → m.seq ≡ n.seq → m.originate ≡ n.originate → m.receive ≡ n.receive → m.transmit ≡ n.transmit →
+    m ≡ n
 made m n a b c d e f = rw (a, b, c, d, e, f) refl
 
 -- octets are one message's
@@ -88,7 +96,8 @@ icmp_octets-injective m n g h e =
     let p = icmp_octets n in
     made m n (type_of-injective m.reply n.reply (ap (λ l. octet l 0) e))
     (pair-same m.ident n.ident 4 o p g.ident h.ident refl refl e) (pair-same m.seq n.seq 6 o p g.seq h.seq refl refl e)
-    (four-same m.originate n.originate 8 o p g.originate h.originate refl refl e) (four-same m.receive n.receive 12 o p g.receive h.receive refl refl e) (four-same m.transmit n.transmit 16 o p g.transmit h.transmit refl refl e)
+    (four-same m.originate n.originate 8 o p g.originate h.originate refl refl e) (four-same m.receive n.receive 12 o p g.receive h.receive refl refl e)
+    (four-same m.transmit n.transmit 16 o p g.transmit h.transmit refl refl e)
 
 -- a message's octets have no fault
 pub icmp_octets-no_fault : (m : Timestamp) (f : IcmpFault) → IsIcmpFault (icmp_octets m) f → ⊥

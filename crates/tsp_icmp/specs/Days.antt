@@ -22,7 +22,8 @@ lesser_half trip = int_div_euclid trip (pos 2)
 abbrev pub greater_half : ℤ → ℤ
 greater_half trip = int_div_euclid (trip +ℤ pos 1) (pos 2)
 
--- how far a clock that read r is ahead of one that read o at the request and d at the reply, and by how much that may be wrong; None where the trip takes half a day or more
+-- how far a clock that read r is ahead of one that read o at the request and d at the reply, and by how much that may be wrong; None where the trip takes half
+-- a day or more
 abbrev pub difference_of : ℕ → ℕ → ℕ → Option (ℤ × ℤ)
 difference_of o r d =
     if int_le (pos 43200000) (trip_of o d) then None
@@ -36,7 +37,8 @@ milli_of micros = int_div_euclid micros (pos 1000)
 abbrev pub IsAtMost : ℤ → ℤ → Type 0
 IsAtMost n z = ((pos 0 -ℤ n) ≤ℤ z) × (z ≤ℤ n)
 
--- the difference is given, and is wrong by at most the error given with it, where: a clock reads A microseconds at the request, L when the other one reads R, and D at the reply; o, r and d are the milliseconds of A, R and D modulo a day; the trip takes less than half a day; and R is at most half a day from A
+-- the difference is given, and is wrong by at most the error given with it, where: a clock reads A microseconds at the request, L when the other one reads R,
+-- and D at the reply; o, r and d are the milliseconds of A, R and D modulo a day; the trip takes less than half a day; and R is at most half a day from A
 abbrev pub Dayside : ℕ → ℕ → ℕ → Option (ℤ × ℤ) → Type 0
 Dayside o r d found = (A L D R : ℤ) → A ≤ℤ L → L ≤ℤ D
     → in_day (milli_of A) ≡ pos o → in_day (milli_of R) ≡ pos r → in_day (milli_of D) ≡ pos d

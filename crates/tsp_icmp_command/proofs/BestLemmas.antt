@@ -55,12 +55,14 @@ pub name-fold : (first : BestValue) (later : List BestValue) → (fold of_shorte
 name-fold first [] = refl
 name-fold first (b ∷ bs) = name-fold (of_shorter_trip first b) bs ∙ name-of_shorter_trip first b
 
-filter-ap : (t : Bool) (p : BestValue → Bool) (b : BestValue) (xs ys : List BestValue) → p b ≡ t → filter p xs ≡ filter p ys → filter p (b ∷ xs) ≡ filter p (b ∷ ys)
+filter-ap : (t : Bool) (p : BestValue → Bool) (b : BestValue) (xs ys : List BestValue) → p b ≡ t → filter p xs ≡ filter p ys → filter p (b ∷ xs) ≡
+    filter p (b ∷ ys)
 filter-ap true p b xs ys e h = filter-keeps p b xs e ∙ ap (λ l. b ∷ l) h ∙ sym (filter-keeps p b ys e)
 filter-ap false p b xs ys e h = filter-drops p b xs e ∙ h ∙ sym (filter-drops p b ys e)
 
 -- a clock's own differences don't stand among the others'
-own-case : (t : Bool) (m x b : BestValue) (bs : List BestValue) → is_same_clock b x ≡ t → m.name ≡ x.name → filter (other m) (note bs x) ≡ filter (other m) bs → filter (other m) (note (b ∷ bs) x) ≡ filter (other m) (b ∷ bs)
+own-case : (t : Bool) (m x b : BestValue) (bs : List BestValue) → is_same_clock b x ≡ t → m.name ≡ x.name → filter (other m) (note bs x) ≡ filter (other m) bs →
+    filter (other m) (note (b ∷ bs) x) ≡ filter (other m) (b ∷ bs)
 own-case true m x b bs e h rest =
     let same : b.name ≡ x.name = same_text b.name x.name (sym e) in
     ap (filter (other m)) (note-same b x bs e)
@@ -73,12 +75,15 @@ filter-note_own m x [] h = filter-drops (other m) x [] (ap not (equal m.name x.n
 filter-note_own m x (b ∷ bs) h = own-case (is_same_clock b x) m x b bs refl h (filter-note_own m x bs h)
 
 -- another clock's difference goes on among the others'
-behind-case : (t : Bool) (m x b : BestValue) (bs : List BestValue) → other m b ≡ t → is_same_clock b x ≡ false → filter (other m) (note bs x) ≡ note (filter (other m) bs) x
+behind-case : (t : Bool) (m x b : BestValue) (bs : List BestValue) → other m b ≡ t → is_same_clock b x ≡ false → filter (other m) (note bs x) ≡
+    note (filter (other m) bs) x
     → filter (other m) (b ∷ note bs x) ≡ note (filter (other m) (b ∷ bs)) x
-behind-case true m x b bs t e rest = filter-keeps (other m) b (note bs x) t ∙ ap (λ l. b ∷ l) rest ∙ sym (note-other b x (filter (other m) bs) e) ∙ ap (λ l. note l x) (sym (filter-keeps (other m) b bs t))
+behind-case true m x b bs t e rest = filter-keeps (other m) b (note bs x) t ∙ ap (λ l. b ∷ l) rest ∙ sym (note-other b x (filter (other m) bs) e) ∙
+    ap (λ l. note l x) (sym (filter-keeps (other m) b bs t))
 behind-case false m x b bs t e rest = filter-drops (other m) b (note bs x) t ∙ rest ∙ ap (λ l. note l x) (sym (filter-drops (other m) b bs t))
 
-other-case : (t : Bool) (m x b : BestValue) (bs : List BestValue) → is_same_clock b x ≡ t → m.name ≢ x.name → filter (other m) (note bs x) ≡ note (filter (other m) bs) x
+other-case : (t : Bool) (m x b : BestValue) (bs : List BestValue) → is_same_clock b x ≡ t → m.name ≢ x.name → filter (other m) (note bs x) ≡
+    note (filter (other m) bs) x
     → filter (other m) (note (b ∷ bs) x) ≡ note (filter (other m) (b ∷ bs)) x
 other-case true m x b bs e n rest =
     let same : b.name ≡ x.name = same_text b.name x.name (sym e) in
@@ -92,7 +97,8 @@ filter-note_other : (m x : BestValue) (bs : List BestValue) → m.name ≢ x.nam
 filter-note_other m x [] n = filter-keeps (other m) x [] (ap not (unequal m.name x.name n))
 filter-note_other m x (b ∷ bs) n = other-case (is_same_clock b x) m x b bs refl n (filter-note_other m x bs n)
 
-first-case : (t : Bool) (m x f : BestValue) (bs : List BestValue) → f.name ≡ m.name → bytes_eq f.name x.name ≡ t → of_shorter_trip f x ∷ filter (other m) (note bs x) ≡ note (f ∷ filter (other m) bs) x
+first-case : (t : Bool) (m x f : BestValue) (bs : List BestValue) → f.name ≡ m.name → bytes_eq f.name x.name ≡ t → of_shorter_trip f x ∷
+    filter (other m) (note bs x) ≡ note (f ∷ filter (other m) bs) x
 first-case true m x f bs h e =
     ap (λ l. of_shorter_trip f x ∷ l) (filter-note_own m x bs (sym h ∙ same_text f.name x.name (sym e))) ∙ sym (note-same f x (filter (other m) bs) e)
 first-case false m x f bs h e =
@@ -114,8 +120,10 @@ with-case ms None = ap bests (append-nil ms)
 with-case ms (Some x) = bests-more ms x
 
 -- an exchange more, which gives a difference or none
-pub bests-with_difference : (es : List Exchange) (e : Exchange) → bests (differences (es ++ e ∷ [])) ≡ with_difference (bests (differences es)) (difference_in e.name (finding_of e))
-bests-with_difference es e = ap bests (filter_map-append (λ x. difference_in x.name (finding_of x)) es (e ∷ [])) ∙ with-case (differences es) (difference_in e.name (finding_of e))
+pub bests-with_difference : (es : List Exchange) (e : Exchange) → bests (differences (es ++ e ∷ [])) ≡
+    with_difference (bests (differences es)) (difference_in e.name (finding_of e))
+bests-with_difference es e = ap bests (filter_map-append (λ x. difference_in x.name (finding_of x)) es (e ∷ [])) ∙
+    with-case (differences es) (difference_in e.name (finding_of e))
 
 abbrev Greater : BestValue → BestValue → Type 0
 Greater b m = is_same_clock b m ≡ true → b.trip < m.trip
@@ -126,7 +134,8 @@ AtLeast b m = is_same_clock b m ≡ true → b.trip ≤ m.trip
 -- the first of these differences took no lesser trip
 least-head : (x r : BestValue) (xs earlier later : List BestValue) → x ∷ xs ≡ earlier ++ r ∷ later → All (Greater r) earlier → AtLeast r x
 least-head x r xs [] later e first same = let h : x ≡ r = cc in omega (arith, ap (λ (b : BestValue). b.trip) h)
-least-head x r xs (y ∷ ys) later e first same = let h : x ≡ y = cc in let g = All-head (Greater r) y ys first (rw h at same) in omega (arith, ap (λ (b : BestValue). b.trip) h, g)
+least-head x r xs (y ∷ ys) later e first same = let h : x ≡ y = cc in let g = All-head (Greater r) y ys first (rw h at same) in
+    omega (arith, ap (λ (b : BestValue). b.trip) h, g)
 
 -- a difference of greater trip in front
 in_front : (m r : BestValue) (ms : List BestValue) → IsBestDifference ms r → Greater r m → IsBestDifference (m ∷ ms) r
@@ -139,7 +148,8 @@ in_front m r ms h g = record {
 }
 
 -- a difference of no lesser trip behind the first
-behind_first : (m x r : BestValue) (xs earlier later : List BestValue) → m ∷ xs ≡ earlier ++ r ∷ later → All (Greater r) earlier → All (AtLeast r) later → is_same_clock r m ≡ true
+behind_first : (m x r : BestValue) (xs earlier later : List BestValue) → m ∷ xs ≡ earlier ++ r ∷ later → All (Greater r) earlier → All (AtLeast r) later →
+    is_same_clock r m ≡ true
     → (is_same_clock r x ≡ true → m.trip ≤ x.trip) → IsBestDifference (m ∷ x ∷ xs) r
 behind_first m x r xs [] later e first least same h =
     let p : m ≡ r = cc in
@@ -160,12 +170,14 @@ behind_first m x r xs (y ∷ ys) later e first least same h =
       earlier = m ∷ x ∷ ys;
       later = later;
       whole = ap (λ l. m ∷ x ∷ l) q;
-      first = All-cons (Greater r) m (x ∷ ys) (λ s. less) (All-cons (Greater r) x ys (λ s. let k = h s in omega (arith, k, less)) (All-tail (Greater r) y ys first));
+      first = All-cons (Greater r) m (x ∷ ys) (λ s. less) (All-cons (Greater r) x ys (λ s. let k = h s in
+          omega (arith, k, less)) (All-tail (Greater r) y ys first));
       least = least;
     }
 
 -- a later difference takes the place of the earlier one, or not
-step : (s t : Bool) (m x r : BestValue) (xs : List BestValue) → is_same_clock m x ≡ s → nat_lt x.trip m.trip ≡ t → r.name ≡ m.name → IsBestDifference ((if s && t then x else m) ∷ xs) r → IsBestDifference (m ∷ x ∷ xs) r
+step : (s t : Bool) (m x r : BestValue) (xs : List BestValue) → is_same_clock m x ≡ s → nat_lt x.trip m.trip ≡ t → r.name ≡ m.name →
+    IsBestDifference ((if s && t then x else m) ∷ xs) r → IsBestDifference (m ∷ x ∷ xs) r
 step true true m x r xs es et n h =
     let named : r.name ≡ x.name = n ∙ same_text m.name x.name (sym es) in
     let k = least-head x r xs h.earlier h.later h.whole h.first (equal r.name x.name named) in
@@ -175,13 +187,15 @@ step true false m x r xs es et n h =
     let l : m.trip ≤ x.trip = grind (arith, et) in
     behind_first m x r xs h.earlier h.later h.whole h.first h.least (equal r.name m.name n) (λ s. l)
 step false t m x r xs es et n h =
-    behind_first m x r xs h.earlier h.later h.whole h.first h.least (equal r.name m.name n) (λ s. let c = equal m.name x.name (sym n ∙ same_text r.name x.name (sym s)) in absurd (differ (is_same_clock m x) c es)) where
+    behind_first m x r xs h.earlier h.later h.whole h.first h.least (equal r.name m.name n) (λ s. let c = equal m.name x.name (sym n ∙
+    same_text r.name x.name (sym s)) in absurd (differ (is_same_clock m x) c es)) where
       differ : (b : Bool) → b ≡ true → b ≡ false → ⊥
       differ b p q = cc
 
 fold-is_best : (m : BestValue) (ms : List BestValue) → IsBestDifference (m ∷ ms) (fold of_shorter_trip m ms)
 fold-is_best m [] = record { earlier = []; later = []; whole = refl; first = All-nil (Greater m); least = All-nil (AtLeast m) }
-fold-is_best m (x ∷ xs) = step (is_same_clock m x) (nat_lt x.trip m.trip) m x (fold of_shorter_trip (of_shorter_trip m x) xs) xs refl refl (name-fold (of_shorter_trip m x) xs ∙ name-of_shorter_trip m x) (fold-is_best (of_shorter_trip m x) xs)
+fold-is_best m (x ∷ xs) = step (is_same_clock m x) (nat_lt x.trip m.trip) m x (fold of_shorter_trip (of_shorter_trip m x) xs) xs refl refl
+    (name-fold (of_shorter_trip m x) xs ∙ name-of_shorter_trip m x) (fold-is_best (of_shorter_trip m x) xs)
 
 -- another clock's best stays so
 of_other : (m b : BestValue) (ms : List BestValue) → IsBestDifference ms b → not (is_same_clock m b) ≡ true → IsBestDifference (m ∷ ms) b
@@ -196,7 +210,8 @@ bests_are_best (m ∷ ms) =
     let p = λ (b : BestValue). not (is_same_clock m b) in
     let known = All-filter p (IsBestDifference ms) (bests ms) (bests_are_best ms) in
     let others = filter_passes p (bests ms) in
-    All-cons (IsBestDifference (m ∷ ms)) (fold of_shorter_trip m ms) (filter p (bests ms)) (fold-is_best m ms) (λ k d h. of_other m _ ms (known k d h) (others k d h))
+    All-cons (IsBestDifference (m ∷ ms)) (fold of_shorter_trip m ms) (filter p (bests ms)) (fold-is_best m ms)
+    (λ k d h. of_other m _ ms (known k d h) (others k d h))
 
 -- whether a difference is of this clock
 abbrev of_clock : List ℕ → BestValue → Bool
@@ -204,7 +219,8 @@ of_clock name b = bytes_eq b.name name
 
 here : (t : Bool) (b : BestValue) (all : List BestValue) (x : BestValue) (p : ℕ) → cond (not t) (1 + p) 0 < length (b ∷ all)
     → (p < length all → note all x ≡ slice_set all p (of_shorter_trip (get_or all p x) x))
-    → (if t then of_shorter_trip b x ∷ all else b ∷ note all x) ≡ slice_set (b ∷ all) (cond (not t) (1 + p) 0) (of_shorter_trip (get_or (b ∷ all) (cond (not t) (1 + p) 0) x) x)
+    → (if t then of_shorter_trip b x ∷ all else b ∷ note all x) ≡ slice_set (b ∷ all) (cond (not t) (1 + p) 0)
+    (of_shorter_trip (get_or (b ∷ all) (cond (not t) (1 + p) 0) x) x)
 here true b all x p h rest = refl
 here false b all x p h rest = let e : 1 + p ≡ suc p = omega arith in rw e (ap (λ l. b ∷ l) (rest (omega (arith, h))))
 
@@ -231,7 +247,8 @@ none-case true p e = cc
 none-case false p e = refl
 
 -- the clock that is at this place
-pub position-some : (all : List BestValue) (name : List ℕ) (i : ℕ) → position (of_clock name) all ≡ Some i → (position_or_len (of_clock name) all < length all) × (position_or_len (of_clock name) all ≡ i)
+pub position-some : (all : List BestValue) (name : List ℕ) (i : ℕ) → position (of_clock name) all ≡ Some i →
+    (position_or_len (of_clock name) all < length all) × (position_or_len (of_clock name) all ≡ i)
 position-some all name i e =
     let s = some-case (nat_lt (position_or_len (of_clock name) all) (length all)) (position_or_len (of_clock name) all) i e in
     (grind (arith, s.0), s.1)
@@ -258,19 +275,23 @@ geb : (a b : ℕ) → b < suc a → nat_lt a b ≡ false
 geb a b h = grind arith
 
 -- a later difference of lesser trip takes the place of its clock's
-pub note-replaces : (all : List BestValue) (x y : BestValue) (i : ℕ) → position (of_clock x.name) all ≡ Some i → y ≡ get_or all i y → x.trip < y.trip → note all x ≡ slice_set all i x
+pub note-replaces : (all : List BestValue) (x y : BestValue) (i : ℕ) → position (of_clock x.name) all ≡ Some i → y ≡ get_or all i y → x.trip < y.trip →
+    note all x ≡ slice_set all i x
 note-replaces all x y i e g less =
     let h : x.trip < (get_or all i x).trip = rw (at_place all x y i e g) at less in
     let p = position-some all x.name i e in
     let same : of_clock x.name (get_or all i x) ≡ true = rw p.1 at (passes_at_first (of_clock x.name) all x p.0) in
-    (rw p.1 at (note-at all x p.0)) ∙ ap (slice_set all i) (of_shorter_trip-case (is_same_clock (get_or all i x) x) (nat_lt x.trip (get_or all i x).trip) (get_or all i x) x same (lt-ltb _ _ h))
+    (rw p.1 at (note-at all x p.0)) ∙ ap (slice_set all i) (of_shorter_trip-case (is_same_clock (get_or all i x) x) (nat_lt x.trip (get_or all i x).trip)
+    (get_or all i x) x same (lt-ltb _ _ h))
 
 -- a later difference of no lesser trip changes nothing
-pub note-keeps : (all : List BestValue) (x y : BestValue) (i : ℕ) → position (of_clock x.name) all ≡ Some i → y ≡ get_or all i y → y.trip < suc x.trip → note all x ≡ all
+pub note-keeps : (all : List BestValue) (x y : BestValue) (i : ℕ) → position (of_clock x.name) all ≡ Some i → y ≡ get_or all i y → y.trip < suc x.trip →
+    note all x ≡ all
 note-keeps all x y i e g more =
     let h : (get_or all i x).trip < suc x.trip = rw (at_place all x y i e g) at more in
     let p = position-some all x.name i e in
-    (rw p.1 at (note-at all x p.0)) ∙ ap (slice_set all i) (worse-case (is_same_clock (get_or all i x) x) (nat_lt x.trip (get_or all i x).trip) (get_or all i x) x (geb _ _ h)) ∙ set-get_or all i x
+    (rw p.1 at (note-at all x p.0)) ∙ ap (slice_set all i) (worse-case (is_same_clock (get_or all i x) x) (nat_lt x.trip (get_or all i x).trip) (get_or all i x)
+    x (geb _ _ h)) ∙ set-get_or all i x
 
 -- a clock's first difference stands behind the others'
 pub note-adds : (all : List BestValue) (x : BestValue) → position (of_clock x.name) all ≡ None → note all x ≡ all ++ x ∷ []

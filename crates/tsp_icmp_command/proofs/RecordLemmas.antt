@@ -71,7 +71,8 @@ pub MatchOption-none : {A : Type 0} (r : Option A) (P : Type 0) (Q : A → Type 
 MatchOption-none None P Q e p = p
 MatchOption-none (Some x) P Q e p = cc
 
-joined : (line rest last a b c d e f : List ℕ) → line ≡ a ++ 32 ∷ rest → rest ≡ c ++ 32 ∷ last → last ≡ d ++ 32 ∷ e → a ≡ b → e ≡ f → line ≡ b ++ 32 ∷ (c ++ 32 ∷ (d ++ 32 ∷ f))
+joined : (line rest last a b c d e f : List ℕ) → line ≡ a ++ 32 ∷ rest → rest ≡ c ++ 32 ∷ last → last ≡ d ++ 32 ∷ e → a ≡ b → e ≡ f → line ≡ b ++ 32 ∷
+    (c ++ 32 ∷ (d ++ 32 ∷ f))
 joined line rest last a b c d e f p q r s t = rw (p, q, r, s, t) refl
 
 -- where something stands behind the first space, the line is the first word, the space and this
@@ -81,9 +82,15 @@ cut_back = line_of_marks 32
 -- words that are a name, two messages and a time are a record
 pub IsRecord-words : (line : List ℕ) (r : Record) → length line ≤ 1024 → IsHost r.name → r.arrival < 86400000 → HasWords line r → IsRecord line r
 IsRecord-words line r short host arrival w =
-    let some : 0 < length (after_word (after_word (after_word line))) = omega (arith, ap length w.arrival, decimal_nonempty r.arrival (omega (arith, arrival))) in
+    let some : 0 < length (after_word (after_word (after_word line))) = omega (arith, ap length w.arrival, decimal_nonempty r.arrival (omega (arith, arrival)))
+    in
     let third = cut_back (after_word (after_word line)) some in
-    let second = cut_back (after_word line) (omega (arith, ap length third, length-append (first_word (after_word (after_word line))) (32 ∷ after_word (after_word (after_word line))))) in
+    let second = cut_back (after_word line) (omega (
+      arith,
+      ap length third,
+      length-append (first_word (after_word (after_word line))) (32 ∷
+          after_word (after_word (after_word line))),
+    )) in
     let first = cut_back line (omega (arith, ap length second, length-append (first_word (after_word line)) (32 ∷ after_word (after_word line)))) in
     record {
       short = short;
@@ -94,7 +101,8 @@ IsRecord-words line r short host arrival w =
         first_word (after_word (after_word line)),
         w.request,
         w.reply,
-        joined line (after_word line) (after_word (after_word line)) (first_word line) r.name (first_word (after_word line)) (first_word (after_word (after_word line))) (after_word (after_word (after_word line))) (decimal r.arrival) first second third w.name w.arrival,
+        joined line (after_word line) (after_word (after_word line)) (first_word line) r.name (first_word (after_word line))
+            (first_word (after_word (after_word line))) (after_word (after_word (after_word line))) (decimal r.arrival) first second third w.name w.arrival,
       );
     }
 

@@ -24,12 +24,14 @@ HandsPart-none w n h k all (Ok a) t = tt
 HandsPart-none w n h k all (Err e) t = ([], all, refl, t)
 
 -- octets and then others were handed over
-pub Hands-both : {A B : Type 0} (w n m : Option (List ℕ)) (h k l : List ℕ) (r : Result A B) (text front rest : List ℕ) → text ≡ front → Hands w h n k text → OnOk r (Hands n k m l rest) → OnOk r (Hands w h m l (front ++ rest))
+pub Hands-both : {A B : Type 0} (w n m : Option (List ℕ)) (h k l : List ℕ) (r : Result A B) (text front rest : List ℕ) → text ≡ front → Hands w h n k text →
+    OnOk r (Hands n k m l rest) → OnOk r (Hands w h m l (front ++ rest))
 Hands-both w n m h k l (Ok a) text front rest e t f = subst (λ o. Hands w h m l (o ++ rest)) e (Hands-trans w n m h k l text rest t f)
 Hands-both w n m h k l (Err b) text front rest e t f = tt
 
 -- octets and then a part of others were handed over
-pub HandsPart-behind : {A B : Type 0} (w n m : Option (List ℕ)) (h k l : List ℕ) (r : Result A B) (text front rest : List ℕ) → text ≡ front → Hands w h n k text → OnErr r (HandsPart n k m l rest) → OnErr r (HandsPart w h m l (front ++ rest))
+pub HandsPart-behind : {A B : Type 0} (w n m : Option (List ℕ)) (h k l : List ℕ) (r : Result A B) (text front rest : List ℕ) → text ≡ front →
+    Hands w h n k text → OnErr r (HandsPart n k m l rest) → OnErr r (HandsPart w h m l (front ++ rest))
 HandsPart-behind w n m h k l (Ok a) text front rest e t f = tt
 HandsPart-behind w n m h k l (Err b) text front rest e t f = (
   front ++ f.0,
@@ -38,16 +40,19 @@ HandsPart-behind w n m h k l (Err b) text front rest e t f = (
   subst (λ o. Hands w h m l (o ++ f.0)) e (Hands-trans w n m h k l text f.0 t f.3),
 )
 
-exchanges-more : (lines : List (List ℕ)) (es : List Exchange) (line : List ℕ) (e : Exchange) → AllZip IsExchange lines es → IsExchange line e → AllZip IsExchange (lines ++ line ∷ []) (es ++ e ∷ [])
+exchanges-more : (lines : List (List ℕ)) (es : List Exchange) (line : List ℕ) (e : Exchange) → AllZip IsExchange lines es → IsExchange line e →
+    AllZip IsExchange (lines ++ line ∷ []) (es ++ e ∷ [])
 exchanges-more [] [] line e z h = (h, tt)
 exchanges-more [] (x ∷ es) line e z h = absurd z
 exchanges-more (l ∷ lines) [] line e z h = absurd z
 exchanges-more (l ∷ lines) (x ∷ es) line e z h = (z.0, exchanges-more lines es line e z.1 h)
 
 output-more : (es : List Exchange) (e : Exchange) → closed (map exchange_line es) ++ close (exchange_line e) ≡ closed (map exchange_line (es ++ e ∷ []))
-output-more es e = sym (ap closed (map-append exchange_line es (e ∷ [])) ∙ flat_map-append close (map exchange_line es) (exchange_line e ∷ []) ∙ ap (λ l. closed (map exchange_line es) ++ l) (append-nil (close (exchange_line e))))
+output-more es e = sym (ap closed (map-append exchange_line es (e ∷ [])) ∙ flat_map-append close (map exchange_line es) (exchange_line e ∷ []) ∙
+    ap (λ l. closed (map exchange_line es) ++ l) (append-nil (close (exchange_line e))))
 
-accepts-more : (lines : List (List ℕ)) (text line : List ℕ) (e : Exchange) → averaging.accepts lines text → (averaging.full lines → ⊥) → IsExchange line e → averaging.accepts (lines ++ line ∷ []) (text ++ close (exchange_line e))
+accepts-more : (lines : List (List ℕ)) (text line : List ℕ) (e : Exchange) → averaging.accepts lines text → (averaging.full lines → ⊥) → IsExchange line e →
+    averaging.accepts (lines ++ line ∷ []) (text ++ close (exchange_line e))
 accepts-more lines text line e a n h = (
   a.0 ++ e ∷ [],
   exchanges-more lines a.0 line e a.1 h,
@@ -57,7 +62,8 @@ accepts-more lines text line e a n h = (
   few : length (lines ++ line ∷ []) ≤ 1000
   few = omega (arith, n, length-append lines (line ∷ []))
 
-Stands-more : (t u : TallyValue) (lines : List (List ℕ)) (line : List ℕ) (e : Exchange) → TallyStands t lines → IsExchange line e → u ≡ tally_with t e → TallyStands u (lines ++ line ∷ [])
+Stands-more : (t u : TallyValue) (lines : List (List ℕ)) (line : List ℕ) (e : Exchange) → TallyStands t lines → IsExchange line e → u ≡ tally_with t e →
+    TallyStands u (lines ++ line ∷ [])
 Stands-more t u lines line e s h i = (
   s.0 ++ e ∷ [],
   exchanges-more lines s.0 line e s.1 h,
@@ -66,12 +72,16 @@ Stands-more t u lines line e s h i = (
 )
 
 -- a line that is an exchange
-pub MatchResult-exchange : (r : Result (Unit {0}) Stop) (lines : List (List ℕ)) (text line : List ℕ) (e : Exchange) (t u : TallyValue) (w n : Option (List ℕ)) (h k : List ℕ)
-    → TallyStands t lines → averaging.accepts lines text → (averaging.full lines → ⊥) → IsExchange line e → OnOk r (u ≡ tally_with t e) → OnOk r (Hands w h n k (close (exchange_line e))) → OnErr r (Hands w h n k [])
+pub MatchResult-exchange : (r : Result (Unit {0}) Stop) (lines : List (List ℕ)) (text line : List ℕ) (e : Exchange) (t u : TallyValue) (w n : Option (List ℕ))
+    (h k : List ℕ)
+    → TallyStands t lines → averaging.accepts lines text → (averaging.full lines → ⊥) → IsExchange line e → OnOk r (u ≡ tally_with t e) →
+    OnOk r (Hands w h n k (close (exchange_line e))) → OnErr r (Hands w h n k [])
     → IfErr r (λ stop. (fault : Unwritten) × (stop ≡ stop_of fault))
     → MatchResult r (λ _. Goes averaging (TallyStands u) lines text line w h n k) (λ stop. StopsAt averaging lines text line w h n k stop)
-MatchResult-exchange (Ok x) lines text line e t u w n h k s a few is taken hands err stop = (close (exchange_line e), hands, accepts-more lines text line e a few is, Stands-more t u lines line e s is taken)
-MatchResult-exchange (Err x) lines text line e t u w n h k s a few is taken hands err stop = rw stop.1 (StopsAt-stop_of averaging lines text line w n h k stop.0 ([], err, inl refl))
+MatchResult-exchange (Ok x) lines text line e t u w n h k s a few is taken hands err stop =
+    (close (exchange_line e), hands, accepts-more lines text line e a few is, Stands-more t u lines line e s is taken)
+MatchResult-exchange (Err x) lines text line e t u w n h k s a few is taken hands err stop =
+    rw stop.1 (StopsAt-stop_of averaging lines text line w n h k stop.0 ([], err, inl refl))
 
 room : (lines : List (List ℕ)) (line : List ℕ) → length (lines ++ line ∷ []) ≤ 1000 → 1000 ≤ length lines → ⊥
 room lines line few full = omega (arith, few, full, length-append lines (line ∷ []))
@@ -79,7 +89,8 @@ room lines line few full = omega (arith, few, full, length-append lines (line �
 shorter : (lines : List (List ℕ)) (line : List ℕ) → length (lines ++ line ∷ []) ≤ 1000 → length lines ≤ 1000
 shorter lines line few = omega (arith, few, length-append lines (line ∷ []))
 
-before : (lines : List (List ℕ)) (line text : List ℕ) → averaging.accepts (lines ++ line ∷ []) text → (front : List ℕ) × (more : List ℕ) × averaging.accepts lines front × (text ≡ front ++ more)
+before : (lines : List (List ℕ)) (line text : List ℕ) → averaging.accepts (lines ++ line ∷ []) text → (front : List ℕ) × (more : List ℕ) ×
+    averaging.accepts lines front × (text ≡ front ++ more)
 before lines line text a =
     let b = exchanges-before lines line a.0 a.1 in (
       closed (map exchange_line b.0),
@@ -102,7 +113,8 @@ IsDefinite_averaging = record {
 }
 
 -- the answer to lines of exchanges
-pub answer_exchanges : (limit : ℕ) (octets : List ℕ) → length octets ≤ limit → (a : AreExchangeLines octets) → IsAnswer averaging limit octets Done (closed (map exchange_line a.1) ++ group_lines (bests (differences a.1)))
+pub answer_exchanges : (limit : ℕ) (octets : List ℕ) → length octets ≤ limit → (a : AreExchangeLines octets) →
+    IsAnswer averaging limit octets Done (closed (map exchange_line a.1) ++ group_lines (bests (differences a.1)))
 answer_exchanges limit octets l (lines, exchanges, n, are, z, few) = record {
   lines = lines;
   text = closed (map exchange_line exchanges);

@@ -1,5 +1,6 @@
 -- Each clock's best difference, their group, and the corrections to its mean.
-use Rattle.std.specs.Prelude.{◌≡◌, ◌<◌, ◌≤◌, ℕ, ◌-◌, ℤ, pos, ◌*ℤ◌, ◌-ℤ◌, List, [], ◌∷◌, ◌++◌, Bool, true, not, ◌&&◌, nat_lt, if◌then◌else◌, map, flat_map, decimal, codes, Option, None, Some}
+use Rattle.std.specs.Prelude.{◌≡◌, ◌<◌, ◌≤◌, ℕ, ◌-◌, ℤ, pos, ◌*ℤ◌, ◌-ℤ◌, List, [], ◌∷◌, ◌++◌, Bool, true, not, ◌&&◌, nat_lt, if◌then◌else◌, map, flat_map}
+use Rattle.std.specs.Prelude.{decimal, codes, Option, None, Some}
 use Rattle.std.specs.List.{All, filter, filter_map, fold}
 use Rattle.std.specs.{Fmt.signed_decimal, Str.bytes_eq}
 use Rattle.tsp_group.specs.{Groups.group_of, Groups.mean_of, declared.group.Group.Group}

@@ -22,7 +22,8 @@ pub record IsRecord (line : List ℕ) (r : Record) : Type 0 where
   pub short : length line ≤ 1024
   pub name : IsHost r.name
   pub arrival : r.arrival < 86400000
-  pub words : (request : List ℕ) × (reply : List ℕ) × SaysInHex request r.request × SaysInHex reply r.reply × (line ≡ r.name ++ 32 ∷ (request ++ 32 ∷ (reply ++ 32 ∷ decimal r.arrival)))
+  pub words : (request : List ℕ) × (reply : List ℕ) × SaysInHex request r.request × SaysInHex reply r.reply ×
+      (line ≡ r.name ++ 32 ∷ (request ++ 32 ∷ (reply ++ 32 ∷ decimal r.arrival)))
 
 -- the message, if it is a reply (or, with the flag false, a request); the other one has the fault `Kind`
 abbrev pub expected : Bool → Result Timestamp IcmpFault → Result Timestamp IcmpFault
@@ -32,7 +33,8 @@ expected reply (Err fault) = Err fault
 
 -- the line is this exchange: its request, its reply, and when that came
 pub record IsExchange (line : List ℕ) (e : Exchange) : Type 0 where
-  pub messages : (request : Result Timestamp IcmpFault) × (reply : Result Timestamp IcmpFault) × IsRecord line (record { name = e.name; request = request; reply = reply; arrival = e.arrival })
+  pub messages : (request : Result Timestamp IcmpFault) × (reply : Result Timestamp IcmpFault) ×
+      IsRecord line (record { name = e.name; request = request; reply = reply; arrival = e.arrival })
       × (expected false request ≡ Ok e.request) × (expected true reply ≡ Ok e.reply)
 
 -- the word of a fault
@@ -47,4 +49,5 @@ abbrev pub RefusesRecord : List ℕ → List ℕ → Type 0
 RefusesRecord line cause =
     (((r : Record) → IsRecord line r → ⊥) × (cause ≡ codes "record"))
     ⊎ (((r : Record) × (fault : IcmpFault) × IsRecord line r × (expected false r.request ≡ Err fault) × (cause ≡ codes "request " ++ icmp_fault_word fault))
-    ⊎ ((r : Record) × (t : Timestamp) × (fault : IcmpFault) × IsRecord line r × (expected false r.request ≡ Ok t) × (expected true r.reply ≡ Err fault) × (cause ≡ codes "reply " ++ icmp_fault_word fault)))
+    ⊎ ((r : Record) × (t : Timestamp) × (fault : IcmpFault) × IsRecord line r × (expected false r.request ≡ Ok t) × (expected true r.reply ≡ Err fault) ×
+    (cause ≡ codes "reply " ++ icmp_fault_word fault)))

@@ -1,5 +1,6 @@
 -- Laws of the table of a directory.
-use Rattle.std.proofs.Common.{◌≡◌, ℕ, ◌<◌, ◌⊎◌, List, [], ◌∷◌, ◌++◌, length, refl, sym, ap, ◌∙◌, arith, true, false, zero, suc, slice_index_or, length-append, ⊎_elim, inl, inr, Contains, nat_eq, Option, Some, None, is_some}
+use Rattle.std.proofs.Common.{◌≡◌, ℕ, ◌<◌, ◌⊎◌, List, [], ◌∷◌, ◌++◌, length, refl, sym, ap, ◌∙◌, arith, true, false, zero, suc, slice_index_or, length-append}
+use Rattle.std.proofs.Common.{⊎_elim, inl, inr, Contains, nat_eq, Option, Some, None, is_some}
 use Rattle.std.specs.Int.{w32, to_be_bytes, from_be_bytes}
 use Rattle.std.proofs.{Math.Seq.get_or-append_seam, Math.Seq.take-append_seam, lemmas.Bool.cases_eq, lemmas.Bool.ne_eqb}
 use Rattle.std.proofs.lemmas.List.{take-append-le, get_or_append_left, Elements.Contains-append_cases}
@@ -27,7 +28,8 @@ first_more : (peers : List Addr) (a addr : Addr) (n : ℕ) → IsFirst peers add
 first_more peers a addr n f =
     let inside = slice_get_within peers n addr f.has in
     record {
-      has = slice_get-get_or (peers ++ a ∷ []) n addr (omega (arith, inside, length-append peers (a ∷ []))) ∙ ap Some (get_or_append_left peers (a ∷ []) addr n inside ∙ get_or_from_slice_get peers n addr addr f.has);
+      has = slice_get-get_or (peers ++ a ∷ []) n addr (omega (arith, inside, length-append peers (a ∷ []))) ∙
+          ap Some (get_or_append_left peers (a ∷ []) addr n inside ∙ get_or_from_slice_get peers n addr addr f.has);
       lowest = rw (take-append-le n peers (a ∷ []) (omega (arith, inside))) f.lowest;
     }
 
@@ -55,16 +57,19 @@ false_none None e = refl
 false_none (Some n) e = let bad : ⊥ = cc in absurd bad
 
 -- a table that has a peer's address already holds for it too
-pub numbers_keep : (peers : List Addr) (a : Addr) (t : ℕ → Option ℕ) → FitsKey a → is_some (t (key_of a)) ≡ true → AreNumbers peers t → AreNumbers (peers ++ a ∷ []) t
+pub numbers_keep : (peers : List Addr) (a : Addr) (t : ℕ → Option ℕ) → FitsKey a → is_some (t (key_of a)) ≡ true → AreNumbers peers t →
+    AreNumbers (peers ++ a ∷ []) t
 numbers_keep peers a t fa e h = record {
   some = λ addr m f g. first_more peers a addr m (h.some addr m f g);
   none = λ addr f g k. ⊎_elim (h.none addr f g) (λ same. true_apart (t (key_of a)) e (ap (λ x. t (key_of x)) same ∙ g)) (among_more peers a addr k);
 }
 
 -- a table to which a peer's address was added holds for it too
-pub numbers_add : (peers : List Addr) (a : Addr) (t u : ℕ → Option ℕ) (n : ℕ) → n ≡ length peers → FitsKey a → is_some (t (key_of a)) ≡ false → AreNumbers peers t → u (key_of a) ≡ Some n → ((q : ℕ) → nat_eq (key_of a) q ≡ false → u q ≡ t q) → AreNumbers (peers ++ a ∷ []) u
+pub numbers_add : (peers : List Addr) (a : Addr) (t u : ℕ → Option ℕ) (n : ℕ) → n ≡ length peers → FitsKey a → is_some (t (key_of a)) ≡ false →
+    AreNumbers peers t → u (key_of a) ≡ Some n → ((q : ℕ) → nat_eq (key_of a) q ≡ false → u q ≡ t q) → AreNumbers (peers ++ a ∷ []) u
 numbers_add peers a t u n len fa e h put others = record {
-  some = λ addr m f g. ⊎_elim (λ same. found addr m f g same) (λ apart. first_more peers a addr m (h.some addr m f (sym (others (key_of addr) (ne_eqb (key_of a) (key_of addr) apart)) ∙ g))) (cases_eq (key_of a) (key_of addr));
+  some = λ addr m f g. ⊎_elim (λ same. found addr m f g same) (λ apart. first_more peers a addr m
+      (h.some addr m f (sym (others (key_of addr) (ne_eqb (key_of a) (key_of addr) apart)) ∙ g))) (cases_eq (key_of a) (key_of addr));
   none = λ addr f g k. ⊎_elim (λ same. none-some n (sym g ∙ ap u (sym same) ∙ put)) (λ apart. missed addr f g k apart) (cases_eq (key_of a) (key_of addr));
 } where
   found : (addr : Addr) (m : ℕ) → FitsKey addr → u (key_of addr) ≡ Some m → key_of a ≡ key_of addr → IsFirst (peers ++ a ∷ []) addr m
@@ -74,4 +79,5 @@ numbers_add peers a t u n len fa e h put others = record {
       first_last peers a addr m (one_key a addr fa f same) (number ∙ len) (h.none a fa (false_none (t (key_of a)) e))
 
   missed : (addr : Addr) → FitsKey addr → u (key_of addr) ≡ None → Contains (peers ++ a ∷ []) addr → (key_of a ≡ key_of addr → ⊥) → ⊥
-  missed addr f g k apart = ⊎_elim (h.none addr f (sym (others (key_of addr) (ne_eqb (key_of a) (key_of addr) apart)) ∙ g)) (λ same. apart (ap key_of same)) (among_more peers a addr k)
+  missed addr f g k apart = ⊎_elim (h.none addr f (sym (others (key_of addr) (ne_eqb (key_of a) (key_of addr) apart)) ∙ g)) (λ same. apart (ap key_of same))
+      (among_more peers a addr k)

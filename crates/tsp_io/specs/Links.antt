@@ -28,7 +28,8 @@ is_from_stranger (Peer p) = false
 -- told, they aren't told afterwards either
 abbrev pub TakesDatagram : Option (List Arrival) → Option (List Arrival) → Place → List ℕ → Type 0
 TakesDatagram None rest from octets = rest ≡ None
-TakesDatagram (Some left) rest from octets = (whole : List ℕ) × (after : List Arrival) × (left ≡ Some (from, whole) ∷ after) × (rest ≡ Some after) × (octets ≡ take 512 whole)
+TakesDatagram (Some left) rest from octets = (whole : List ℕ) × (after : List Arrival) × (left ≡ Some (from, whole) ∷ after) × (rest ≡ Some after) ×
+    (octets ≡ take 512 whole)
 
 -- the next arrival is nothing, or no arrival is left. If the arrivals weren't told, they aren't told afterwards either
 abbrev pub TakesNothing : Option (List Arrival) → Option (List Arrival) → Type 0
@@ -39,7 +40,8 @@ TakesNothing (Some (a ∷ after)) rest = (a ≡ None) × (rest ≡ Some after)
 -- what a receive answers, and what it makes of the arrivals and of whether the last datagram was a stranger's. A
 -- receive that fails takes nothing
 abbrev pub ReceivesOne : Option (List Arrival) → Option (List Arrival) → Bool → Bool → Recv → List ℕ → Type 0
-ReceivesOne left rest stranger now_stranger (Datagram from count) buf = (count ≤ 512) × TakesDatagram left rest from (take count buf) × (now_stranger ≡ is_from_stranger from)
+ReceivesOne left rest stranger now_stranger (Datagram from count) buf = (count ≤ 512) × TakesDatagram left rest from (take count buf) ×
+    (now_stranger ≡ is_from_stranger from)
 ReceivesOne left rest stranger now_stranger Nothing buf = TakesNothing left rest × (now_stranger ≡ stranger)
 ReceivesOne left rest stranger now_stranger Failed buf = (rest ≡ left) × (now_stranger ≡ stranger)
 

@@ -1,5 +1,6 @@
 -- Laws of what the treatment of an input comes to.
-use Rattle.std.proofs.Common.{◌≡◌, ℕ, ◌<◌, ◌+◌, inl, inr, List, [], ◌∷◌, ◌++◌, refl, sym, ap, ◌∙◌, append-nil, append_assoc, subst, length, length-append, arith, All, ◌⊎◌}
+use Rattle.std.proofs.Common.{◌≡◌, ℕ, ◌<◌, ◌+◌, inl, inr, List, [], ◌∷◌, ◌++◌, refl, sym, ap, ◌∙◌, append-nil, append_assoc, subst, length, length-append}
+use Rattle.std.proofs.Common.{arith, All, ◌⊎◌}
 use Rattle.std.{proofs.lemmas.List.Elements.All-push, specs.declared.option.Option.Option}
 use Rattle.tsp_io.specs.Streams.{Grows}
 use Rattle.tsp_lines.specs.Lines.{NoFeed, close, closed, Begins, IsOver, IsWhole, HasLines, HasNext, HasMore, IsPast}
@@ -23,7 +24,8 @@ pub record Place (m : Meaning) (limit : ℕ) (input : Option (List ℕ)) (lines 
   pub limited : (w : List ℕ) → s.limited w → IsLimited m limit input lines w
   pub more : (w : List ℕ) → s.more w → (longer : List (List ℕ)) × All NoFeed longer × m.accepts longer (text ++ w) × HasLines limit input longer
 
-whole : (m : Meaning) (limit : ℕ) (input : Option (List ℕ)) (lines : List (List ℕ)) (text : List ℕ) (s : Sayings) → Place m limit input lines text s → (w : List ℕ) → IsSaying s w
+whole : (m : Meaning) (limit : ℕ) (input : Option (List ℕ)) (lines : List (List ℕ)) (text : List ℕ) (s : Sayings) → Place m limit input lines text s →
+    (w : List ℕ) → IsSaying s w
     → (ls : List (List ℕ)) × (t : List ℕ) × (said : List ℕ) × All NoFeed ls × m.accepts ls t × Follows m limit input ls said × (text ++ w ≡ t ++ said)
 whole m limit input lines text s p w q = elim q [
   | inl d ↦ (lines, text, w, p.feedless, p.accepted, inr (inr (inr (p.done w d))), refl)
@@ -37,7 +39,8 @@ whole m limit input lines text s p w q = elim q [
 ]
 
 -- a part of a saying was written
-pub WritesPart-Breaks : (m : Meaning) (limit : ℕ) (input : Option (List ℕ)) (lines : List (List ℕ)) (text : List ℕ) (s : Sayings) (a b c : Option (List ℕ)) (held keeps : List ℕ)
+pub WritesPart-Breaks : (m : Meaning) (limit : ℕ) (input : Option (List ℕ)) (lines : List (List ℕ)) (text : List ℕ) (s : Sayings) (a b c : Option (List ℕ))
+    (held keeps : List ℕ)
     → Place m limit input lines text s → Hands a [] b held text → Breaks (IsSaying s) b held c keeps
     → (rest : List ℕ) × (length keeps < length rest + 1) × WritesPart m limit input a c rest
 WritesPart-Breaks m limit input lines text s a b c held keeps p h k =
@@ -51,21 +54,52 @@ WritesPart-Breaks m limit input lines text s a b c held keeps p h k =
     ]
 
 -- what it comes to where it ends so
-pub Comes-Ends : (m : Meaning) (limit : ℕ) (input left : Option (List ℕ)) (lines : List (List ℕ)) (text : List ℕ) (s : Sayings) (a b c : Option (List ℕ)) (held : List ℕ) (o : Outcome)
+pub Comes-Ends : (m : Meaning) (limit : ℕ) (input left : Option (List ℕ)) (lines : List (List ℕ)) (text : List ℕ) (s : Sayings) (a b c : Option (List ℕ))
+    (held : List ℕ) (o : Outcome)
     → Place m limit input lines text s → Hands a [] b held text → ((w : List ℕ) → s.done w → IsOver left) → Ends s b held c o → Comes m limit input left a c o
-Comes-Ends m limit input left lines text s a b c held Done p h over e = ((lines, text, e.0, p.feedless, p.accepted, p.done e.0 e.1, Grows-handed a c (text ++ e.0) (Hands-trans a b c [] held [] text e.0 h e.2)), over e.0 e.1)
-Comes-Ends m limit input left lines text s a b c held Bad p h over e = (lines, text, e.0, p.feedless, p.accepted, p.bad e.0 e.1, Grows-handed a c (text ++ e.0) (Hands-trans a b c [] held [] text e.0 h e.2))
+Comes-Ends m limit input left lines text s a b c held Done p h over e = (
+  (
+    lines,
+    text,
+    e.0,
+    p.feedless,
+    p.accepted,
+    p.done e.0 e.1,
+    Grows-handed a c (text ++ e.0) (Hands-trans a b c [] held [] text e.0 h e.2),
+  ),
+  over e.0 e.1,
+)
+Comes-Ends m limit input left lines text s a b c held Bad p h over e = (
+  lines,
+  text,
+  e.0,
+  p.feedless,
+  p.accepted,
+  p.bad e.0 e.1,
+  Grows-handed a c (text ++ e.0) (Hands-trans a b c [] held [] text e.0 h e.2),
+)
 Comes-Ends m limit input left lines text s a b c held ReadFault p h over e = absurd e
-Comes-Ends m limit input left lines text s a b c held WriteFault p h over e = let r = WritesPart-Breaks m limit input lines text s a b c held e.0 p h e.2 in (r.0, omega (arith, e.1, r.1), r.2)
-Comes-Ends m limit input left lines text s a b c held Limit p h over e = (lines, text, e.0, p.feedless, p.accepted, p.limited e.0 e.1, Grows-handed a c (text ++ e.0) (Hands-trans a b c [] held [] text e.0 h e.2))
-Comes-Ends m limit input left lines text s a b c held OutOfMemory p h over e = let r = WritesPart-Breaks m limit input lines text s a b c held e.0 p h e.1 in (r.0, r.2)
+Comes-Ends m limit input left lines text s a b c held WriteFault p h over e = let r = WritesPart-Breaks m limit input lines text s a b c held e.0 p h e.2 in
+    (r.0, omega (arith, e.1, r.1), r.2)
+Comes-Ends m limit input left lines text s a b c held Limit p h over e = (
+  lines,
+  text,
+  e.0,
+  p.feedless,
+  p.accepted,
+  p.limited e.0 e.1,
+  Grows-handed a c (text ++ e.0) (Hands-trans a b c [] held [] text e.0 h e.2),
+)
+Comes-Ends m limit input left lines text s a b c held OutOfMemory p h over e = let r = WritesPart-Breaks m limit input lines text s a b c held e.0 p h e.1 in
+    (r.0, r.2)
 
 pub closed-push : (lines : List (List ℕ)) (line : List ℕ) → closed (lines ++ line ∷ []) ≡ closed lines ++ close line
 closed-push [] line = append-nil (close line)
 closed-push (x ∷ xs) line = ap (λ l. close x ++ l) (closed-push xs line) ∙ sym (append_assoc (close x) (closed xs) (close line))
 
 -- the input has a line more where that line is next
-pub HasLines-next : (limit : ℕ) (input : Option (List ℕ)) (lines : List (List ℕ)) (line : List ℕ) → HasNext limit input lines line → HasLines limit input (lines ++ line ∷ [])
+pub HasLines-next : (limit : ℕ) (input : Option (List ℕ)) (lines : List (List ℕ)) (line : List ℕ) → HasNext limit input lines line →
+    HasLines limit input (lines ++ line ∷ [])
 HasLines-next limit input lines line h = elim h.1 [
   | inl b ↦ inl (subst (Begins limit input) (sym (closed-push lines line)) b)
   | inr l ↦ inr (closed lines ++ line, inr (lines, line, refl, l.0, refl), l.1)
@@ -73,7 +107,8 @@ HasLines-next limit input lines line h = elim h.1 [
 
 -- the place of a line
 pub Place-line : (m : Meaning) (limit : ℕ) (input : Option (List ℕ)) (lines : List (List ℕ)) (text line : List ℕ) (number : ℕ)
-    → All NoFeed lines → m.accepts lines text → ¬ m.full lines → HasLines limit input lines → HasNext limit input lines line → number ≡ length lines + 1 → Place m limit input lines text (line_sayings m lines text number line)
+    → All NoFeed lines → m.accepts lines text → ¬ m.full lines → HasLines limit input lines → HasNext limit input lines line → number ≡ length lines + 1 →
+    Place m limit input lines text (line_sayings m lines text number line)
 Place-line m limit input lines text line number f a room on h e = record {
   feedless = f;
   accepted = a;
@@ -86,7 +121,8 @@ Place-line m limit input lines text line number f a room on h e = record {
 
 -- the place of the input's end
 pub Place-end : (m : Meaning) (limit : ℕ) (input : Option (List ℕ)) (lines : List (List ℕ)) (text : List ℕ) (number : ℕ)
-    → All NoFeed lines → m.accepts lines text → IsWhole limit input lines → number ≡ length lines + 1 → Place m limit input lines text (end_sayings m lines number)
+    → All NoFeed lines → m.accepts lines text → IsWhole limit input lines → number ≡ length lines + 1 →
+    Place m limit input lines text (end_sayings m lines number)
 Place-end m limit input lines text number f a whole e = record {
   feedless = f;
   accepted = a;
@@ -99,7 +135,8 @@ Place-end m limit input lines text number f a whole e = record {
 
 -- the place of a limit
 pub Place-limit : (m : Meaning) (limit : ℕ) (input : Option (List ℕ)) (lines : List (List ℕ)) (text : List ℕ) (number : ℕ)
-    → All NoFeed lines → m.accepts lines text → HasLines limit input lines → IsPast limit input lines ⊎ (m.full lines × HasMore limit input lines) → number ≡ length lines + 1 → Place m limit input lines text (only_limited (limit_line number))
+    → All NoFeed lines → m.accepts lines text → HasLines limit input lines → IsPast limit input lines ⊎ (m.full lines × HasMore limit input lines) → number ≡
+    length lines + 1 → Place m limit input lines text (only_limited (limit_line number))
 Place-limit m limit input lines text number f a on p e = record {
   feedless = f;
   accepted = a;
@@ -115,7 +152,8 @@ abbrev pub no_sayings : Sayings
 no_sayings = record { done = λ w. ⊥; bad = λ w. ⊥; limited = λ w. ⊥; more = λ w. ⊥ }
 
 -- any place of the input
-pub Place-any : (m : Meaning) (limit : ℕ) (input : Option (List ℕ)) (lines : List (List ℕ)) (text : List ℕ) → All NoFeed lines → m.accepts lines text → HasLines limit input lines → Place m limit input lines text no_sayings
+pub Place-any : (m : Meaning) (limit : ℕ) (input : Option (List ℕ)) (lines : List (List ℕ)) (text : List ℕ) → All NoFeed lines → m.accepts lines text →
+    HasLines limit input lines → Place m limit input lines text no_sayings
 Place-any m limit input lines text f a on = record {
   feedless = f;
   accepted = a;

@@ -26,12 +26,14 @@ split_feed hay k h e =
     ∙ sym (append_assoc (take k hay) (10 ∷ []) (drop (k + 1) hay))
 
 -- the first line feed ends a line
-pub first_feed : (hay : List ℕ) (r : Option ℕ) → IsFirstByte (is_byte 10) hay r → MatchOption r (NoFeed hay) (λ k. NoFeed (take k hay) × (hay ≡ close (take k hay) ++ drop (k + 1) hay))
+pub first_feed : (hay : List ℕ) (r : Option ℕ) → IsFirstByte (is_byte 10) hay r → MatchOption r (NoFeed hay) (λ k. NoFeed (take k hay) ×
+    (hay ≡ close (take k hay) ++ drop (k + 1) hay))
 first_feed hay None p = rw (take-length hay) at (NoFeed-take hay (length hay) (omega arith) p)
 first_feed hay (Some k) p = (NoFeed-take hay k (omega (arith, p.0.high)) p.0.before, split_feed hay k p.0.high (eqb-true _ _ p.1))
 
 -- the first line feed is all that is left
-pub last_feed : (held : List ℕ) (place : ℕ) → length held ≤ place + 1 → held ≡ close (take place held) ++ drop (place + 1) held → held ≡ take place held ++ 10 ∷ []
+pub last_feed : (held : List ℕ) (place : ℕ) → length held ≤ place + 1 → held ≡ close (take place held) ++ drop (place + 1) held → held ≡ take place held ++ 10 ∷
+    []
 last_feed held place h e = e ∙ (ap (λ xs. close (take place held) ++ xs) (drop_all (place + 1) held h) ∙ append-nil (close (take place held)))
 
 -- how much is held at most
@@ -39,10 +41,12 @@ pub held_length : (buf : List ℕ) (at end : ℕ) → length (slice_range buf at
 held_length buf at end = grind (arith, common_steps)
 
 -- the part of a buffer up to a place of what is held, and the part behind that place
-pub held_line : (buf : List ℕ) (at end place : ℕ) → place < length (slice_range buf at end) → slice_range buf at (at + place) ≡ take place (slice_range buf at end)
+pub held_line : (buf : List ℕ) (at end place : ℕ) → place < length (slice_range buf at end) → slice_range buf at (at + place) ≡
+    take place (slice_range buf at end)
 held_line buf at end place h = grind (arith, common_steps)
 
-pub held_rest : (buf : List ℕ) (at end place : ℕ) → place < length (slice_range buf at end) → slice_range buf (at + place + 1) end ≡ drop (place + 1) (slice_range buf at end)
+pub held_rest : (buf : List ℕ) (at end place : ℕ) → place < length (slice_range buf at end) → slice_range buf (at + place + 1) end ≡
+    drop (place + 1) (slice_range buf at end)
 held_rest buf at end place h =
     let m = end - at - (place + 1) in
     let below : place < end - at = grind (arith, common_steps, h) in
@@ -54,10 +58,17 @@ held_rest buf at end place h =
 -- a reader whose line is the part up to a place of what is held
 pub taken_line : (v : ReaderValue) (buf line start : List ℕ) (at end place got limit : ℕ)
     → record { line = line; start = start; held = slice_range buf at end; got = got; limit = limit } ≡ v → place < length v.held
-    → record { line = slice_range buf at (at + place); start = start; held = slice_range buf (at + place + 1) end; got = got; limit = limit } ≡ record v { line = take place v.held; held = drop (place + 1) v.held }
+    → record { line = slice_range buf at (at + place); start = start; held = slice_range buf (at + place + 1) end; got = got; limit = limit } ≡
+    record v { line = take place v.held; held = drop (place + 1) v.held }
 taken_line v buf line start at end place got limit e w =
     let within : place < length (slice_range buf at end) = subst {A = ReaderValue} (λ u. place < length u.held) (sym e) w in
-    subst {A = ReaderValue} (λ u. record { line = slice_range buf at (at + place); start = start; held = slice_range buf (at + place + 1) end; got = got; limit = limit } ≡ record u { line = take place u.held; held = drop (place + 1) u.held }) e
+    subst {A = ReaderValue} (λ u. record {
+      line = slice_range buf at (at + place);
+      start = start;
+      held = slice_range buf (at + place + 1) end;
+      got = got;
+      limit = limit;
+    } ≡ record u { line = take place u.held; held = drop (place + 1) u.held }) e
     (rw (held_line buf at end place within, held_rest buf at end place within) refl)
 
 -- a reader that uses some of what is held
@@ -75,7 +86,8 @@ pub skipped_octets : (v : ReaderValue) (buf line start : List ℕ) (at end count
     → record { line = line; start = start; held = slice_range buf (at + count) end; got = got; limit = limit } ≡ record v { held = drop count v.held }
 skipped_octets v buf line start at end count got limit e w =
     let within : count ≤ length (slice_range buf at end) = subst {A = ReaderValue} (λ u. count ≤ length u.held) (sym e) w in
-    subst {A = ReaderValue} (λ u. record { line = line; start = start; held = slice_range buf (at + count) end; got = got; limit = limit } ≡ record u { held = drop count u.held }) e
+    subst {A = ReaderValue} (λ u. record { line = line; start = start; held = slice_range buf (at + count) end; got = got; limit = limit } ≡
+    record u { held = drop count u.held }) e
     (rw (skipped buf at end count within) refl)
 
 -- the first octets of the first octets
@@ -86,19 +98,36 @@ take-take [] (suc n) (suc m) h = refl
 take-take (x ∷ xs) (suc n) (suc m) h = ap (λ l. x ∷ l) (take-take xs n m (omega (arith, h)))
 
 -- what is used where a line ends at a place of what is held
-used : (held : List ℕ) (place got limit : ℕ) → place < length held → (limit < got → place + 1 < length held) → got ≤ limit + 1 → length held ≤ 65536 → (got ≤ limit + length (drop (place + 1) held)) × (length (drop (place + 1) held) < 65536)
+used : (held : List ℕ) (place got limit : ℕ) → place < length held → (limit < got → place + 1 < length held) → got ≤ limit + 1 → length held ≤ 65536 →
+    (got ≤ limit + length (drop (place + 1) held)) × (length (drop (place + 1) held) < 65536)
 used held place got limit h before most room =
     let l : length (drop (place + 1) held) ≡ length held - (place + 1) = length-drop (place + 1) held in
     (grind (arith, l, h, before, most), omega (arith, l, h, room))
 
 -- a line that is given, and one that is too long
-pub given_line : (held : List ℕ) (place got limit : ℕ) → place < length held → NoFeed (take place held) → held ≡ close (take place held) ++ drop (place + 1) held → (limit < got → place + 1 < length held) → (got ≤ limit + 1) × (length held ≤ 65536) → place ≤ 1024
-    → NoFeed (take place held) × (length (take place held) ≤ 1024) × (held ≡ close (take place held) ++ drop (place + 1) held) × ((got ≤ limit + length (drop (place + 1) held)) × (length (drop (place + 1) held) < 65536))
-given_line held place got limit h n s before most short = (n, omega (arith, length-take-le place held (omega (arith, h)), short), s, used held place got limit h before most.0 most.1)
+pub given_line : (held : List ℕ) (place got limit : ℕ) → place < length held → NoFeed (take place held) → held ≡ close (take place held) ++
+    drop (place + 1) held → (limit < got → place + 1 < length held) → (got ≤ limit + 1) × (length held ≤ 65536) → place ≤ 1024
+    → NoFeed (take place held) × (length (take place held) ≤ 1024) × (held ≡ close (take place held) ++ drop (place + 1) held) ×
+    ((got ≤ limit + length (drop (place + 1) held)) × (length (drop (place + 1) held) < 65536))
+given_line held place got limit h n s before most short = (
+  n,
+  omega (arith, length-take-le place held (omega (arith, h)), short),
+  s,
+  used held place got limit h before most.0 most.1,
+)
 
-pub given_long : (held : List ℕ) (place got limit : ℕ) → place < length held → NoFeed (take place held) → held ≡ close (take place held) ++ drop (place + 1) held → (limit < got → place + 1 < length held) → (got ≤ limit + 1) × (length held ≤ 65536) → 1024 < place
-    → (line : List ℕ) × NoFeed line × (1024 < length line) × (held ≡ close line ++ drop (place + 1) held) × (take 8 held ≡ take 8 line) × ((got ≤ limit + length (drop (place + 1) held)) × (length (drop (place + 1) held) < 65536))
-given_long held place got limit h n s before most long = (take place held, n, omega (arith, length-take-le place held (omega (arith, h)), long), s, sym (take-take held 8 place (omega (arith, long))), used held place got limit h before most.0 most.1)
+pub given_long : (held : List ℕ) (place got limit : ℕ) → place < length held → NoFeed (take place held) → held ≡ close (take place held) ++
+    drop (place + 1) held → (limit < got → place + 1 < length held) → (got ≤ limit + 1) × (length held ≤ 65536) → 1024 < place
+    → (line : List ℕ) × NoFeed line × (1024 < length line) × (held ≡ close line ++ drop (place + 1) held) × (take 8 held ≡ take 8 line) ×
+    ((got ≤ limit + length (drop (place + 1) held)) × (length (drop (place + 1) held) < 65536))
+given_long held place got limit h n s before most long = (
+  take place held,
+  n,
+  omega (arith, length-take-le place held (omega (arith, h)), long),
+  s,
+  sym (take-take held 8 place (omega (arith, long))),
+  used held place got limit h before most.0 most.1,
+)
 
 split_end : (xs : List ℕ) → 0 < length xs → (part : List ℕ) × (x : ℕ) × (xs ≡ part ++ x ∷ [])
 split_end [] h = absurd (omega arith)
@@ -113,27 +142,38 @@ pub some_held : (buf : List ℕ) (at end : ℕ) → at < end → end ≤ length 
 some_held buf at end h k = grind (arith, common_steps)
 
 -- the first line of octets, of which this is the place of the line feed
-pub front_line : (octets line : List ℕ) (place : ℕ) → place < length octets → NoFeed (take place octets) → octets ≡ close (take place octets) ++ drop (place + 1) octets → line ≡ take place octets → IsFront octets (length line + 1) line
+pub front_line : (octets line : List ℕ) (place : ℕ) → place < length octets → NoFeed (take place octets) → octets ≡ close (take place octets) ++
+    drop (place + 1) octets → line ≡ take place octets → IsFront octets (length line + 1) line
 front_line octets line place h n s e =
     let l : length line ≡ place = ap length e ∙ length-take-le place octets (omega (arith, h)) in
     (subst NoFeed (sym e) n, refl, s ∙ ap (λ x. close x ++ drop (place + 1) octets) (sym e) ∙ ap (λ k. close line ++ drop (k + 1) octets) (sym l))
 
 -- the place of the lowest bit is that of the first line feed
-pub near_feed : (hay : List ℕ) (mask : ℕ) → 32 ≤ length hay → mask ≡ mask_l (map (is_byte 10) (chunk 0 32 hay)) → 0 < mask → IsFirstByte (is_byte 10) hay (Some (count_trailing_zeros 64 mask))
+pub near_feed : (hay : List ℕ) (mask : ℕ) → 32 ≤ length hay → mask ≡ mask_l (map (is_byte 10) (chunk 0 32 hay)) → 0 < mask →
+    IsFirstByte (is_byte 10) hay (Some (count_trailing_zeros 64 mask))
 near_feed hay mask room is some =
     let lanes : List ℕ = chunk 0 32 hay in
     let zeros : ℕ = count_trailing_zeros 64 mask in
     let long : length (map (is_byte 10) lanes) ≡ 32 = length-map lanes (is_byte 10) ∙ length-chunk 0 32 hay (omega arith) in
-    let bound : mask_l (map (is_byte 10) lanes) < 2 ^ 32 = subst (λ (n : ℕ). mask_l (map (is_byte 10) lanes) < 2 ^ n) long (mask_l-lt (map (is_byte 10) lanes)) in
+    let bound : mask_l (map (is_byte 10) lanes) < 2 ^ 32 = subst (λ (n : ℕ). mask_l (map (is_byte 10) lanes) < 2 ^ n) long (mask_l-lt (map (is_byte 10) lanes))
+    in
     let few : mask < 2 ^ 32 = omega (arith, is, bound) in
     let bits = bit_at-trailing_zeros w64 mask some (omega (arith, few)) in
     let below : zeros < 32 = elim (cases_lt zeros 32) [
       | inl b ↦ b
       | inr t ↦ let z = bit_at_above mask 32 zeros few t in absurd (omega (arith, z, bits.1))
     ] in
-    let counted : zeros ≡ prefix_len (λ x. not (is_byte 10 x)) lanes = ap (count_trailing_zeros 64) is ∙ trailing_mask_l (is_byte 10) 64 lanes (omega (arith, length-chunk 0 32 hay (omega arith))) (omega (arith, is, some)) in
-    let first : 0 + zeros ≡ zeros = omega arith in
-    (record { low = omega arith; high = omega arith; before = λ k l h. λ t. let f = run_in_chunk_fails (is_byte 10) hay 0 32 zeros 0 (omega arith) counted k l (omega arith) in cc }, subst (Passes (is_byte 10) hay) first (run_in_chunk_stops (is_byte 10) hay 0 32 zeros 0 (omega arith) counted below))
+    let counted : zeros ≡ prefix_len (λ x. not (is_byte 10 x)) lanes = ap (count_trailing_zeros 64) is ∙
+    trailing_mask_l (is_byte 10) 64 lanes (omega (arith, length-chunk 0 32 hay (omega arith))) (omega (arith, is, some)) in
+    let first : 0 + zeros ≡ zeros = omega arith in (
+      record {
+        low = omega arith;
+        high = omega arith;
+        before = λ k l h. λ t. let f = run_in_chunk_fails (is_byte 10) hay 0 32 zeros 0 (omega arith) counted k l
+            (omega arith) in cc;
+      },
+      subst (Passes (is_byte 10) hay) first (run_in_chunk_stops (is_byte 10) hay 0 32 zeros 0 (omega arith) counted below),
+    )
 
 -- octets behind those that are held
 pub take-held : (buf : List ℕ) (held n : ℕ) → take (held + n) buf ≡ take held buf ++ slice_range buf held (held + n)
@@ -158,7 +198,8 @@ pub written_back : (len n : ℕ) (new old : List ℕ) → length new ≡ len →
 written_back len n new old h = let e : n - 0 ≡ n = omega arith in rw (take_at new (drop (length new) old) len h, e) refl
 
 -- what is held after a read of so many octets
-pub filled : (n m count at end : ℕ) (new items before held octets : List ℕ) → length new ≡ n → before ≡ items → slice_range items at end ≡ held → m ≡ end - at + count
+pub filled : (n m count at end : ℕ) (new items before held octets : List ℕ) → length new ≡ n → before ≡ items → slice_range items at end ≡ held → m ≡
+    end - at + count
     → take (end - at + count) new ≡ slice_range before at end ++ octets → slice_range (take n (new ++ drop (length new) items)) 0 m ≡ held ++ octets
 filled n m count at end new items before held octets l b h e t =
     let whole : slice_range before at end ≡ held = ap (λ xs. slice_range xs at end) b ∙ h in

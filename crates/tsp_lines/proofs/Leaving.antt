@@ -10,7 +10,8 @@ use Rattle.tsp_lines.specs.declared.treatment.Stop.TheVariants.{Bad as Refused, 
 use Rattle.tsp_lines.specs.declared.treat.Outcome.{Outcome, TheVariants.Ok as Done, TheVariants.OutOfMemory, TheVariants.ReadFault, TheVariants.WriteFault}
 
 -- a count from an earlier moment, at which it was the same, and by another word for the fault
-pub Counts-from : (old before now : ℕ) (fault failed : Type 0) → before ≡ old → (fault → failed) → (failed → fault) → Counts before now failed → Counts old now fault
+pub Counts-from : (old before now : ℕ) (fault failed : Type 0) → before ≡ old → (fault → failed) → (failed → fault) → Counts before now failed →
+    Counts old now fault
 Counts-from old before now fault failed same to from c = record {
   later = omega (arith, same, c.later);
   cause = λ e. rw (← same) (c.cause (to e));
@@ -37,7 +38,8 @@ Leaves-nothing sources sinks source sink = record {
 
 -- no count rose before
 pub Leaves-since : {S K : Type 0} (sources : SourceOf S) (sinks : SinkOf K) (source at now : S) (sink kept last : K) (outcome : Outcome)
-    → sources.faults at ≡ sources.faults source → sinks.faults kept ≡ sinks.faults sink → Leaves sources sinks at now kept last outcome → Leaves sources sinks source now sink last outcome
+    → sources.faults at ≡ sources.faults source → sinks.faults kept ≡ sinks.faults sink → Leaves sources sinks at now kept last outcome →
+    Leaves sources sinks source now sink last outcome
 Leaves-since sources sinks source at now sink kept last outcome p q l = record {
   later = (omega (arith, l.later.0, p), omega (arith, l.later.1, q));
   read = λ e. (subst (λ (n : ℕ). Rose n (sources.faults now)) p (l.read e).0, (l.read e).1);
@@ -47,8 +49,10 @@ Leaves-since sources sinks source at now sink kept last outcome p q l = record {
 }
 
 -- a command of definite meaning
-pub Accepts-treated : {S K : Type 0} (sources : SourceOf S) (sinks : SinkOf K) (m : Meaning) (IsText : List ℕ → Type 0) (limit : ℕ) (source now : S) (sink last : K) (outcome : Outcome)
-    → IsDefinite m → Completes sources sinks IsText limit source now sink last outcome → Treats sources sinks m limit source now sink last outcome → Accepts sources sinks m IsText limit source now sink last outcome
+pub Accepts-treated : {S K : Type 0} (sources : SourceOf S) (sinks : SinkOf K) (m : Meaning) (IsText : List ℕ → Type 0) (limit : ℕ) (source now : S)
+    (sink last : K) (outcome : Outcome)
+    → IsDefinite m → Completes sources sinks IsText limit source now sink last outcome → Treats sources sinks m limit source now sink last outcome →
+    Accepts sources sinks m IsText limit source now sink last outcome
 Accepts-treated sources sinks m IsText limit source now sink last outcome definite complete t = record {
   comes = t.comes;
   answers = t.answers definite;
@@ -79,7 +83,8 @@ pub unfailed : {A : Type 0} (before now : ℕ) (r : Result A Unwritten) (a : A) 
 unfailed before now r a p c = c.still (λ e. Ok-no_error a NotWritten (sym p ∙ e))
 
 -- the outcome where output isn't written
-pub Counts-fault : {A : Type 0} (before now : ℕ) (r : Result A Unwritten) (fault : Unwritten) (o : Outcome) → o ≡ outcome_of fault → r ≡ Err fault → Counts before now (r ≡ Err NotWritten) → Counts before now (o ≡ WriteFault)
+pub Counts-fault : {A : Type 0} (before now : ℕ) (r : Result A Unwritten) (fault : Unwritten) (o : Outcome) → o ≡ outcome_of fault → r ≡ Err fault →
+    Counts before now (r ≡ Err NotWritten) → Counts before now (o ≡ WriteFault)
 Counts-fault before now r fault o is p c = record {
   later = c.later;
   cause = λ e. c.cause (p ∙ ap Err (fault_of fault (sym is ∙ e)));
@@ -90,36 +95,46 @@ pub not_others : (fault : Unwritten) (o : Outcome) → o ≡ outcome_of fault �
 not_others fault o is = (λ e. (neither fault).0 (sym is ∙ e), λ e. (neither fault).1 (sym is ∙ e))
 
 -- a treatment stopped, but not since output wasn't written
-pub Counts-told : (before now : ℕ) (stop : Stop) (o : Outcome) → stop ≢ Unwrote → Counts before now ((o ≡ WriteFault) × (stop ≢ Unwrote)) → Counts before now (o ≡ WriteFault)
+pub Counts-told : (before now : ℕ) (stop : Stop) (o : Outcome) → stop ≢ Unwrote → Counts before now ((o ≡ WriteFault) × (stop ≢ Unwrote)) →
+    Counts before now (o ≡ WriteFault)
 Counts-told before now stop o n c = Counts-from before before now (o ≡ WriteFault) ((o ≡ WriteFault) × (stop ≢ Unwrote)) refl (λ e. (e, n)) (λ e. e.0) c
 
 -- a treatment stopped; the counts before its last call, after that, and after what stopped it was written
 pub Counts-stopped : (before at now : ℕ) (stop : Stop) (o : Outcome)
-    → before ≤ at → (stop ≡ Unwrote → Rose before at) → (stop ≢ Unwrote → at ≡ before) → (stop ≡ Unwrote → o ≡ WriteFault) → Counts at now ((o ≡ WriteFault) × (stop ≢ Unwrote)) → Counts before now (o ≡ WriteFault)
+    → before ≤ at → (stop ≡ Unwrote → Rose before at) → (stop ≢ Unwrote → at ≡ before) → (stop ≡ Unwrote → o ≡ WriteFault) →
+    Counts at now ((o ≡ WriteFault) × (stop ≢ Unwrote)) → Counts before now (o ≡ WriteFault)
 Counts-stopped before at now Unwrote o later cause still told c =
     let same : now ≡ at = c.still (λ e. e.1 refl) in
     record { later = omega (arith, later, same); cause = λ e. subst (Rose before) (sym same) (cause refl); still = λ n. absurd (n (told refl)) }
-Counts-stopped before at now (Refused words) o later cause still told c = Counts-from before at now (o ≡ WriteFault) ((o ≡ WriteFault) × (Refused words ≢ Unwrote)) (still (λ e. cc)) (λ e. (e, λ s. cc)) (λ e. e.0) c
-Counts-stopped before at now Limited o later cause still told c = Counts-from before at now (o ≡ WriteFault) ((o ≡ WriteFault) × (Limited ≢ Unwrote)) (still (λ e. cc)) (λ e. (e, λ s. cc)) (λ e. e.0) c
-Counts-stopped before at now Unheld o later cause still told c = Counts-from before at now (o ≡ WriteFault) ((o ≡ WriteFault) × (Unheld ≢ Unwrote)) (still (λ e. cc)) (λ e. (e, λ s. cc)) (λ e. e.0) c
+Counts-stopped before at now (Refused words) o later cause still told c = Counts-from before at now (o ≡ WriteFault) ((o ≡ WriteFault) ×
+    (Refused words ≢ Unwrote)) (still (λ e. cc)) (λ e. (e, λ s. cc)) (λ e. e.0) c
+Counts-stopped before at now Limited o later cause still told c = Counts-from before at now (o ≡ WriteFault) ((o ≡ WriteFault) ×
+    (Limited ≢ Unwrote)) (still (λ e. cc)) (λ e. (e, λ s. cc)) (λ e. e.0) c
+Counts-stopped before at now Unheld o later cause still told c = Counts-from before at now (o ≡ WriteFault) ((o ≡ WriteFault) ×
+    (Unheld ≢ Unwrote)) (still (λ e. cc)) (λ e. (e, λ s. cc)) (λ e. e.0) c
 
 -- it ends after a read that didn't fail
 pub Leaves-read : {S K : Type 0} (sources : SourceOf S) (sinks : SinkOf K) (source last : S) (sink before now : K) (o : Outcome)
-    → sources.faults last ≡ sources.faults source → sinks.faults before ≡ sinks.faults sink → Counts (sinks.faults before) (sinks.faults now) (o ≡ WriteFault) → o ≢ ReadFault → (o ≡ Done → sources.ended last ≡ true) → Leaves sources sinks source last sink now o
+    → sources.faults last ≡ sources.faults source → sinks.faults before ≡ sinks.faults sink → Counts (sinks.faults before) (sinks.faults now) (o ≡ WriteFault) →
+    o ≢ ReadFault → (o ≡ Done → sources.ended last ≡ true) → Leaves sources sinks source last sink now o
 Leaves-read sources sinks source last sink before now o s k c r d =
     let w = Counts-from (sinks.faults sink) (sinks.faults before) (sinks.faults now) (o ≡ WriteFault) (o ≡ WriteFault) k (λ e. e) (λ e. e) c in
     record { later = (omega (arith, s), w.later); read = λ e. absurd (r e); write = w.cause; still = (λ n. s, w.still); ended = d }
 
 -- output wasn't written, and the source is as it was before
-pub Leaves-unwritten : {S K A : Type 0} (sources : SourceOf S) (sinks : SinkOf K) (source last : S) (sink before now : K) (r : Result A Unwritten) (fault : Unwritten) (o : Outcome) → o ≡ outcome_of fault → r ≡ Err fault
-    → sources.faults last ≡ sources.faults source → sinks.faults before ≡ sinks.faults sink → Counts (sinks.faults before) (sinks.faults now) (r ≡ Err NotWritten) → Leaves sources sinks source last sink now o
+pub Leaves-unwritten : {S K A : Type 0} (sources : SourceOf S) (sinks : SinkOf K) (source last : S) (sink before now : K) (r : Result A Unwritten)
+    (fault : Unwritten) (o : Outcome) → o ≡ outcome_of fault → r ≡ Err fault
+    → sources.faults last ≡ sources.faults source → sinks.faults before ≡ sinks.faults sink → Counts (sinks.faults before) (sinks.faults now) (r ≡
+    Err NotWritten) → Leaves sources sinks source last sink now o
 Leaves-unwritten sources sinks source last sink before now r fault o is p s k c =
     let n = not_others fault o is in
-    Leaves-read sources sinks source last sink before now o s k (Counts-fault (sinks.faults before) (sinks.faults now) r fault o is p c) n.0 (λ e. absurd (n.1 e))
+    Leaves-read sources sinks source last sink before now o s k (Counts-fault (sinks.faults before) (sinks.faults now) r fault o is p c) n.0
+    (λ e. absurd (n.1 e))
 
 -- a read failed
 pub Leaves-failed : {S K : Type 0} (sources : SourceOf S) (sinks : SinkOf K) (source last : S) (sink now : K) (failed : Type 0)
-    → Counts (sources.faults source) (sources.faults last) failed → failed → sources.ended last ≡ false → sinks.faults now ≡ sinks.faults sink → Leaves sources sinks source last sink now ReadFault
+    → Counts (sources.faults source) (sources.faults last) failed → failed → sources.ended last ≡ false → sinks.faults now ≡ sinks.faults sink →
+    Leaves sources sinks source last sink now ReadFault
 Leaves-failed sources sinks source last sink now failed c f e k = record {
   later = (c.later, omega (arith, k));
   read = λ r. (c.cause f, e);
@@ -136,9 +151,13 @@ pub not_unread : (r : Result Fill Unwritten) (n k : Fill) {before now : ℕ} →
 not_unread r n k p q d c = c.still (λ e. let f : k ≡ NotRead = cc in d f)
 
 -- a line was treated: the treatment goes on, or it ends
-pub Line-leaves : {S K : Type 0} (sources : SourceOf S) (sinks : SinkOf K) (source last : S) (sink before now : K) (old new : ReaderValue) (number : ℕ) (o : Option Outcome)
-    → sources.faults last ≡ sources.faults source → sinks.faults before ≡ sinks.faults sink → Counts (sinks.faults before) (sinks.faults now) (o ≡ Some WriteFault) → (o ≢ Some ReadFault) × (o ≢ Some Done)
-    → (o ≡ None → StaysOpen sources sinks source last sink now old new number) → MatchOption o (StaysOpen sources sinks source last sink now old new number) (Leaves sources sinks source last sink now)
+pub Line-leaves : {S K : Type 0} (sources : SourceOf S) (sinks : SinkOf K) (source last : S) (sink before now : K) (old new : ReaderValue) (number : ℕ)
+    (o : Option Outcome)
+    → sources.faults last ≡ sources.faults source → sinks.faults before ≡ sinks.faults sink → Counts (sinks.faults before) (sinks.faults now) (o ≡
+    Some WriteFault) → (o ≢ Some ReadFault) × (o ≢ Some Done)
+    → (o ≡ None → StaysOpen sources sinks source last sink now old new number) → MatchOption o (StaysOpen sources sinks source last sink now old new number)
+    (Leaves sources sinks source last sink now)
 Line-leaves sources sinks source last sink before now old new number None s k c kind on = on refl
 Line-leaves sources sinks source last sink before now old new number (Some o) s k c kind on =
-    Leaves-read sources sinks source last sink before now o s k (Counts-some (sinks.faults before) (sinks.faults now) o WriteFault c) (λ e. kind.0 (ap Some e)) (λ e. absurd (kind.1 (ap Some e)))
+    Leaves-read sources sinks source last sink before now o s k (Counts-some (sinks.faults before) (sinks.faults now) o WriteFault c) (λ e. kind.0 (ap Some e))
+    (λ e. absurd (kind.1 (ap Some e)))

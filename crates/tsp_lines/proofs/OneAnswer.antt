@@ -1,5 +1,6 @@
 -- An input has one answer.
-use Rattle.std.proofs.Common.{◌≡◌, ℕ, ◌≤◌, ◌+◌, inl, inr, List, [], ◌∷◌, ◌++◌, None, Some, refl, sym, ap, ◌∙◌, append_assoc, append-nil, length, length-append, arith, subst, All, ◌⊎◌}
+use Rattle.std.proofs.Common.{◌≡◌, ℕ, ◌≤◌, ◌+◌, inl, inr, List, [], ◌∷◌, ◌++◌, None, Some, refl, sym, ap, ◌∙◌, append_assoc, append-nil, length, length-append}
+use Rattle.std.proofs.Common.{arith, subst, All, ◌⊎◌}
 use Rattle.std.specs.declared.option.Option.{Option}
 use Rattle.std.proofs.lemmas.{Grind.flat_map-append, List.append_cancel_left, List.Elements.All-push}
 use Rattle.tsp_io.specs.Streams.{Grows}
@@ -11,23 +12,31 @@ use Rattle.tsp_lines.{specs.declared.treat.Outcome.Outcome, proofs.Comes.HasLine
 use Rattle.tsp_lines.specs.declared.treat.Outcome.TheVariants.{Ok as Done, Bad, ReadFault, WriteFault, Limit, OutOfMemory}
 
 -- of octets that an input begins with, the first lie within a limit
-Begins-front : (n limit : ℕ) (input : Option (List ℕ)) (octets front more : List ℕ) → octets ≡ front ++ more → Begins n input octets → length front ≤ limit → Begins limit input front
+Begins-front : (n limit : ℕ) (input : Option (List ℕ)) (octets front more : List ℕ) → octets ≡ front ++ more → Begins n input octets → length front ≤ limit →
+    Begins limit input front
 Begins-front n limit None octets front more e b l = (l, tt)
 Begins-front n limit (Some xs) octets front more e (h, (rest, o)) l = (l, (more ++ rest, o ∙ ap (λ x. x ++ rest) e ∙ append_assoc front more rest))
 
 module _ (limit : ℕ) (input : Option (List ℕ)) (lines : List (List ℕ)) where
   HasNext-lines : (line : List ℕ) → HasNext limit input lines line → HasLines limit input lines
-  HasNext-lines line (n, inl b) = inl (Begins-front limit limit input (closed lines ++ close line) (closed lines) (close line) refl b (omega (arith, b.0, length-append (closed lines) (close line))))
-  HasNext-lines line (n, inr (s, i)) = inl (Begins-front limit limit input (closed lines ++ line) (closed lines) line refl (is_begin input (closed lines ++ line) i) (omega (arith, i.0, length-append (closed lines) line))) where
-    is_begin : (told : Option (List ℕ)) (octets : List ℕ) → IsInput limit told octets → Begins limit told octets
-    is_begin None octets (l, t) = (l, tt)
-    is_begin (Some xs) octets (l, e) = (l, ([], e ∙ sym (append-nil octets)))
+  HasNext-lines line (n, inl b) = inl (Begins-front limit limit input (closed lines ++ close line) (closed lines) (close line) refl b (omega (
+    arith,
+    b.0,
+    length-append (closed lines) (close line),
+  )))
+  HasNext-lines line (n, inr (s, i)) = inl (Begins-front limit limit input (closed lines ++ line) (closed lines) line refl (is_begin input (closed lines ++
+      line) i) (omega (arith, i.0, length-append (closed lines) line))) where
+        is_begin : (told : Option (List ℕ)) (octets : List ℕ) → IsInput limit told octets → Begins limit told octets
+        is_begin None octets (l, t) = (l, tt)
+        is_begin (Some xs) octets (l, e) = (l, ([], e ∙ sym (append-nil octets)))
 
   IsPast-lines : IsPast limit input lines → HasLines limit input lines
-  IsPast-lines (part, x, n, e, b) = inl (Begins-front (limit + 1) limit input (closed lines ++ (part ++ x ∷ [])) (closed lines) (part ++ x ∷ []) refl b (omega (arith, e, length-append (closed lines) part)))
+  IsPast-lines (part, x, n, e, b) = inl (Begins-front (limit + 1) limit input (closed lines ++ (part ++ x ∷ [])) (closed lines) (part ++ x ∷
+      []) refl b (omega (arith, e, length-append (closed lines) part)))
 
   HasMore-lines : HasMore limit input lines → HasLines limit input lines
-  HasMore-lines (x, b) = inl (Begins-front (limit + 1) limit input (closed lines ++ x ∷ []) (closed lines) (x ∷ []) refl b (omega (arith, b.0, length-append (closed lines) (x ∷ []))))
+  HasMore-lines (x, b) = inl (Begins-front (limit + 1) limit input (closed lines ++ x ∷ []) (closed lines) (x ∷
+      []) refl b (omega (arith, b.0, length-append (closed lines) (x ∷ []))))
 
   -- where the treatment ends, the input has the lines before
   IsEnding-lines : (m : Meaning) (o : Outcome) (said : List ℕ) → IsEnding m limit input lines o said → HasLines limit input lines
@@ -40,7 +49,8 @@ module _ (limit : ℕ) (input : Option (List ℕ)) (lines : List (List ℕ)) whe
   IsEnding-lines m _ said e = absurd e
 
 -- of two beginnings of a list one is the other's
-compare : (all front other more rest : List (List ℕ)) → all ≡ front ++ more → all ≡ other ++ rest → ((r : List (List ℕ)) × (front ≡ other ++ r)) ⊎ ((line : List ℕ) × (r : List (List ℕ)) × (other ≡ front ++ line ∷ r))
+compare : (all front other more rest : List (List ℕ)) → all ≡ front ++ more → all ≡ other ++ rest → ((r : List (List ℕ)) × (front ≡ other ++ r)) ⊎
+    ((line : List ℕ) × (r : List (List ℕ)) × (other ≡ front ++ line ∷ r))
 compare all front [] more rest e f = inl (front, refl)
 compare all [] (y ∷ other) more rest e f = inr (y, other, refl)
 compare [] (x ∷ front) (y ∷ other) more rest e f = cc
@@ -69,14 +79,18 @@ module _ (limit : ℕ) (octets : List ℕ) (all : List (List ℕ)) (feeds : All 
   whole_all : (front : List (List ℕ)) → All NoFeed front → IsWhole limit (Some octets) front → all ≡ front
   whole_all front n (xs, a, i) = AreLines-one octets all front feeds n are (rw i.1 a)
 
-  next_line : (front : List (List ℕ)) (line : List ℕ) → All NoFeed front → HasNext limit (Some octets) front line → (rest : List (List ℕ)) × (all ≡ front ++ line ∷ rest)
-  next_line front line n h = let r = lines_first (front ++ line ∷ []) (All-push NoFeed front line n h.0) (HasLines-next limit (Some octets) front line h) in (r.0, r.1 ∙ append_assoc front (line ∷ []) r.0)
+  next_line : (front : List (List ℕ)) (line : List ℕ) → All NoFeed front → HasNext limit (Some octets) front line → (rest : List (List ℕ)) ×
+      (all ≡ front ++ line ∷ rest)
+  next_line front line n h = let r = lines_first (front ++ line ∷ []) (All-push NoFeed front line n h.0) (HasLines-next limit (Some octets) front line h) in
+      (r.0, r.1 ∙ append_assoc front (line ∷ []) r.0)
 
-  more_line : (front : List (List ℕ)) → All NoFeed front → HasMore limit (Some octets) front → (line : List ℕ) × (rest : List (List ℕ)) × (all ≡ front ++ line ∷ rest)
+  more_line : (front : List (List ℕ)) → All NoFeed front → HasMore limit (Some octets) front → (line : List ℕ) × (rest : List (List ℕ)) ×
+      (all ≡ front ++ line ∷ rest)
   more_line front n (x, (l, (rest, e))) =
       let r = front_of octets (x ∷ rest) front all n feeds (e ∙ append_assoc (closed front) (x ∷ []) rest) are in
       some r.0 r.1 r.2 where
-        some : (more : List (List ℕ)) → all ≡ front ++ more → AreLines (x ∷ rest) more → (line : List ℕ) × (rest' : List (List ℕ)) × (all ≡ front ++ line ∷ rest')
+        some : (more : List (List ℕ)) → all ≡ front ++ more → AreLines (x ∷ rest) more → (line : List ℕ) × (rest' : List (List ℕ)) ×
+            (all ≡ front ++ line ∷ rest')
         some [] i a = absurd (let f : x ∷ rest ≡ [] = AreLines-none (x ∷ rest) a in cc)
         some (line ∷ more) i a = (line, more, i)
 
@@ -84,19 +98,41 @@ module _ (limit : ℕ) (octets : List ℕ) (all : List (List ℕ)) (feeds : All 
   past_whole : (front : List (List ℕ)) → IsPast limit (Some octets) front → length octets ≤ limit → ⊥
   past_whole front (part, x, n, e, (l, (rest, o))) w =
       let f : length octets ≡ length ((closed front ++ (part ++ x ∷ [])) ++ rest) = ap length o in
-      omega (arith, w, e, f, length-append (closed front) part, length-append (closed front ++ (part ++ x ∷ [])) rest, length-append (closed front) (part ++ x ∷ []), length-append part (x ∷ []))
+      omega (
+        arith,
+        w,
+        e,
+        f,
+        length-append (closed front) part,
+        length-append (closed front ++ (part ++ x ∷ [])) rest,
+        length-append (closed front) (part ++ x ∷ []),
+        length-append part (x ∷ []),
+      )
 
   -- nor in a line that is followed within it
-  past_longer : (front : List (List ℕ)) (line : List ℕ) (more : List (List ℕ)) → IsPast limit (Some octets) front → HasLines limit (Some octets) (front ++ line ∷ more) → ⊥
+  past_longer : (front : List (List ℕ)) (line : List ℕ) (more : List (List ℕ)) → IsPast limit (Some octets) front →
+      HasLines limit (Some octets) (front ++ line ∷ more) → ⊥
   past_longer front line more p (inr (xs, a, i)) = past_whole front p (rw (sym i.1) at i.0)
   past_longer front line more (part, x, n, e, (l, (rest, o))) (inl (w, (left, f))) =
       let c : closed (front ++ line ∷ more) ≡ closed front ++ (close line ++ closed more) = flat_map-append close front (line ∷ more) in
       let g : octets ≡ closed front ++ (line ++ 10 ∷ (closed more ++ left)) =
-      f ∙ ap (λ y. y ++ left) c ∙ append_assoc (closed front) (close line ++ closed more) left ∙ ap (λ y. closed front ++ y) (append_assoc (close line) (closed more) left ∙ append_assoc line (10 ∷ []) (closed more ++ left)) in
-      let h : octets ≡ closed front ++ (part ++ (x ∷ rest)) = o ∙ append_assoc (closed front) (part ++ x ∷ []) rest ∙ ap (λ y. closed front ++ y) (append_assoc part (x ∷ []) rest) in
+      f ∙ ap (λ y. y ++ left) c ∙ append_assoc (closed front) (close line ++ closed more) left ∙
+      ap (λ y. closed front ++ y) (append_assoc (close line) (closed more) left ∙ append_assoc line (10 ∷ []) (closed more ++ left)) in
+      let h : octets ≡ closed front ++ (part ++ (x ∷ rest)) = o ∙ append_assoc (closed front) (part ++ x ∷ []) rest ∙
+      ap (λ y. closed front ++ y) (append_assoc part (x ∷ []) rest) in
       let k : length (closed (front ++ line ∷ more)) ≡ length (closed front ++ (close line ++ closed more)) = ap length c in
-      feed_within part line (x ∷ rest) (closed more ++ left) n (append_cancel_left (closed front) (part ++ (x ∷ rest)) (line ++ 10 ∷ (closed more ++ left)) (sym h ∙ g))
-      (omega (arith, w, k, e, length-append (closed front) part, length-append (closed front) (close line ++ closed more), length-append (close line) (closed more), length-append line (10 ∷ [])))
+      feed_within part line (x ∷ rest) (closed more ++ left) n (append_cancel_left (closed front) (part ++ (x ∷ rest)) (line ++ 10 ∷
+      (closed more ++ left)) (sym h ∙ g))
+      (omega (
+        arith,
+        w,
+        k,
+        e,
+        length-append (closed front) part,
+        length-append (closed front) (close line ++ closed more),
+        length-append (close line) (closed more),
+        length-append line (10 ∷ []),
+      ))
 
   past_next : (front : List (List ℕ)) (line : List ℕ) → IsPast limit (Some octets) front → HasNext limit (Some octets) front line → ⊥
   past_next front line p h = past_longer front line [] p (HasLines-next limit (Some octets) front line h)
@@ -111,24 +147,29 @@ module _ (limit : ℕ) (octets : List ℕ) (all : List (List ℕ)) (feeds : All 
   whole_past : (front : List (List ℕ)) → IsWhole limit (Some octets) front → IsPast limit (Some octets) front → ⊥
   whole_past front (xs, a, i) p = past_whole front p (rw (sym i.1) at i.0)
 
-  next_one : (front : List (List ℕ)) (line other : List ℕ) → All NoFeed front → HasNext limit (Some octets) front line → HasNext limit (Some octets) front other → line ≡ other
+  next_one : (front : List (List ℕ)) (line other : List ℕ) → All NoFeed front → HasNext limit (Some octets) front line →
+      HasNext limit (Some octets) front other → line ≡ other
   next_one front line other n h k = let r = next_line front line n h in let s = next_line front other n k in same_line front line other r.0 s.0 (sym r.1 ∙ s.1)
 
   module _ (m : Meaning) (d : IsDefinite m) where
     -- where lines are accepted, so are the first of them, whose output stands first
-    accepts_front : (rest front : List (List ℕ)) (text : List ℕ) → m.accepts (front ++ rest) text → (before : List ℕ) × (more : List ℕ) × m.accepts front before × (text ≡ before ++ more)
+    accepts_front : (rest front : List (List ℕ)) (text : List ℕ) → m.accepts (front ++ rest) text → (before : List ℕ) × (more : List ℕ) ×
+        m.accepts front before × (text ≡ before ++ more)
     accepts_front [] front text a = (text, [], subst (λ l. m.accepts l text) (append-nil front) a, sym (append-nil text))
     accepts_front (line ∷ rest) front text a =
         let r = accepts_front rest (front ++ line ∷ []) text (subst (λ l. m.accepts l text) (sym (append_assoc front (line ∷ []) rest)) a) in
         let s = (d.before front line r.0 r.2).1 in
         (s.0, s.1 ++ r.1, s.2, r.3 ∙ ap (λ l. l ++ r.1) s.3 ∙ append_assoc s.0 s.1 r.1)
 
-    accepts_next : (front more : List (List ℕ)) (line text : List ℕ) → m.accepts (front ++ line ∷ more) text → (before : List ℕ) × m.accepts (front ++ line ∷ []) before
-    accepts_next front more line text a = let r = accepts_front more (front ++ line ∷ []) text (subst (λ l. m.accepts l text) (sym (append_assoc front (line ∷ []) more)) a) in (r.0, r.2)
+    accepts_next : (front more : List (List ℕ)) (line text : List ℕ) → m.accepts (front ++ line ∷ more) text → (before : List ℕ) ×
+        m.accepts (front ++ line ∷ []) before
+    accepts_next front more line text a = let r = accepts_front more (front ++ line ∷
+        []) text (subst (λ l. m.accepts l text) (sym (append_assoc front (line ∷ []) more)) a) in (r.0, r.2)
 
     -- where the treatment ends, no more lines are accepted
     ends_there : (front : List (List ℕ)) (o : Outcome) (said : List ℕ) → All NoFeed front → IsEnding m limit (Some octets) front o said
-        → (line : List ℕ) (more : List (List ℕ)) (text : List ℕ) → All NoFeed (front ++ line ∷ more) → HasLines limit (Some octets) (front ++ line ∷ more) → m.accepts (front ++ line ∷ more) text → ⊥
+        → (line : List ℕ) (more : List (List ℕ)) (text : List ℕ) → All NoFeed (front ++ line ∷ more) → HasLines limit (Some octets) (front ++ line ∷ more) →
+        m.accepts (front ++ line ∷ more) text → ⊥
     ends_there front o said n e line more text f h a = at o e where
       next : (rest : List (List ℕ)) × (all ≡ front ++ line ∷ rest)
       next = let r = lines_first (front ++ line ∷ more) f h in (more ++ r.0, r.1 ∙ append_assoc front (line ∷ more) r.0)
@@ -152,7 +193,8 @@ module _ (limit : ℕ) (octets : List ℕ) (all : List (List ℕ)) (feeds : All 
       at _ e = e
 
     -- accepted lines of the input are the first of those at which the treatment ends
-    first_of : (front other : List (List ℕ)) (o : Outcome) (said text : List ℕ) → All NoFeed front → IsEnding m limit (Some octets) front o said → All NoFeed other → HasLines limit (Some octets) other → m.accepts other text → (rest : List (List ℕ)) × (front ≡ other ++ rest)
+    first_of : (front other : List (List ℕ)) (o : Outcome) (said text : List ℕ) → All NoFeed front → IsEnding m limit (Some octets) front o said →
+        All NoFeed other → HasLines limit (Some octets) other → m.accepts other text → (rest : List (List ℕ)) × (front ≡ other ++ rest)
     first_of front other o said text n e f h a =
         let r = lines_first front n (IsEnding-lines limit (Some octets) front m o said e) in
         let s = lines_first other f h in
@@ -165,7 +207,8 @@ module _ (limit : ℕ) (octets : List ℕ) (all : List (List ℕ)) (feeds : All 
     done_bad front a b n e (inl k) = whole_next front k.0 n e.0 k.2
     done_bad front a b n e (inr k) = d.ended_whole front a k.0 e.1 k.2
 
-    done_limited : (front : List (List ℕ)) (a b : List ℕ) → All NoFeed front → IsDone m limit (Some octets) front a → IsLimited m limit (Some octets) front b → ⊥
+    done_limited : (front : List (List ℕ)) (a b : List ℕ) → All NoFeed front → IsDone m limit (Some octets) front a → IsLimited m limit (Some octets) front b →
+        ⊥
     done_limited front a b n e (inl k, w) = whole_next front k.0 n e.0 k.1
     done_limited front a b n e (inr (inl k), w) = whole_past front e.0 k
     done_limited front a b n e (inr (inr k), w) = whole_more front n e.0 k.1
@@ -187,7 +230,8 @@ module _ (limit : ℕ) (octets : List ℕ) (all : List (List ℕ)) (feeds : All 
     one_bad front a b n (inr e) (inr k) = e.3 ∙ ap (bad_line (length front + 1)) (d.one_lack front e.0 k.0 e.2 k.2) ∙ sym k.3
 
     -- at one place the treatment ends in one way
-    one_ending : (front : List (List ℕ)) (a b : List ℕ) (o p : Outcome) → All NoFeed front → IsEnding m limit (Some octets) front o a → IsEnding m limit (Some octets) front p b → (o ≡ p) × (a ≡ b)
+    one_ending : (front : List (List ℕ)) (a b : List ℕ) (o p : Outcome) → All NoFeed front → IsEnding m limit (Some octets) front o a →
+        IsEnding m limit (Some octets) front p b → (o ≡ p) × (a ≡ b)
     one_ending front a b Done Done n e f = (refl, d.one_end front a b e.1 f.1)
     one_ending front a b Done Bad n e f = absurd (done_bad front a b n e f)
     one_ending front a b Done Limit n e f = absurd (done_limited front a b n e f)
@@ -218,15 +262,18 @@ module _ (limit : ℕ) (octets : List ℕ) (all : List (List ℕ)) (feeds : All 
 
     one_answer : (o p : Outcome) (output other : List ℕ) → IsAnswer m limit octets o output → IsAnswer m limit octets p other → (o ≡ p) × (output ≡ other)
     one_answer o p output other a b =
-        let r = first_of a.lines b.lines o a.said b.text a.feedless a.ending b.feedless (IsEnding-lines limit (Some octets) b.lines m p b.said b.ending) b.accepted in
-        let s = first_of b.lines a.lines p b.said a.text b.feedless b.ending a.feedless (IsEnding-lines limit (Some octets) a.lines m o a.said a.ending) a.accepted in
+        let r = first_of a.lines b.lines o a.said b.text a.feedless a.ending b.feedless (IsEnding-lines limit (Some octets) b.lines m p b.said b.ending)
+        b.accepted in
+        let s = first_of b.lines a.lines p b.said a.text b.feedless b.ending a.feedless (IsEnding-lines limit (Some octets) a.lines m o a.said a.ending)
+        a.accepted in
         let same = one_place a.lines b.lines r.0 s.0 r.1 s.1 in
         let e = one_ending b.lines a.said b.said o p b.feedless (subst (λ l. IsEnding m limit (Some octets) l o a.said) same a.ending) b.ending in
         let t = d.one_output b.lines a.text b.text (subst (λ l. m.accepts l a.text) same a.accepted) b.accepted in
         (e.0, a.whole ∙ rw (t, e.1) refl ∙ sym b.whole)
 
     -- the output of lines that the input has is the beginning of the answer's
-    first_output : (o : Outcome) (output text : List ℕ) (lines : List (List ℕ)) → IsAnswer m limit octets o output → All NoFeed lines → HasLines limit (Some octets) lines → m.accepts lines text → (more : List ℕ) × (output ≡ text ++ more)
+    first_output : (o : Outcome) (output text : List ℕ) (lines : List (List ℕ)) → IsAnswer m limit octets o output → All NoFeed lines →
+        HasLines limit (Some octets) lines → m.accepts lines text → (more : List ℕ) × (output ≡ text ++ more)
     first_output o output text lines a n h c =
         let r = first_of a.lines lines o a.said text a.feedless a.ending n h c in
         let s = accepts_front r.0 lines a.text (subst (λ l. m.accepts l a.text) r.1 a.accepted) in
@@ -234,12 +281,22 @@ module _ (limit : ℕ) (octets : List ℕ) (all : List (List ℕ)) (feeds : All 
         (s.1 ++ a.said, a.whole ∙ ap (λ l. l ++ a.said) (s.3 ∙ ap (λ l. l ++ s.1) t) ∙ append_assoc text s.1 a.said)
 
     -- what was written in part is a part of the answer's output
-    part_of : (o : Outcome) (output : List ℕ) (written now : Option (List ℕ)) (lines : List (List ℕ)) (text said part rest : List ℕ) → IsAnswer m limit octets o output
-        → All NoFeed lines → m.accepts lines text → Follows m limit (Some octets) lines said → text ++ said ≡ part ++ rest → Grows written now part → (left : List ℕ) × (length rest ≤ length left) × IsPart output written now left
+    part_of : (o : Outcome) (output : List ℕ) (written now : Option (List ℕ)) (lines : List (List ℕ)) (text said part rest : List ℕ) →
+        IsAnswer m limit octets o output
+        → All NoFeed lines → m.accepts lines text → Follows m limit (Some octets) lines said → text ++ said ≡ part ++ rest → Grows written now part →
+        (left : List ℕ) × (length rest ≤ length left) × IsPart output written now left
     part_of o output written now lines text said part rest a n c follows e g = at follows where
       ended : (p : Outcome) → IsEnding m limit (Some octets) lines p said → (left : List ℕ) × (length rest ≤ length left) × IsPart output written now left
       ended p f =
-          let b : IsAnswer m limit octets p (text ++ said) = record { lines = lines; text = text; said = said; feedless = n; accepted = c; ending = f; whole = refl } in
+          let b : IsAnswer m limit octets p (text ++ said) = record {
+            lines = lines;
+            text = text;
+            said = said;
+            feedless = n;
+            accepted = c;
+            ending = f;
+            whole = refl;
+          } in
           (rest, omega arith, (part, (one_answer o p output (text ++ said) a b).1 ∙ e, g))
 
       at : Follows m limit (Some octets) lines said → (left : List ℕ) × (length rest ≤ length left) × IsPart output written now left
@@ -251,14 +308,24 @@ module _ (limit : ℕ) (octets : List ℕ) (all : List (List ℕ)) (feeds : All 
       at (inr (inr (inl l))) = ended Limit l
       at (inr (inr (inr f))) = ended Done f
 
-    answered : (o p : Outcome) (output text said : List ℕ) (lines : List (List ℕ)) (written now : Option (List ℕ)) → IsAnswer m limit octets o output → All NoFeed lines → m.accepts lines text → IsEnding m limit (Some octets) lines p said
+    answered : (o p : Outcome) (output text said : List ℕ) (lines : List (List ℕ)) (written now : Option (List ℕ)) → IsAnswer m limit octets o output →
+        All NoFeed lines → m.accepts lines text → IsEnding m limit (Some octets) lines p said
         → Grows written now (text ++ said) → (o ≡ p) × Grows written now output
     answered o p output text said lines written now a n c e g =
-        let r = one_answer o p output (text ++ said) a (record { lines = lines; text = text; said = said; feedless = n; accepted = c; ending = e; whole = refl }) in
+        let r = one_answer o p output (text ++ said) a (record {
+          lines = lines;
+          text = text;
+          said = said;
+          feedless = n;
+          accepted = c;
+          ending = e;
+          whole = refl;
+        }) in
         (r.0, subst (Grows written now) (sym r.1) g)
 
     -- what the treatment comes to agrees with the answer
-    agrees : (o result : Outcome) (output : List ℕ) (left written now : Option (List ℕ)) → IsAnswer m limit octets o output → Comes m limit (Some octets) left written now result → Agrees o output written now result
+    agrees : (o result : Outcome) (output : List ℕ) (left written now : Option (List ℕ)) → IsAnswer m limit octets o output →
+        Comes m limit (Some octets) left written now result → Agrees o output written now result
     agrees o Done output left written now a (c, over) = answered o Done output c.1 c.2 c.0 written now a c.3 c.4 c.5 c.6
     agrees o Bad output left written now a c = answered o Bad output c.1 c.2 c.0 written now a c.3 c.4 c.5 c.6
     agrees o Limit output left written now a c = answered o Limit output c.1 c.2 c.0 written now a c.3 c.4 c.5 c.6
@@ -274,17 +341,20 @@ module _ (limit : ℕ) (octets : List ℕ) (all : List (List ℕ)) (feeds : All 
         (r.0, r.2)
 
 -- an input has one answer
-pub IsAnswer-one : (m : Meaning) → IsDefinite m → (limit : ℕ) (octets : List ℕ) (o p : Outcome) (output other : List ℕ) → IsAnswer m limit octets o output → IsAnswer m limit octets p other → (o ≡ p) × (output ≡ other)
+pub IsAnswer-one : (m : Meaning) → IsDefinite m → (limit : ℕ) (octets : List ℕ) (o p : Outcome) (output other : List ℕ) → IsAnswer m limit octets o output →
+    IsAnswer m limit octets p other → (o ≡ p) × (output ≡ other)
 IsAnswer-one m d limit octets o p output other a b = let c = cut octets in one_answer limit octets c.0 c.1 c.2 m d o p output other a b
 
 -- what the treatment comes to agrees with the answer to the input
-pub Comes-answers : (m : Meaning) → IsDefinite m → (limit : ℕ) (input left written now : Option (List ℕ)) (result : Outcome) → Comes m limit input left written now result → Answers m limit input written now result
+pub Comes-answers : (m : Meaning) → IsDefinite m → (limit : ℕ) (input left written now : Option (List ℕ)) (result : Outcome) →
+    Comes m limit input left written now result → Answers m limit input written now result
 Comes-answers m d limit input left written now result comes = λ octets o output told a.
     let c = cut octets in
     agrees limit octets c.0 c.1 c.2 m d o result output left written now a (subst (λ i. Comes m limit i left written now result) told comes)
 
 -- where no read and no write failed, an outcome that agrees with an answer is that answer's, or there was no memory
-pub Agrees-outcome : (o result : Outcome) (output : List ℕ) (written now : Option (List ℕ)) → Agrees o output written now result → (result ≡ ReadFault → ⊥) → (result ≡ WriteFault → ⊥) → (result ≡ o) ⊎ (result ≡ OutOfMemory)
+pub Agrees-outcome : (o result : Outcome) (output : List ℕ) (written now : Option (List ℕ)) → Agrees o output written now result → (result ≡ ReadFault → ⊥) →
+    (result ≡ WriteFault → ⊥) → (result ≡ o) ⊎ (result ≡ OutOfMemory)
 Agrees-outcome o ReadFault output written now a r w = absurd (r refl)
 Agrees-outcome o WriteFault output written now a r w = absurd (w refl)
 Agrees-outcome o OutOfMemory output written now a r w = inr refl

@@ -1,5 +1,6 @@
 -- Octets are cut into lines in one way.
-use Rattle.std.proofs.Common.{◌≡◌, ℕ, ◌<◌, inl, inr, List, [], ◌∷◌, ◌++◌, refl, sym, ap, ◌∙◌, append_assoc, length, zero, suc, arith, Bool, true, false, ◌==◌, eqb-true, eq-eqb, subst, slice_index_or, All, Contains, ◌⊎◌}
+use Rattle.std.proofs.Common.{◌≡◌, ℕ, ◌<◌, inl, inr, List, [], ◌∷◌, ◌++◌, refl, sym, ap, ◌∙◌, append_assoc, length, zero, suc, arith, Bool, true, false, ◌==◌}
+use Rattle.std.proofs.Common.{eqb-true, eq-eqb, subst, slice_index_or, All, Contains, ◌⊎◌}
 use Rattle.std.proofs.lemmas.List.Elements.{All-cons, All-head, All-tail}
 use Rattle.tsp_lines.specs.Lines.{NoFeed, close, closed, AreLines}
 
@@ -38,13 +39,19 @@ AreLines-none octets (inr ([], last, e, p, o)) = cc
 AreLines-none octets (inr (x ∷ front, last, e, p, o)) = cc
 
 -- the first of some lines ends at a line feed, or is the last
-AreLines-first : (octets line : List ℕ) (lines : List (List ℕ)) → AreLines octets (line ∷ lines) → IsBehind octets line (λ rest. AreLines rest lines) ⊎ ((lines ≡ []) × (0 < length line) × (octets ≡ line))
+AreLines-first : (octets line : List ℕ) (lines : List (List ℕ)) → AreLines octets (line ∷ lines) → IsBehind octets line (λ rest. AreLines rest lines) ⊎
+    ((lines ≡ []) × (0 < length line) × (octets ≡ line))
 AreLines-first octets line lines (inl e) = inl (closed lines, e ∙ close-append line (closed lines), inl refl)
 AreLines-first octets line lines (inr ([], last, e, p, o)) = let h : line ≡ last = cc in inr (cc, rw h p, o ∙ sym h)
 AreLines-first octets line lines (inr (x ∷ front, last, e, p, o)) =
     let h : x ≡ line = cc in
     let t : lines ≡ front ++ last ∷ [] = cc in
-    inl (closed front ++ last, o ∙ append_assoc (close x) (closed front) last ∙ close-append x (closed front ++ last) ∙ ap (λ l. l ++ 10 ∷ (closed front ++ last)) h, inr (front, last, t, p, refl))
+    inl (
+      closed front ++ last,
+      o ∙ append_assoc (close x) (closed front) last ∙ close-append x (closed front ++ last) ∙
+          ap (λ l. l ++ 10 ∷ (closed front ++ last)) h,
+      inr (front, last, t, p, refl),
+    )
 
 -- octets of one line at least aren't those of none
 AreLines-some : (octets line : List ℕ) (lines : List (List ℕ)) → AreLines octets [] → AreLines octets (line ∷ lines) → ⊥
@@ -93,9 +100,19 @@ cut_feed xs lines (inl e) = inl (ap (λ l. 10 ∷ l) e)
 cut_feed xs lines (inr (front, last, e, p, o)) = inr ([] ∷ front, last, ap (λ l. [] ∷ l) e, p, ap (λ l. 10 ∷ l) o)
 
 -- and another octet stands in the first line
-cut_octet : (x : ℕ) (xs : List ℕ) (lines : List (List ℕ)) → (x ≡ 10 → ⊥) → All NoFeed lines → AreLines xs lines → (more : List (List ℕ)) × All NoFeed more × AreLines (x ∷ xs) more
-cut_octet x xs [] d n a = ((x ∷ []) ∷ [], All-cons NoFeed (x ∷ []) [] (NoFeed-cons x [] d (λ c. omega (arith, c.1))) n, inr ([], x ∷ [], refl, omega arith, ap (λ l. x ∷ l) (AreLines-none xs a)))
-cut_octet x xs (line ∷ lines) d n a = ((x ∷ line) ∷ lines, All-cons NoFeed (x ∷ line) lines (NoFeed-cons x line d (All-head NoFeed line lines n)) (All-tail NoFeed line lines n), are a) where
+cut_octet : (x : ℕ) (xs : List ℕ) (lines : List (List ℕ)) → (x ≡ 10 → ⊥) → All NoFeed lines → AreLines xs lines → (more : List (List ℕ)) × All NoFeed more ×
+    AreLines (x ∷ xs) more
+cut_octet x xs [] d n a = (
+  (x ∷ []) ∷ [],
+  All-cons NoFeed (x ∷ []) [] (NoFeed-cons x [] d (λ c. omega (arith, c.1))) n,
+  inr ([], x ∷ [], refl, omega arith, ap (λ l. x ∷ l) (AreLines-none xs a)),
+)
+cut_octet x xs (line ∷ lines) d n a = (
+  (x ∷ line) ∷ lines,
+  All-cons NoFeed (x ∷ line) lines (NoFeed-cons x line d (All-head NoFeed line lines n))
+      (All-tail NoFeed line lines n),
+  are a,
+) where
   are : AreLines xs (line ∷ lines) → AreLines (x ∷ xs) ((x ∷ line) ∷ lines)
   are (inl e) = inl (ap (λ l. x ∷ l) e)
   are (inr ([], last, e, p, o)) =
@@ -111,15 +128,22 @@ cut_octet x xs (line ∷ lines) d n a = ((x ∷ line) ∷ lines, All-cons NoFeed
 pub cut : (octets : List ℕ) → (lines : List (List ℕ)) × All NoFeed lines × AreLines octets lines
 cut [] = ([], λ k d h. absurd (omega (arith, h)), inl refl)
 cut (x ∷ xs) = let c = cut xs in by (x == 10) refl c where
-  by : (b : Bool) → (x == 10) ≡ b → (c : (lines : List (List ℕ)) × All NoFeed lines × AreLines xs lines) → (lines : List (List ℕ)) × All NoFeed lines × AreLines (x ∷ xs) lines
-  by true e c = let f : x ≡ 10 = eqb-true x 10 e in ([] ∷ c.0, All-cons NoFeed [] c.0 (λ k. omega (arith, k.1)) c.1, subst (λ y. AreLines (y ∷ xs) ([] ∷ c.0)) (sym f) (cut_feed xs c.0 c.2))
+  by : (b : Bool) → (x == 10) ≡ b → (c : (lines : List (List ℕ)) × All NoFeed lines × AreLines xs lines) → (lines : List (List ℕ)) × All NoFeed lines ×
+      AreLines (x ∷ xs) lines
+  by true e c = let f : x ≡ 10 = eqb-true x 10 e in (
+    [] ∷ c.0,
+    All-cons NoFeed [] c.0 (λ k. omega (arith, k.1)) c.1,
+    subst (λ y. AreLines (y ∷ xs) ([] ∷ c.0)) (sym f) (cut_feed xs c.0 c.2),
+  )
   by false e c = cut_octet x xs c.0 (λ f. let t : (x == 10) ≡ true = eq-eqb x 10 f in cc) c.1 c.2
 
 -- lines at the front of octets are the first of all their lines
-pub front_of : (octets rest : List ℕ) (front lines : List (List ℕ)) → All NoFeed front → All NoFeed lines → octets ≡ closed front ++ rest → AreLines octets lines → (more : List (List ℕ)) × (lines ≡ front ++ more) × AreLines rest more
+pub front_of : (octets rest : List ℕ) (front lines : List (List ℕ)) → All NoFeed front → All NoFeed lines → octets ≡ closed front ++ rest →
+    AreLines octets lines → (more : List (List ℕ)) × (lines ≡ front ++ more) × AreLines rest more
 front_of octets rest [] lines n m e a = (lines, refl, subst (λ o. AreLines o lines) e a)
 front_of octets rest (x ∷ front) [] n m e a =
-    let f : [] ≡ x ++ 10 ∷ (closed front ++ rest) = sym (AreLines-none octets a) ∙ e ∙ append_assoc (close x) (closed front) rest ∙ close-append x (closed front ++ rest) in
+    let f : [] ≡ x ++ 10 ∷ (closed front ++ rest) = sym (AreLines-none octets a) ∙ e ∙ append_assoc (close x) (closed front) rest ∙
+    close-append x (closed front ++ rest) in
     absurd (NoFeed-no_line [] x (closed front ++ rest) (λ c. omega (arith, c.1)) f)
 front_of octets rest (x ∷ front) (y ∷ lines) n m e a =
     let f : octets ≡ x ++ 10 ∷ (closed front ++ rest) = e ∙ append_assoc (close x) (closed front) rest ∙ close-append x (closed front ++ rest) in

@@ -27,7 +27,8 @@ Grows-trans None b c xs ys p q = rw (q, p) refl
 Grows-trans (Some x) b c xs ys p q = rw (q, p) (ap Some (append_assoc x xs ys))
 
 -- a write took more of the octets
-pub Grows-take : (a b c : Option (List ℕ)) (xs : List ℕ) (at n : ℕ) → Grows a b (take at xs) → Grows b c (take n (slice_range xs at (length xs))) → Grows a c (take (at + n) xs)
+pub Grows-take : (a b c : Option (List ℕ)) (xs : List ℕ) (at n : ℕ) → Grows a b (take at xs) → Grows b c (take n (slice_range xs at (length xs))) →
+    Grows a c (take (at + n) xs)
 Grows-take a b c xs at n p q =
     let rest : slice_range xs at (length xs) ≡ drop at xs = take_all _ (drop at xs) (omega (arith, length-drop at xs)) in
     rw (take-add at n xs) (Grows-trans a b c _ _ p (rw rest at q))
@@ -37,7 +38,8 @@ pub Hands-nil : (written : Option (List ℕ)) (held : List ℕ) → Hands writte
 Hands-nil written held = ([], Grows-nil written, append-nil held)
 
 -- octets and then others are handed over
-pub Hands-trans : (a b c : Option (List ℕ)) (held keeps left xs ys : List ℕ) → Hands a held b keeps xs → Hands b keeps c left ys → Hands a held c left (xs ++ ys)
+pub Hands-trans : (a b c : Option (List ℕ)) (held keeps left xs ys : List ℕ) → Hands a held b keeps xs → Hands b keeps c left ys →
+    Hands a held c left (xs ++ ys)
 Hands-trans a b c held keeps left xs ys p q = (
   p.0 ++ q.0,
   Grows-trans a b c p.0 q.0 p.1 q.1,
@@ -48,7 +50,8 @@ Hands-trans a b c held keeps left xs ys p q = (
 pub Hands-all : (a b : Option (List ℕ)) (held octets keeps : List ℕ) → octets ≡ held → Grows a b octets → keeps ≡ [] → Hands a held b keeps []
 Hands-all a b held octets keeps o g e = (octets, g, ap (λ l. l ++ []) (sym o) ∙ ap (λ l. octets ++ l) (sym e))
 
-pub Hands-cut : (a b : Option (List ℕ)) (held octets keeps : List ℕ) (at : ℕ) → octets ≡ held → Grows a b (take at octets) → keeps ≡ drop at octets → Hands a held b keeps []
+pub Hands-cut : (a b : Option (List ℕ)) (held octets keeps : List ℕ) (at : ℕ) → octets ≡ held → Grows a b (take at octets) → keeps ≡ drop at octets →
+    Hands a held b keeps []
 Hands-cut a b held octets keeps at o g e = (
   take at octets,
   g,
@@ -59,70 +62,142 @@ Hands-cut a b held octets keeps at o g e = (
 pub said : (a b c : Option (List ℕ)) (held keeps left words : List ℕ) → Hands a held b keeps words → Hands b keeps c left [] → Hands a held c left words
 said a b c held keeps left words p q = subst (Hands a held c left) (append-nil words) (Hands-trans a b c held keeps left words [] p q)
 
-pub said_ok : (a b c : Option (List ℕ)) (held keeps left words : List ℕ) (r : Result (Unit {0}) Unwritten) → Hands a held b keeps words → OnOk r (left ≡ []) → Hands b keeps c left [] → OnOk r (Hands a held c [] words)
+pub said_ok : (a b c : Option (List ℕ)) (held keeps left words : List ℕ) (r : Result (Unit {0}) Unwritten) → Hands a held b keeps words → OnOk r (left ≡ []) →
+    Hands b keeps c left [] → OnOk r (Hands a held c [] words)
 said_ok a b c held keeps left words (Ok u) p e q = subst (λ l. Hands a held c l words) e (said a b c held keeps left words p q)
 said_ok a b c held keeps left words (Err x) p e q = tt
 
-pub said_err : (a b c : Option (List ℕ)) (held keeps left words : List ℕ) (r : Result (Unit {0}) Unwritten) → Hands a held b keeps words → Hands b keeps c left [] → OnErr r (Breaks (λ w. w ≡ words) a held c left)
+pub said_err : (a b c : Option (List ℕ)) (held keeps left words : List ℕ) (r : Result (Unit {0}) Unwritten) → Hands a held b keeps words →
+    Hands b keeps c left [] → OnErr r (Breaks (λ w. w ≡ words) a held c left)
 said_err a b c held keeps left words (Ok u) p q = tt
 said_err a b c held keeps left words (Err x) p q = (words, said a b c held keeps left words p q, inr ([], append-nil words))
 
-pub Breaks-imp : (P Q : List ℕ → Type 0) → ((w : List ℕ) → P w → Q w) → (a c : Option (List ℕ)) (held keeps : List ℕ) → Breaks P a held c keeps → Breaks Q a held c keeps
+pub Breaks-imp : (P Q : List ℕ → Type 0) → ((w : List ℕ) → P w → Q w) → (a c : Option (List ℕ)) (held keeps : List ℕ) → Breaks P a held c keeps →
+    Breaks Q a held c keeps
 Breaks-imp P Q f a c held keeps b = (b.0, b.1, elim b.2 [ inl e ↦ inl e | inr r ↦ inr (r.0, f (b.0 ++ r.0) r.1) ])
 
 -- how it ends where only a part was written
-pub Ends-broken : (s : Sayings) (a c : Option (List ℕ)) (held keeps : List ℕ) (fault : Unwritten) → Breaks (IsSaying s) a held c keeps → (fault ≡ NotWritten → 0 < length keeps) → Ends s a held c (outcome_of fault)
+pub Ends-broken : (s : Sayings) (a c : Option (List ℕ)) (held keeps : List ℕ) (fault : Unwritten) → Breaks (IsSaying s) a held c keeps →
+    (fault ≡ NotWritten → 0 < length keeps) → Ends s a held c (outcome_of fault)
 Ends-broken s a c held keeps NotWritten b some = (keeps, some refl, b)
 Ends-broken s a c held keeps NoMemory b some = (keeps, b)
 
-cut_bad : (words : List ℕ) (a c : Option (List ℕ)) (held keeps : List ℕ) → Breaks (λ w. w ≡ words) a held c keeps → Breaks (IsSaying (only_bad words)) a held c keeps
+cut_bad : (words : List ℕ) (a c : Option (List ℕ)) (held keeps : List ℕ) → Breaks (λ w. w ≡ words) a held c keeps →
+    Breaks (IsSaying (only_bad words)) a held c keeps
 cut_bad words a c held keeps b = Breaks-imp (λ w. w ≡ words) (IsSaying (only_bad words)) (λ w e. inr (inl e)) a c held keeps b
 
-cut_limited : (words : List ℕ) (a c : Option (List ℕ)) (held keeps : List ℕ) → Breaks (λ w. w ≡ words) a held c keeps → Breaks (IsSaying (only_limited words)) a held c keeps
+cut_limited : (words : List ℕ) (a c : Option (List ℕ)) (held keeps : List ℕ) → Breaks (λ w. w ≡ words) a held c keeps →
+    Breaks (IsSaying (only_limited words)) a held c keeps
 cut_limited words a c held keeps b = Breaks-imp (λ w. w ≡ words) (IsSaying (only_limited words)) (λ w e. inr (inr (inl e))) a c held keeps b
 
-pub cut_so : (outcome : Outcome) (words : List ℕ) (a c : Option (List ℕ)) (held keeps : List ℕ) → (outcome ≡ Bad) ⊎ (outcome ≡ Limit) → Breaks (λ w. w ≡ words) a held c keeps → Breaks (IsSaying (only_so outcome words)) a held c keeps
+pub cut_so : (outcome : Outcome) (words : List ℕ) (a c : Option (List ℕ)) (held keeps : List ℕ) → (outcome ≡ Bad) ⊎ (outcome ≡ Limit) →
+    Breaks (λ w. w ≡ words) a held c keeps → Breaks (IsSaying (only_so outcome words)) a held c keeps
 cut_so outcome words a c held keeps told b = elim told [ inl e ↦ rw e (cut_bad words a c held keeps b) | inr e ↦ rw e (cut_limited words a c held keeps b) ]
 
 -- a part of a saying behind nothing
-Breaks-behind : (P Q : List ℕ → Type 0) → ((w : List ℕ) → P w → Q w) → (a b c : Option (List ℕ)) (held keeps left : List ℕ) → Hands a held b keeps [] → Breaks P b keeps c left → Breaks Q a held c left
-Breaks-behind P Q f a b c held keeps left h p = (p.0, Hands-trans a b c held keeps left [] p.0 h p.1, elim p.2 [ inl e ↦ inl e | inr r ↦ inr (r.0, f (p.0 ++ r.0) r.1) ])
+Breaks-behind : (P Q : List ℕ → Type 0) → ((w : List ℕ) → P w → Q w) → (a b c : Option (List ℕ)) (held keeps left : List ℕ) → Hands a held b keeps [] →
+    Breaks P b keeps c left → Breaks Q a held c left
+Breaks-behind P Q f a b c held keeps left h p = (
+  p.0,
+  Hands-trans a b c held keeps left [] p.0 h p.1,
+  elim p.2 [ inl e ↦ inl e | inr r ↦ inr (r.0, f (p.0 ++ r.0) r.1) ],
+)
 
 -- the words of a refusal, behind nothing, where they are a saying
-pub Ends-only_bad : (s : Sayings) (words : List ℕ) (a b c : Option (List ℕ)) (held keeps : List ℕ) (o : Outcome) → s.bad words → Hands a held b keeps [] → Ends (only_bad words) b keeps c o → Ends s a held c o
+pub Ends-only_bad : (s : Sayings) (words : List ℕ) (a b c : Option (List ℕ)) (held keeps : List ℕ) (o : Outcome) → s.bad words → Hands a held b keeps [] →
+    Ends (only_bad words) b keeps c o → Ends s a held c o
 Ends-only_bad s words a b c held keeps Bad p h e = (e.0, rw e.1 p, Hands-trans a b c held keeps [] [] e.0 h e.2)
 Ends-only_bad s words a b c held keeps ReadFault p h e = e
-Ends-only_bad s words a b c held keeps WriteFault p h e = (e.0, e.1, Breaks-behind (IsSaying (only_bad words)) (IsSaying s) (λ w q. elim q [ inl x ↦ absurd x | inr y ↦ elim y [ inl z ↦ inr (inl (rw z p)) | inr y ↦ elim y [ inl x ↦ absurd x | inr x ↦ absurd x ] ] ]) a b c held keeps e.0 h e.2)
-Ends-only_bad s words a b c held keeps OutOfMemory p h e = (e.0, Breaks-behind (IsSaying (only_bad words)) (IsSaying s) (λ w q. elim q [ inl x ↦ absurd x | inr y ↦ elim y [ inl z ↦ inr (inl (rw z p)) | inr y ↦ elim y [ inl x ↦ absurd x | inr x ↦ absurd x ] ] ]) a b c held keeps e.0 h e.1)
+Ends-only_bad s words a b c held keeps WriteFault p h e = (
+  e.0,
+  e.1,
+  Breaks-behind (IsSaying (only_bad words)) (IsSaying s) (λ w q. elim q [
+    | inl x ↦
+        absurd x
+    | inr y ↦ elim y [ inl z ↦ inr (inl (rw z p)) | inr y ↦ elim y [ inl x ↦ absurd x | inr x ↦ absurd x ] ]
+  ]) a b c held keeps e.0 h e.2,
+)
+Ends-only_bad s words a b c held keeps OutOfMemory p h e = (
+  e.0,
+  Breaks-behind (IsSaying (only_bad words)) (IsSaying s) (λ w q. elim q [
+    | inl x ↦
+        absurd x
+    | inr y ↦ elim y [ inl z ↦ inr (inl (rw z p)) | inr y ↦ elim y [ inl x ↦ absurd x | inr x ↦ absurd x ] ]
+  ]) a b c held keeps e.0 h e.1,
+)
 Ends-only_bad s words a b c held keeps _ p h e = absurd e.1
 
 -- the words of a limit, behind nothing, where they are a saying
-pub Ends-only_limited : (s : Sayings) (words : List ℕ) (a b c : Option (List ℕ)) (held keeps : List ℕ) (o : Outcome) → s.limited words → Hands a held b keeps [] → Ends (only_limited words) b keeps c o → Ends s a held c o
+pub Ends-only_limited : (s : Sayings) (words : List ℕ) (a b c : Option (List ℕ)) (held keeps : List ℕ) (o : Outcome) → s.limited words →
+    Hands a held b keeps [] → Ends (only_limited words) b keeps c o → Ends s a held c o
 Ends-only_limited s words a b c held keeps ReadFault p h e = e
-Ends-only_limited s words a b c held keeps WriteFault p h e = (e.0, e.1, Breaks-behind (IsSaying (only_limited words)) (IsSaying s) (λ w q. elim q [ inl x ↦ absurd x | inr y ↦ elim y [ inl z ↦ absurd z | inr y ↦ elim y [ inl x ↦ inr (inr (inl (rw x p))) | inr x ↦ absurd x ] ] ]) a b c held keeps e.0 h e.2)
+Ends-only_limited s words a b c held keeps WriteFault p h e = (
+  e.0,
+  e.1,
+  Breaks-behind (IsSaying (only_limited words)) (IsSaying s) (λ w q. elim q [
+    | inl x ↦
+        absurd x
+    | inr y ↦ elim y [ inl z ↦ absurd z | inr y ↦ elim y [ inl x ↦ inr (inr (inl (rw x p))) | inr x ↦ absurd x ] ]
+  ]) a b c held keeps e.0 h e.2,
+)
 Ends-only_limited s words a b c held keeps Limit p h e = (e.0, rw e.1 p, Hands-trans a b c held keeps [] [] e.0 h e.2)
-Ends-only_limited s words a b c held keeps OutOfMemory p h e = (e.0, Breaks-behind (IsSaying (only_limited words)) (IsSaying s) (λ w q. elim q [ inl x ↦ absurd x | inr y ↦ elim y [ inl z ↦ absurd z | inr y ↦ elim y [ inl x ↦ inr (inr (inl (rw x p))) | inr x ↦ absurd x ] ] ]) a b c held keeps e.0 h e.1)
+Ends-only_limited s words a b c held keeps OutOfMemory p h e = (
+  e.0,
+  Breaks-behind (IsSaying (only_limited words)) (IsSaying s) (λ w q. elim q [
+    | inl x ↦
+        absurd x
+    | inr y ↦ elim y [ inl z ↦ absurd z | inr y ↦ elim y [ inl x ↦ inr (inr (inl (rw x p))) | inr x ↦ absurd x ] ]
+  ]) a b c held keeps e.0 h e.1,
+)
 Ends-only_limited s words a b c held keeps _ p h e = absurd e.1
 
 -- how it ends where the treatment stops at a line
-pub Ends-line : (m : Meaning) (lines : List (List ℕ)) (text : List ℕ) (number : ℕ) (line : List ℕ) (a b c : Option (List ℕ)) (held keeps left : List ℕ) (stop : Stop) (o : Outcome)
-    → StopsAt m lines text line a held b keeps stop → (stop ≡ Unwrote → 0 < length keeps) → Stopped number b keeps c left stop o → Ends (line_sayings m lines text number line) a held c o
-Ends-line m lines text number line a b c held keeps left (Refused cause) o p w e = Ends-only_bad (line_sayings m lines text number line) (bad_line number cause) a b c held keeps o (cause, p.1, refl) p.0 e
-Ends-line m lines text number line a b c held keeps left Limited o p w e = Ends-only_limited (line_sayings m lines text number line) (limit_line number) a b c held keeps o (p.1, refl) p.0 e
-Ends-line m lines text number line a b c held keeps left Unwrote o p w e = rw (e.0, e.1) (keeps, w refl, Breaks-imp (λ more. m.accepts (lines ++ line ∷ []) (text ++ more)) (IsSaying (line_sayings m lines text number line)) (λ x y. inr (inr (inr y))) a b held keeps p)
-Ends-line m lines text number line a b c held keeps left Unheld o p w e = rw (e.0, e.1) (keeps, Breaks-imp (λ more. m.accepts (lines ++ line ∷ []) (text ++ more)) (IsSaying (line_sayings m lines text number line)) (λ x y. inr (inr (inr y))) a b held keeps p)
+pub Ends-line : (m : Meaning) (lines : List (List ℕ)) (text : List ℕ) (number : ℕ) (line : List ℕ) (a b c : Option (List ℕ)) (held keeps left : List ℕ)
+    (stop : Stop) (o : Outcome)
+    → StopsAt m lines text line a held b keeps stop → (stop ≡ Unwrote → 0 < length keeps) → Stopped number b keeps c left stop o →
+    Ends (line_sayings m lines text number line) a held c o
+Ends-line m lines text number line a b c held keeps left (Refused cause) o p w e =
+    Ends-only_bad (line_sayings m lines text number line) (bad_line number cause) a b c held keeps o (cause, p.1, refl) p.0 e
+Ends-line m lines text number line a b c held keeps left Limited o p w e = Ends-only_limited (line_sayings m lines text number line) (limit_line number) a b c
+    held keeps o (p.1, refl) p.0 e
+Ends-line m lines text number line a b c held keeps left Unwrote o p w e = rw (e.0, e.1) (
+  keeps,
+  w refl,
+  Breaks-imp (λ more. m.accepts (lines ++ line ∷ []) (text ++ more)) (IsSaying (line_sayings m lines text number line)) (λ x y. inr (inr (inr y))) a b held
+      keeps p,
+)
+Ends-line m lines text number line a b c held keeps left Unheld o p w e = rw (e.0, e.1) (
+  keeps,
+  Breaks-imp (λ more. m.accepts (lines ++ line ∷ []) (text ++ more)) (IsSaying (line_sayings m lines text number line)) (λ x y. inr (inr (inr y))) a b held
+      keeps p,
+)
 
 -- how it ends where the treatment stops at the input's end
 pub Ends-end : (m : Meaning) (lines : List (List ℕ)) (number : ℕ) (a b c : Option (List ℕ)) (held keeps left : List ℕ) (stop : Stop) (o : Outcome)
-    → StopsAtEnd m lines a held b keeps stop → (stop ≡ Unwrote → 0 < length keeps) → Stopped number b keeps c left stop o → Ends (end_sayings m lines number) a held c o
-Ends-end m lines number a b c held keeps left (Refused cause) o p w e = Ends-only_bad (end_sayings m lines number) (bad_line number cause) a b c held keeps o (cause, p.1, refl) p.0 e
+    → StopsAtEnd m lines a held b keeps stop → (stop ≡ Unwrote → 0 < length keeps) → Stopped number b keeps c left stop o →
+    Ends (end_sayings m lines number) a held c o
+Ends-end m lines number a b c held keeps left (Refused cause) o p w e = Ends-only_bad (end_sayings m lines number) (bad_line number cause) a b c held keeps o
+    (cause, p.1, refl) p.0 e
 Ends-end m lines number a b c held keeps left Limited o p w e = absurd p
-Ends-end m lines number a b c held keeps left Unwrote o p w e = rw (e.0, e.1) (keeps, w refl, Breaks-imp (m.ends lines) (IsSaying (end_sayings m lines number)) (λ x y. inl y) a b held keeps p)
-Ends-end m lines number a b c held keeps left Unheld o p w e = rw (e.0, e.1) (keeps, Breaks-imp (m.ends lines) (IsSaying (end_sayings m lines number)) (λ x y. inl y) a b held keeps p)
+Ends-end m lines number a b c held keeps left Unwrote o p w e = rw (e.0, e.1) (
+  keeps,
+  w refl,
+  Breaks-imp (m.ends lines) (IsSaying (end_sayings m lines number)) (λ x y. inl y) a b held keeps p,
+)
+Ends-end m lines number a b c held keeps left Unheld o p w e = rw (e.0, e.1) (
+  keeps,
+  Breaks-imp (m.ends lines) (IsSaying (end_sayings m lines number)) (λ x y. inl y) a b held keeps p,
+)
 
 -- how it ends where the input's end is accepted, and all that is held is written or not
-pub Ends-closed : (m : Meaning) (lines : List (List ℕ)) (number : ℕ) (a b c : Option (List ℕ)) (held keeps left : List ℕ) → Closes m lines a held b keeps → Hands b keeps c left [] → left ≡ [] → Ends (end_sayings m lines number) a held c Done
+pub Ends-closed : (m : Meaning) (lines : List (List ℕ)) (number : ℕ) (a b c : Option (List ℕ)) (held keeps left : List ℕ) → Closes m lines a held b keeps →
+    Hands b keeps c left [] → left ≡ [] → Ends (end_sayings m lines number) a held c Done
 Ends-closed m lines number a b c held keeps left p h e = (p.0, p.2, subst (λ l. Hands a held c l p.0) e (said a b c held keeps left p.0 p.1 h))
 
-pub Breaks-closed : (m : Meaning) (lines : List (List ℕ)) (number : ℕ) (a b c : Option (List ℕ)) (held keeps left : List ℕ) → Closes m lines a held b keeps → Hands b keeps c left [] → Breaks (IsSaying (end_sayings m lines number)) a held c left
-Breaks-closed m lines number a b c held keeps left p h = (p.0, said a b c held keeps left p.0 p.1 h, inr ([], inl (subst (m.ends lines) (sym (append-nil p.0)) p.2)))
+pub Breaks-closed : (m : Meaning) (lines : List (List ℕ)) (number : ℕ) (a b c : Option (List ℕ)) (held keeps left : List ℕ) → Closes m lines a held b keeps →
+    Hands b keeps c left [] → Breaks (IsSaying (end_sayings m lines number)) a held c left
+Breaks-closed m lines number a b c held keeps left p h = (
+  p.0,
+  said a b c held keeps left p.0 p.1 h,
+  inr ([], inl (subst (m.ends lines) (sym (append-nil p.0)) p.2)),
+)

@@ -1,5 +1,6 @@
 -- Laws of a long line that is passed over.
-use Rattle.std.proofs.Common.{◌≡◌, ◌≢◌, ℕ, ◌<◌, ◌+◌, List, [], ◌∷◌, ◌++◌, sym, ap, ◌∙◌, append_assoc, append-nil, length, take, arith, length-append, inl, inr, subst, true}
+use Rattle.std.proofs.Common.{◌≡◌, ◌≢◌, ℕ, ◌<◌, ◌+◌, List, [], ◌∷◌, ◌++◌, sym, ap, ◌∙◌, append_assoc, append-nil, length, take, arith, length-append, inl, inr}
+use Rattle.std.proofs.Common.{subst, true}
 use Rattle.std.{proofs.lemmas.List.take-append-le, proofs.lemmas.List.Elements.Contains-append_cases, specs.declared.option.Option.Option}
 use Rattle.tsp_io.specs.Streams.{Gives}
 use Rattle.tsp_lines.specs.Readings.{ReaderValue, IsNext, IsPassed, ends_input, long_of}
@@ -16,10 +17,28 @@ abbrev pub keeping : ReaderValue → List ℕ → ReaderValue
 keeping r start = record r { start = start }
 
 -- what is given behind a part of a long line is given of the whole
-pub IsNext-passed : (r : ReaderValue) (front octets start : List ℕ) (n : Next) → NoFeed front → 1024 < length front → start ≡ take 8 front → IsPassed r octets n → IsNext (keeping r start) (front ++ octets) n
-IsNext-passed r front octets start Long f l s p = (front ++ p.0, NoFeed-append front p.0 f p.1, omega (arith, length-append front p.0, l), ap (λ o. front ++ o) p.2 ∙ rw (append_assoc front p.0 (10 ∷ [])) (sym (append_assoc front (close p.0) r.held)), s ∙ sym (take-append-le 8 front p.0 (omega (arith, l))), p.3)
+pub IsNext-passed : (r : ReaderValue) (front octets start : List ℕ) (n : Next) → NoFeed front → 1024 < length front → start ≡ take 8 front →
+    IsPassed r octets n → IsNext (keeping r start) (front ++ octets) n
+IsNext-passed r front octets start Long f l s p = (
+  front ++ p.0,
+  NoFeed-append front p.0 f p.1,
+  omega (arith, length-append front p.0, l),
+  ap (λ o. front ++ o) p.2 ∙ rw (append_assoc front p.0 (10 ∷ [])) (sym (append_assoc front (close p.0) r.held)),
+  s ∙
+      sym (take-append-le 8 front p.0 (omega (arith, l))),
+  p.3,
+)
 IsNext-passed r front octets start LongLast f l s p = rw (p.0, append-nil front) (f, l, p.1, s, p.2)
-IsNext-passed r front octets start Limit f l s p = (p.0, (front ++ p.1.0, p.1.1, NoFeed-append front p.1.0 f p.1.2, ap (λ o. front ++ o) p.1.3 ∙ sym (append_assoc front p.1.0 (p.1.1 ∷ []))))
+IsNext-passed r front octets start Limit f l s p = (
+  p.0,
+  (
+    front ++ p.1.0,
+    p.1.1,
+    NoFeed-append front p.1.0 f p.1.2,
+    ap (λ o. front ++ o) p.1.3 ∙
+        sym (append_assoc front p.1.0 (p.1.1 ∷ [])),
+  ),
+)
 IsNext-passed r front octets start Failed f l s p = rw (p.0, append-nil front) (f, p.1)
 IsNext-passed r front octets start _ f l s p = absurd p
 
@@ -31,7 +50,8 @@ passed a b c r held octets more start got n l s g f h e p = (
   octets ++ more,
   Gives-trans a b c octets more g h,
   omega (arith, e, length-append octets more),
-  subst (λ o. IsNext (keeping r start) o n) (append_assoc held octets more) (IsNext-passed r (held ++ octets) more start n f (omega (arith, l, length-append held octets)) (s ∙ sym (take-append-le 8 held octets (omega (arith, l)))) p),
+  subst (λ o. IsNext (keeping r start) o n) (append_assoc held octets more) (IsNext-passed r (held ++
+      octets) more start n f (omega (arith, l, length-append held octets)) (s ∙ sym (take-append-le 8 held octets (omega (arith, l)))) p),
 )
 
 pub passed_more : (a b c : Option (List ℕ)) (held octets more : List ℕ) (got now : ℕ)

@@ -11,7 +11,10 @@ StopsAt-stop_of m lines text line a b held keeps NotWritten h = h
 StopsAt-stop_of m lines text line a b held keeps NoMemory h = h
 
 -- where `?` leaves a treatment of a line
-pub MatchResult-line : (m : Meaning) (lines : List (List ℕ)) (text line : List ℕ) (a b : Option (List ℕ)) (held keeps : List ℕ) (OnGo : Unit {0} → Type 0) (r : Result (Unit {0}) Stop) (f : Unwritten)
-    → IsErr r × IsErrAnd r (λ stop. stop ≡ stop_of f) → Breaks (λ more. m.accepts (lines ++ line ∷ []) (text ++ more)) a held b keeps → MatchResult r OnGo (StopsAt m lines text line a held b keeps)
+pub MatchResult-line : (m : Meaning) (lines : List (List ℕ)) (text line : List ℕ) (a b : Option (List ℕ)) (held keeps : List ℕ) (OnGo : Unit {0} →
+    Type 0) (r : Result (Unit {0}) Stop) (f : Unwritten)
+    → IsErr r × IsErrAnd r (λ stop. stop ≡ stop_of f) → Breaks (λ more. m.accepts (lines ++ line ∷ []) (text ++ more)) a held b keeps →
+    MatchResult r OnGo (StopsAt m lines text line a held b keeps)
 MatchResult-line m lines text line a b held keeps OnGo (Ok u) f e h = cc
-MatchResult-line m lines text line a b held keeps OnGo (Err stop) f e h = subst (StopsAt m lines text line a held b keeps) (sym e.1) (StopsAt-stop_of m lines text line a b held keeps f h)
+MatchResult-line m lines text line a b held keeps OnGo (Err stop) f e h = subst (StopsAt m lines text line a held b keeps) (sym e.1)
+    (StopsAt-stop_of m lines text line a b held keeps f h)

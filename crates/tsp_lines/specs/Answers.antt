@@ -32,7 +32,8 @@ pub record IsAnswer (m : Meaning) (limit : ℕ) (octets : List ℕ) (outcome : O
 abbrev pub IsPart : List ℕ → Option (List ℕ) → Option (List ℕ) → List ℕ → Type 0
 IsPart output written now rest = (part : List ℕ) × (output ≡ part ++ rest) × Grows written now part
 
--- what an outcome says, given the answer's output and outcome: the outcomes are equal and the output was written, or its beginning was, which after a failed write isn't the whole
+-- what an outcome says, given the answer's output and outcome: the outcomes are equal and the output was written, or its beginning was, which after a failed
+-- write isn't the whole
 abbrev pub Agrees : Outcome → List ℕ → Option (List ℕ) → Option (List ℕ) → Outcome → Type 0
 Agrees outcome output written now Done = (outcome ≡ Done) × Grows written now output
 Agrees outcome output written now Bad = (outcome ≡ Bad) × Grows written now output
@@ -43,4 +44,5 @@ Agrees outcome output written now OutOfMemory = (rest : List ℕ) × IsPart outp
 
 -- an outcome agrees with the answer to the input, if the input is known
 abbrev pub Answers : Meaning → ℕ → Option (List ℕ) → Option (List ℕ) → Option (List ℕ) → Outcome → Type 0
-Answers m limit input written now result = (octets : List ℕ) (outcome : Outcome) (output : List ℕ) → input ≡ Some octets → IsAnswer m limit octets outcome output → Agrees outcome output written now result
+Answers m limit input written now result = (octets : List ℕ) (outcome : Outcome) (output : List ℕ) → input ≡ Some octets →
+    IsAnswer m limit octets outcome output → Agrees outcome output written now result

@@ -7,7 +7,8 @@ pub record IsDefinite (m : Meaning) : Type 0 where
   -- lines have one output
   pub one_output : (lines : List (List ℕ)) (text other : List ℕ) → m.accepts lines text → m.accepts lines other → text ≡ other
   -- a line is accepted only after accepted lines that allow a further line, and its output follows theirs
-  pub before : (lines : List (List ℕ)) (line text : List ℕ) → m.accepts (lines ++ line ∷ []) text → (¬ m.full lines) × ((front : List ℕ) × (more : List ℕ) × m.accepts lines front × (text ≡ front ++ more))
+  pub before : (lines : List (List ℕ)) (line text : List ℕ) → m.accepts (lines ++ line ∷ []) text → (¬ m.full lines) ×
+      ((front : List ℕ) × (more : List ℕ) × m.accepts lines front × (text ≡ front ++ more))
   -- an accepted line isn't refused, and passes no limit
   pub not_refused : (lines : List (List ℕ)) (line text cause : List ℕ) → m.accepts (lines ++ line ∷ []) text → m.refuses lines line cause → ⊥
   pub not_limited : (lines : List (List ℕ)) (line text : List ℕ) → m.accepts (lines ++ line ∷ []) text → m.limits lines line → ⊥

@@ -5,7 +5,8 @@ use Rattle.tsp_lines.specs.{Answers.Answers, Definite.IsDefinite, Gatherings.Com
 use Rattle.tsp_lines.specs.{Outcomes.Comes, Outcomes.KeepsUp, declared.treat.Outcome.Outcome}
 use Rattle.tsp_lines.specs.declared.treat.Outcome.TheVariants.{Ok as Done, ReadFault, WriteFault, OutOfMemory}
 
--- how source and sink are left, each given before and after: no count of faults falls, `ReadFault` and `WriteFault` come only if that object's count rose, and it is unchanged where they don't come
+-- how source and sink are left, each given before and after: no count of faults falls, `ReadFault` and `WriteFault` come only if that object's count rose, and
+-- it is unchanged where they don't come
 pub record Leaves {S K : Type 0} (sources : SourceOf S) (sinks : SinkOf K) (source source_now : S) (sink sink_now : K) (outcome : Outcome) : Type 0 where
   pub later : (sources.faults source ≤ sources.faults source_now) × (sinks.faults sink ≤ sinks.faults sink_now)
   pub read : outcome ≡ ReadFault → Rose (sources.faults source) (sources.faults source_now) × (sources.ended source_now ≡ false)
@@ -15,7 +16,8 @@ pub record Leaves {S K : Type 0} (sources : SourceOf S) (sinks : SinkOf K) (sour
   pub ended : outcome ≡ Done → sources.ended source_now ≡ true
 
 -- what comes of an input that is treated line by line
-pub record Treats {S K : Type 0} (sources : SourceOf S) (sinks : SinkOf K) (m : Meaning) (limit : ℕ) (source source_now : S) (sink sink_now : K) (outcome : Outcome) : Type 0 where
+pub record Treats {S K : Type 0} (sources : SourceOf S) (sinks : SinkOf K) (m : Meaning) (limit : ℕ) (source source_now : S) (sink sink_now : K)
+    (outcome : Outcome) : Type 0 where
   pub comes : Comes m limit (sources.left source) (sources.left source_now) (sinks.written sink) (sinks.written sink_now) outcome
   -- if an input has one answer, and this one is known, it agrees with its answer
   pub answers : IsDefinite m → Answers m limit (sources.left source) (sinks.written sink) (sinks.written sink_now) outcome
@@ -23,7 +25,8 @@ pub record Treats {S K : Type 0} (sources : SourceOf S) (sinks : SinkOf K) (m : 
   pub leaves : Leaves sources sinks source source_now sink sink_now outcome
 
 -- what comes of an input that is read whole before a line is treated
-pub record TreatsGathered {S K : Type 0} (sources : SourceOf S) (sinks : SinkOf K) (m : Meaning) (limit : ℕ) (source source_now : S) (sink sink_now : K) (outcome : Outcome) : Type 0 where
+pub record TreatsGathered {S K : Type 0} (sources : SourceOf S) (sinks : SinkOf K) (m : Meaning) (limit : ℕ) (source source_now : S) (sink sink_now : K)
+    (outcome : Outcome) : Type 0 where
   pub comes : ComesGathered m limit (sources.left source) (sources.left source_now) (sinks.written sink) (sinks.written sink_now) outcome
   pub answers : IsDefinite m → Answers m limit (sources.left source) (sinks.written sink) (sinks.written sink_now) outcome
   -- it was read to its end, or to the first octet past the limit, unless a read failed or memory ran out
@@ -35,10 +38,12 @@ pub record TreatsGathered {S K : Type 0} (sources : SourceOf S) (sinks : SinkOf 
 abbrev pub Completes : {S K : Type 0} → SourceOf S → SinkOf K → (List ℕ → Type 0) → ℕ → S → S → K → K → Outcome → Type 0
 Completes sources sinks IsText limit source source_now sink sink_now outcome =
     (octets : List ℕ) → sources.left source ≡ Some octets → length octets ≤ limit → IsText octets
-    → ¬ Rose (sources.faults source) (sources.faults source_now) → ¬ Rose (sinks.faults sink) (sinks.faults sink_now) → (outcome ≡ Done) ⊎ (outcome ≡ OutOfMemory)
+    → ¬ Rose (sources.faults source) (sources.faults source_now) → ¬ Rose (sinks.faults sink) (sinks.faults sink_now) → (outcome ≡ Done) ⊎
+    (outcome ≡ OutOfMemory)
 
 -- what comes of a command of definite meaning, which accepts these texts
-pub record Accepts {S K : Type 0} (sources : SourceOf S) (sinks : SinkOf K) (m : Meaning) (IsText : List ℕ → Type 0) (limit : ℕ) (source source_now : S) (sink sink_now : K) (outcome : Outcome) : Type 0 where
+pub record Accepts {S K : Type 0} (sources : SourceOf S) (sinks : SinkOf K) (m : Meaning) (IsText : List ℕ → Type 0) (limit : ℕ) (source source_now : S)
+    (sink sink_now : K) (outcome : Outcome) : Type 0 where
   pub comes : Comes m limit (sources.left source) (sources.left source_now) (sinks.written sink) (sinks.written sink_now) outcome
   pub answers : Answers m limit (sources.left source) (sinks.written sink) (sinks.written sink_now) outcome
   pub keeps_up : KeepsUp m limit (sources.left source) (sources.left source_now) (sinks.written sink) (sinks.written sink_now)

@@ -10,14 +10,16 @@ use Rattle.tsp_lines.specs.declared.treat.Outcome.TheVariants.{Ok as Done, Bad, 
 
 -- what one read adds to the octets that were read: at most this many, or none at the input's end; if out of memory, the octets are lost
 abbrev pub Adds : ℕ → Option (List ℕ) → Option (List ℕ) → Bool → List ℕ → List ℕ → Added → Type 0
-Adds most left rest ended octets now More = (ended ≡ false) × ((more : List ℕ) × Gives left rest more × (0 < length more) × (length more ≤ most) × (now ≡ octets ++ more))
+Adds most left rest ended octets now More = (ended ≡ false) × ((more : List ℕ) × Gives left rest more × (0 < length more) × (length more ≤ most) ×
+    (now ≡ octets ++ more))
 Adds most left rest ended octets now End = (ended ≡ true) × IsOver rest × Gives left rest [] × (now ≡ octets)
 Adds most left rest ended octets now (Fault NotRead) = (ended ≡ false) × (rest ≡ left)
 Adds most left rest ended octets now (Fault NoMemory) = Unit {0}
 
 -- these octets were read of the input: all, and then its end, or those up to the first one past the limit
 abbrev pub Gathers : ℕ → Option (List ℕ) → Option (List ℕ) → Bool → List ℕ → Type 0
-Gathers limit input left ended octets = Gives input left octets × (((length octets ≤ limit) × IsOver left × (ended ≡ true)) ⊎ ((length octets ≡ limit + 1) × (ended ≡ false)))
+Gathers limit input left ended octets = Gives input left octets × (((length octets ≤ limit) × IsOver left × (ended ≡ true)) ⊎
+    ((length octets ≡ limit + 1) × (ended ≡ false)))
 
 -- the same of octets in memory, none of which was given yet
 abbrev pub GathersAs : ℕ → Option (List ℕ) → Option (List ℕ) → Bool → Gathered → Type 0

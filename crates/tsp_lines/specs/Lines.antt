@@ -40,7 +40,8 @@ IsOver input = IfSome input (λ xs. xs ≡ [])
 
 -- these octets are these lines, of which the last may lack its line feed
 abbrev pub AreLines : List ℕ → List (List ℕ) → Type 0
-AreLines octets lines = (octets ≡ closed lines) ⊎ ((front : List (List ℕ)) × (last : List ℕ) × (lines ≡ front ++ last ∷ []) × (0 < length last) × (octets ≡ closed front ++ last))
+AreLines octets lines = (octets ≡ closed lines) ⊎ ((front : List (List ℕ)) × (last : List ℕ) × (lines ≡ front ++ last ∷ []) × (0 < length last) ×
+    (octets ≡ closed front ++ last))
 
 -- the input is these lines and no more
 abbrev pub IsWhole : ℕ → Option (List ℕ) → List (List ℕ) → Type 0
@@ -52,7 +53,8 @@ HasLines limit input lines = Begins limit input (closed lines) ⊎ IsWhole limit
 
 -- the input begins with these lines and then has this one, ended by a line feed or by the input's end
 abbrev pub HasNext : ℕ → Option (List ℕ) → List (List ℕ) → List ℕ → Type 0
-HasNext limit input lines line = NoFeed line × (Begins limit input (closed lines ++ close line) ⊎ ((0 < length line) × IsInput limit input (closed lines ++ line)))
+HasNext limit input lines line = NoFeed line × (Begins limit input (closed lines ++ close line) ⊎
+    ((0 < length line) × IsInput limit input (closed lines ++ line)))
 
 -- the input begins with these lines, and another octet follows them
 abbrev pub HasMore : ℕ → Option (List ℕ) → List (List ℕ) → Type 0
@@ -60,4 +62,5 @@ HasMore limit input lines = (x : ℕ) × Begins (limit + 1) input (closed lines 
 
 -- the first octet past the limit is in the line after these lines
 abbrev pub IsPast : ℕ → Option (List ℕ) → List (List ℕ) → Type 0
-IsPast limit input lines = (part : List ℕ) × (x : ℕ) × NoFeed part × (length (closed lines ++ part) ≡ limit) × Begins (limit + 1) input (closed lines ++ (part ++ x ∷ []))
+IsPast limit input lines = (part : List ℕ) × (x : ℕ) × NoFeed part × (length (closed lines ++ part) ≡ limit) ×
+    Begins (limit + 1) input (closed lines ++ (part ++ x ∷ []))

@@ -27,15 +27,18 @@ pub record Meaning : Type 1 where
 
 -- the line is accepted and its output handed over; the treatment stands for one line more
 abbrev pub Goes : Meaning → (List (List ℕ) → Type 0) → List (List ℕ) → List ℕ → List ℕ → Option (List ℕ) → List ℕ → Option (List ℕ) → List ℕ → Type 0
-Goes m Stands lines text line written held now keeps = (more : List ℕ) × Hands written held now keeps more × m.accepts (lines ++ line ∷ []) (text ++ more) × Stands (lines ++ line ∷ [])
+Goes m Stands lines text line written held now keeps = (more : List ℕ) × Hands written held now keeps more × m.accepts (lines ++ line ∷ []) (text ++ more) ×
+    Stands (lines ++ line ∷ [])
 
 -- nothing was handed over, or the beginning of an output of this kind
 abbrev pub Breaks : (List ℕ → Type 0) → Option (List ℕ) → List ℕ → Option (List ℕ) → List ℕ → Type 0
 Breaks IsWhole written held now keeps = (part : List ℕ) × Hands written held now keeps part × ((part ≡ []) ⊎ ((rest : List ℕ) × IsWhole (part ++ rest)))
 
 -- what came of octets of which the first line was tried: it went so, with so many octets, or nothing has changed
-abbrev pub Tried : Meaning → (List (List ℕ) → Type 0) → List (List ℕ) → List ℕ → List ℕ → Option (List ℕ) → List ℕ → Option (List ℕ) → List ℕ → Option ℕ → Type 0
-Tried m Stands lines text octets written held now keeps (Some count) = (line : List ℕ) × IsFront octets count line × Goes m Stands lines text line written held now keeps
+abbrev pub Tried : Meaning → (List (List ℕ) → Type 0) → List (List ℕ) → List ℕ → List ℕ → Option (List ℕ) → List ℕ → Option (List ℕ) → List ℕ → Option ℕ →
+    Type 0
+Tried m Stands lines text octets written held now keeps (Some count) = (line : List ℕ) × IsFront octets count line ×
+    Goes m Stands lines text line written held now keeps
 Tried m Stands lines text octets written held now keeps None = Stands lines × (now ≡ written) × (keeps ≡ held)
 
 -- the first line of octets is accepted, and only a part of its output was handed over

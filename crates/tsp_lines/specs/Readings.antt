@@ -60,7 +60,8 @@ ends_input Failed = false
 
 -- what comes of a call that reads up to the next line: source and reader, each before and after, and what it gives
 pub record ReadsNext {S : Type 0} (sources : SourceOf S) (source source_now : S) (reader reader_now : ReaderValue) (given : Next) : Type 0 where
-  pub next : (octets : List ℕ) × Gives (sources.left source) (sources.left source_now) octets × (reader_now.got ≡ reader.got + length octets) × IsNext reader_now (reader.held ++ octets) given
+  pub next : (octets : List ℕ) × Gives (sources.left source) (sources.left source_now) octets × (reader_now.got ≡ reader.got + length octets) ×
+      IsNext reader_now (reader.held ++ octets) given
   pub limit : (reader_now.limit ≡ reader.limit) × (reader_now.got ≤ reader_now.limit + 1)
   pub faults : Counts (sources.faults source) (sources.faults source_now) (given ≡ Failed)
   pub over : ends_input given ≡ true → IsOver (sources.left source_now)

@@ -76,7 +76,8 @@ Stopped number written held now keeps Unwrote outcome = (outcome ≡ WriteFault)
 Stopped number written held now keeps Unheld outcome = (outcome ≡ OutOfMemory) × (now ≡ written) × (keeps ≡ held)
 
 -- how far a treatment is: these lines were read and accepted, and this is their output
-pub record IsAt (m : Meaning) (Stands : List (List ℕ) → Type 0) (input left written now : Option (List ℕ)) (reader : ReaderValue) (held : List ℕ) (number : ℕ) (lines : List (List ℕ)) (text : List ℕ) : Type 0 where
+pub record IsAt (m : Meaning) (Stands : List (List ℕ) → Type 0) (input left written now : Option (List ℕ)) (reader : ReaderValue) (held : List ℕ) (number : ℕ)
+    (lines : List (List ℕ)) (text : List ℕ) : Type 0 where
   pub feedless : All NoFeed lines
   pub accepted : m.accepts lines text
   pub stands : Stands lines
@@ -90,7 +91,8 @@ abbrev pub StandsOpen : Meaning → (List (List ℕ) → Type 0) → List (List 
 StandsOpen m Stands lines = Stands lines × (¬ m.full lines)
 
 -- a turn goes on: the source isn't at its end, less is left to read, and no count of faults rose; source, sink and reader are each given before and after it
-pub record StaysOpen {S K : Type 0} (sources : SourceOf S) (sinks : SinkOf K) (source source_now : S) (sink sink_now : K) (reader reader_now : ReaderValue) (number_now : ℕ) : Type 0 where
+pub record StaysOpen {S K : Type 0} (sources : SourceOf S) (sinks : SinkOf K) (source source_now : S) (sink sink_now : K) (reader reader_now : ReaderValue)
+    (number_now : ℕ) : Type 0 where
   pub unended : sources.ended source_now ≡ false
   pub counted : number_now + length reader_now.held ≤ reader_now.got + 1
   pub smaller : reader_now.limit + 1 - reader_now.got + length reader_now.held < reader.limit + 1 - reader.got + length reader.held
@@ -104,13 +106,19 @@ outcome_of NotWritten = WriteFault
 outcome_of NoMemory = OutOfMemory
 
 -- what came of the first line that is held: the treatment is so far behind it, or so far in front of it and nothing has changed, or it ends
-abbrev pub TriesHeld : Meaning → (List (List ℕ) → Type 0) → Option (List ℕ) → Option (List ℕ) → Option (List ℕ) → Option (List ℕ) → ReaderValue → List ℕ → ℕ → List (List ℕ) → List ℕ → Result Bool Unwritten → Type 0
-TriesHeld m Stands input left written now reader held number lines text (Ok true) = (more : List (List ℕ)) × (longer : List ℕ) × IsAt m Stands input left written now reader held number more longer
-TriesHeld m Stands input left written now reader held number lines text (Ok false) = IsAt m (StandsOpen m Stands) input left written now reader held number lines text
+abbrev pub TriesHeld : Meaning → (List (List ℕ) → Type 0) → Option (List ℕ) → Option (List ℕ) → Option (List ℕ) → Option (List ℕ) → ReaderValue → List ℕ → ℕ →
+    List (List ℕ) → List ℕ → Result Bool Unwritten → Type 0
+TriesHeld m Stands input left written now reader held number lines text (Ok true) = (more : List (List ℕ)) × (longer : List ℕ) ×
+    IsAt m Stands input left written now reader held number more longer
+TriesHeld m Stands input left written now reader held number lines text (Ok false) =
+    IsAt m (StandsOpen m Stands) input left written now reader held number lines text
 TriesHeld m Stands input left written now reader held number lines text (Err fault) = Comes m reader.limit input left written now (outcome_of fault)
 
--- wherever the treatment is, output that kept up with input before a call keeps up with it after that: what is left of the input and what was written, each before and after
-abbrev pub StillKeepsUp : Meaning → (List (List ℕ) → Type 0) → ReaderValue → List ℕ → ℕ → Option (List ℕ) → Option (List ℕ) → Option (List ℕ) → Option (List ℕ) → Type 0
+-- wherever the treatment is, output that kept up with input before a call keeps up with it after that: what is left of the input and what was written, each
+-- before and after
+abbrev pub StillKeepsUp : Meaning → (List (List ℕ) → Type 0) → ReaderValue → List ℕ → ℕ → Option (List ℕ) → Option (List ℕ) → Option (List ℕ) →
+    Option (List ℕ) → Type 0
 StillKeepsUp m Stands reader held number left left_now now now_after =
-    (input written : Option (List ℕ)) (lines : List (List ℕ)) (text : List ℕ) → IsAt m Stands input left written now reader held number lines text → KeepsUp m reader.limit input left written now
+    (input written : Option (List ℕ)) (lines : List (List ℕ)) (text : List ℕ) → IsAt m Stands input left written now reader held number lines text →
+    KeepsUp m reader.limit input left written now
     → KeepsUp m reader.limit input left_now written now_after

@@ -13,13 +13,15 @@ use Rattle.tsp_master.specs.MasterStands.{LeadStands, LeadState, MasterStands, R
 use Rattle.tsp_master.{proofs.TableLemmas.quiet_sorts, proofs.TableLemmas.MasterStands_quiet, specs.declared.master.Master.Master}
 
 -- an act that the station doesn't keep
-pub Performs_idle : (a : Act) → is_idle a ≡ true → {x : ℕ} {port : Port} {station : Station} {old new : List Placed} → new ≡ old ++ record { port = port; act = a } ∷ [] →
+pub Performs_idle : (a : Act) → is_idle a ≡ true → {x : ℕ} {port : Port} {station : Station} {old new : List Placed} → new ≡ old ++
+    record { port = port; act = a } ∷ [] →
     Performs StandsActing StandsActing (puts a) x port station station old new
 unfolding puts
 Performs_idle a i {x = x} {station = station} put = Performs_acting (record { acts = λ past s. put; stands = λ past s. Stands_idle a i x past station s })
 
 -- whether an alarm is in time, as the station has it
-pub in_time-is : (alarm : Alarm) (x : ℕ) (past : Past) (st : Station) {b : Bool} → StationStands past st → is_met (deadline st.alarms alarm) x ≡ b → is_in_time alarm x past ≡ b
+pub in_time-is : (alarm : Alarm) (x : ℕ) (past : Past) (st : Station) {b : Bool} → StationStands past st → is_met (deadline st.alarms alarm) x ≡ b →
+    is_in_time alarm x past ≡ b
 in_time-is alarm x past st h e = ap (λ d. is_met (deadline d alarm) x) (sym h.alarms) ∙ e
 
 pub ClockStands_still : (a : Act) → is_in (sort_of a) still_sorts ≡ true → Keeps ClockStands (puts a)
@@ -33,11 +35,19 @@ acting_station : {past : Past} {lead : LeadState} → LeadStands past lead → S
 acting_station h = record { stands = h.station; acted = h.acted }
 
 -- a call of the station, and what it makes of the master, where more stands before or after
-pub Performs_lead_by : {P Q : Past → LeadState → Type 0} {row : Row} {x : ℕ} {port : Port} {before after : Station} (old new : Master) (clock : ClockValue) {earlier later : List Placed} → Emits still_sorts row →
-    ((past : Past) → P past (record { master = old; station = before; clock = clock }) → LeadStands past (record { master = old; station = before; clock = clock })) →
+pub Performs_lead_by : {P Q : Past → LeadState → Type 0} {row : Row} {x : ℕ} {port : Port} {before after : Station} (old new : Master) (clock : ClockValue)
+    {earlier later : List Placed} → Emits still_sorts row →
+    ((past : Past) → P past (record { master = old; station = before; clock = clock }) →
+    LeadStands past (record { master = old; station = before; clock = clock })) →
     ((past : Past) → P past (record { master = old; station = before; clock = clock }) → MasterStands (grown x past (row x past)) new) →
-    ((past : Past) → P past (record { master = old; station = before; clock = clock }) → LeadStands (grown x past (row x past)) (record { master = new; station = after; clock = clock }) → Q (grown x past (row x past)) (record { master = new; station = after; clock = clock })) →
-    Performs StandsActing StandsActing row x port before after earlier later → Performs P Q row x port (record { master = old; station = before; clock = clock }) (record { master = new; station = after; clock = clock }) earlier later
+    ((past : Past) → P past (record { master = old; station = before; clock = clock }) →
+    LeadStands (grown x past (row x past)) (record { master = new; station = after; clock = clock }) →
+    Q (grown x past (row x past)) (record { master = new; station = after; clock = clock })) →
+    Performs StandsActing StandsActing row x port before after earlier later → Performs P Q row x port (record {
+      master = old;
+      station = before;
+      clock = clock;
+    }) (record { master = new; station = after; clock = clock }) earlier later
 Performs_lead_by {row = row} {x = x} old new clock e from k to d = Performs_part d (λ past h. acting_station (from past h))
     (λ past h stands. to past h (record {
       master = k past h;
@@ -48,24 +58,44 @@ Performs_lead_by {row = row} {x = x} old new clock e from k to d = Performs_part
     }))
 
 -- the same, where no more stands
-pub Performs_lead : {row : Row} {x : ℕ} {port : Port} {before after : Station} (old new : Master) (clock : ClockValue) {earlier later : List Placed} → Emits still_sorts row →
-    ((past : Past) → LeadStands past (record { master = old; station = before; clock = clock }) → MasterStands (grown x past (row x past)) new) → Performs StandsActing StandsActing row x port before after earlier later →
-    Performs LeadStands LeadStands row x port (record { master = old; station = before; clock = clock }) (record { master = new; station = after; clock = clock }) earlier later
+pub Performs_lead : {row : Row} {x : ℕ} {port : Port} {before after : Station} (old new : Master) (clock : ClockValue) {earlier later : List Placed} →
+    Emits still_sorts row →
+    ((past : Past) → LeadStands past (record { master = old; station = before; clock = clock }) → MasterStands (grown x past (row x past)) new) →
+    Performs StandsActing StandsActing row x port before after earlier later →
+    Performs LeadStands LeadStands row x port (record { master = old; station = before; clock = clock }) (record {
+      master = new;
+      station = after;
+      clock = clock;
+    }) earlier later
 Performs_lead old new clock e k d = Performs_lead_by {P = LeadStands} {Q = LeadStands} old new clock e (λ past h. h) k (λ past h stands. stands) d
 
 -- a call of the station that means nothing to the master
-pub Performs_quiet : {row : Row} {x : ℕ} {port : Port} {before after : Station} (master : Master) (clock : ClockValue) {earlier later : List Placed} → Emits quiet_sorts row →
+pub Performs_quiet : {row : Row} {x : ℕ} {port : Port} {before after : Station} (master : Master) (clock : ClockValue) {earlier later : List Placed} →
+    Emits quiet_sorts row →
     Performs StandsActing StandsActing row x port before after earlier later →
-    Performs LeadStands LeadStands row x port (record { master = master; station = before; clock = clock }) (record { master = master; station = after; clock = clock }) earlier later
+    Performs LeadStands LeadStands row x port (record { master = master; station = before; clock = clock }) (record {
+      master = master;
+      station = after;
+      clock = clock;
+    }) earlier later
 Performs_quiet {row = row} {x = x} master clock e d =
-    Performs_lead master master clock (Emits_more quiet_sorts refl e) (λ past h. Keeps_by quiet_sorts MasterStands row MasterStands_quiet e x past master h.master) d
+    Performs_lead master master clock (Emits_more quiet_sorts refl e) (λ past h. Keeps_by quiet_sorts MasterStands row MasterStands_quiet e x past master
+    h.master) d
 
 -- the act with which an alarm begins: from here on the step has acted
-pub Performs_rung : {Q : Past → LeadState → Type 0} (a : Act) {x : ℕ} {port : Port} {before after : Station} (old new : Master) (clock : ClockValue) {earlier later : List Placed} →
+pub Performs_rung : {Q : Past → LeadState → Type 0} (a : Act) {x : ℕ} {port : Port} {before after : Station} (old new : Master) (clock : ClockValue)
+    {earlier later : List Placed} →
     is_in (sort_of a) still_sorts ≡ true → ((past : Past) → acting (seen_act past.step x a ∷ past.seen) ≡ true) →
     ((past : Past) → RingStands past (record { master = old; station = before; clock = clock }) → MasterStands (grown x past (a ∷ [])) new) →
-    ((past : Past) → RingStands past (record { master = old; station = before; clock = clock }) → LeadStands (grown x past (a ∷ [])) (record { master = new; station = after; clock = clock }) → Q (grown x past (a ∷ [])) (record { master = new; station = after; clock = clock })) →
-    Performs StationStands StationStands (puts a) x port before after earlier later → Performs RingStands Q (puts a) x port (record { master = old; station = before; clock = clock }) (record { master = new; station = after; clock = clock }) earlier later
+    ((past : Past) → RingStands past (record { master = old; station = before; clock = clock }) →
+    LeadStands (grown x past (a ∷ [])) (record { master = new; station = after; clock = clock }) →
+    Q (grown x past (a ∷ [])) (record { master = new; station = after; clock = clock })) →
+    Performs StationStands StationStands (puts a) x port before after earlier later →
+    Performs RingStands Q (puts a) x port (record { master = old; station = before; clock = clock }) (record {
+      master = new;
+      station = after;
+      clock = clock;
+    }) earlier later
 unfolding puts
 Performs_rung a {x = x} old new clock e acts k to d = Performs_part d (λ past h. h.station)
     (λ past h s. to past h (record { master = k past h; station = s; acted = acts past; clock = ClockStands_still a e x past clock h.clock }))

@@ -9,7 +9,8 @@ use Rattle.tsp_measure.specs.Slaves.{ChangesAll, peers_of, unmeasures}
 use Rattle.tsp_master.specs.{MasterStands.MasterStands, MasterStands.IsProbing, declared.master.Master.Master as MasterStruct}
 
 -- a round begins
-pub MasterStands_begins_round : (x : ℕ) (past : Past) (old new : MasterStruct) → ChangesAll unmeasures old.slaves new.slaves → peers_of new.slaves ≡ peers_of old.slaves → IsNothing new.rounds → new.rounds.asked ≡ old.rounds.asked → new.rounds.probes ≡ 0 → MasterStands past old →
+pub MasterStands_begins_round : (x : ℕ) (past : Past) (old new : MasterStruct) → ChangesAll unmeasures old.slaves new.slaves → peers_of new.slaves ≡
+    peers_of old.slaves → IsNothing new.rounds → new.rounds.asked ≡ old.rounds.asked → new.rounds.probes ≡ 0 → MasterStands past old →
     MasterStands (grown x past ((arms Probe PROBE followed_by arms CloseAlarm CLOSE) x past)) new
 unfolding arms ◌followed_by◌
 MasterStands_begins_round x past old new change ps none asked_is zero h = record {
@@ -29,7 +30,8 @@ MasterStands_begins_round x past old new change ps none asked_is zero h = record
 }
 
 -- a further probe is put off
-pub MasterStands_arms_probe : (x : ℕ) (past : Past) (m : MasterStruct) → is_going past.seen ≡ true → probes past.seen < 3 → ((close : ℕ) → (armed past.seen).close ≡ Some close → x + 8000000 ≤ close + 2000000 * probes past.seen) → MasterStands past m →
+pub MasterStands_arms_probe : (x : ℕ) (past : Past) (m : MasterStruct) → is_going past.seen ≡ true → probes past.seen < 3 →
+    ((close : ℕ) → (armed past.seen).close ≡ Some close → x + 8000000 ≤ close + 2000000 * probes past.seen) → MasterStands past m →
     MasterStands (grown x past (arms Probe PROBE x past)) m
 unfolding arms
 MasterStands_arms_probe x past m goes more early h = record {
@@ -56,7 +58,8 @@ met-some None x at e f = absurd (false≢true e)
 met-some (Some k) x at e f = let same : k ≡ at = cc in let low = leb-true x (k + 1000000) e in omega (arith, same, low)
 
 -- a probe that rings in time comes well before the close
-pub rings_early : (x at : ℕ) (past : Past) → IsProbing at past.seen → x ≤ at + 1000000 → (close : ℕ) → (armed past.seen).close ≡ Some close → x + 8000000 ≤ close + 2000000 * (probes past.seen + 1)
+pub rings_early : (x at : ℕ) (past : Past) → IsProbing at past.seen → x ≤ at + 1000000 → (close : ℕ) → (armed past.seen).close ≡ Some close →
+    x + 8000000 ≤ close + 2000000 * (probes past.seen + 1)
 rings_early x at past p low close e = omega (arith, p.2 close e)
 
 pub no_more : (n : ℕ) → 3 ≤ n → nat_lt n 3 ≡ false

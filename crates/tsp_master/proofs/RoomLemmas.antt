@@ -11,11 +11,13 @@ pub put_once : (n k : ℕ) {room left : ℕ} {old new : List Placed} (p : Placed
 put_once n k p spare put = once n k (PutsExactly_put p spare put)
 
 -- one after another
-pub twice : (n k : ℕ) {room between left : ℕ} {old mid new : List Placed} → PutsExactly 1 room between old mid → PutsExactly 1 between left mid new → PutsAtMost (n + suc (suc k)) room left old new
+pub twice : (n k : ℕ) {room between left : ℕ} {old mid new : List Placed} → PutsExactly 1 room between old mid → PutsExactly 1 between left mid new →
+    PutsAtMost (n + suc (suc k)) room left old new
 twice n k a b = record { spare = omega arith; few = omega arith }
 
 -- one, and then some
-pub once_then : (n k : ℕ) {room between left : ℕ} {old mid new : List Placed} → PutsExactly 1 room between old mid → PutsAtMost (n + k) between left mid new → PutsAtMost (n + suc k) room left old new
+pub once_then : (n k : ℕ) {room between left : ℕ} {old mid new : List Placed} → PutsExactly 1 room between old mid → PutsAtMost (n + k) between left mid new →
+    PutsAtMost (n + suc k) room left old new
 once_then n k a b = record { spare = omega arith; few = omega arith }
 
 -- one at most
@@ -24,13 +26,16 @@ at_most_once true a = record { spare = omega arith; few = omega arith }
 at_most_once false a = record { spare = omega arith; few = omega arith }
 
 -- an act, at most one, and then some
-pub put_then : (n : ℕ) {room rest between left : ℕ} {old first mid new : List Placed} → PutsExactly 1 room rest old first → PutsAtMost 1 rest between first mid → PutsAtMost n between left mid new → PutsAtMost (n + 2) room left old new
+pub put_then : (n : ℕ) {room rest between left : ℕ} {old first mid new : List Placed} → PutsExactly 1 room rest old first →
+    PutsAtMost 1 rest between first mid → PutsAtMost n between left mid new → PutsAtMost (n + 2) room left old new
 put_then n a b d = record { spare = omega arith; few = omega arith }
 
 -- an act, some, and at most one
-pub then_put : (n : ℕ) {room rest between left : ℕ} {old first mid new : List Placed} → PutsExactly 1 room rest old first → PutsAtMost n rest between first mid → PutsAtMost 1 between left mid new → PutsAtMost (n + 2) room left old new
+pub then_put : (n : ℕ) {room rest between left : ℕ} {old first mid new : List Placed} → PutsExactly 1 room rest old first →
+    PutsAtMost n rest between first mid → PutsAtMost 1 between left mid new → PutsAtMost (n + 2) room left old new
 then_put n a b d = record { spare = omega arith; few = omega arith }
 
 -- fewer than are allowed
-pub doubled : (n j k i : ℕ) {room left : ℕ} {old new : List Placed} → j + i ≡ k → PutsAtMost (n + j) room left old new → PutsAtMost (2 * n + k) room left old new
+pub doubled : (n j k i : ℕ) {room left : ℕ} {old new : List Placed} → j + i ≡ k → PutsAtMost (n + j) room left old new →
+    PutsAtMost (2 * n + k) room left old new
 doubled n j k i e a = record { spare = omega arith; few = omega arith }

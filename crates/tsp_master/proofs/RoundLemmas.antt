@@ -1,8 +1,10 @@
 -- What the acts of a round make of what a master stands for.
-use Rattle.std.proofs.Common.{◌≡◌, ℕ, ◌+◌, ◌%◌, ◌^◌, ◌==◌, ◌&&◌, Bool, true, false, if◌then◌else◌, List, [], ◌∷◌, Some, None, eqb-true, eq-eqb, inl, inr, refl, sym, ◌∙◌, ap, subst, arith}
+use Rattle.std.proofs.Common.{◌≡◌, ℕ, ◌+◌, ◌%◌, ◌^◌, ◌==◌, ◌&&◌, Bool, true, false, if◌then◌else◌, List, [], ◌∷◌, Some, None, eqb-true, eq-eqb, inl, inr, refl}
+use Rattle.std.proofs.Common.{sym, ◌∙◌, ap, subst, arith}
 use Rattle.std.proofs.lemmas.Bool.{false≢true}
 use Rattle.tsp_rules.specs.Values.{Boot, Post, Arm, Ring, Late, Abandon, Probe, CloseAlarm, Stamp, PeerId, Peer, Request}
-use Rattle.tsp_base.specs.Words.{Acts, Deed, Elsewhere, Here, Past, Seen, plain, Within, target, word, armed, asked, exchange, is_going, request_at_place, request_open, started, started_after, grown}
+use Rattle.tsp_base.specs.Words.{Acts, Deed, Elsewhere, Here, Past, Seen, plain, Within, target, word, armed, asked, exchange, is_going, request_at_place}
+use Rattle.tsp_base.specs.Words.{request_open, started, started_after, grown}
 use Rattle.tsp_base.proofs.SendLemmas.{seen_act}
 use Rattle.tsp_measure.specs.{Measures.Measured, Measures.best_of, Slaves.entry_of, Slaves.peers_of, declared.exchange.Exchange.Exchange}
 use Rattle.tsp_measure.specs.Rounds.{RoundsValue, Starts, measured_with, pending_at, request_of}
@@ -11,14 +13,40 @@ use Rattle.tsp_master.specs.{MasterStands.MasterStands, declared.master.Master.M
 use Rattle.tsp_master.proofs.MasterLemmas.{EmptyAfter, EntriesAfter}
 
 -- a round ends
-pub MasterStands_ring_close : (x : ℕ) (past : Past) (m : Master) → (armed past.seen).probe ≡ None → MasterStands past m → MasterStands (grown x past (Ring CloseAlarm ∷ [])) m
-MasterStands_ring_close x past m none h = record { peers = h.peers; entries = h.entries; asked_is = h.asked_is; going = λ g. absurd (false≢true g); idle = λ g p c. refl; probing = λ at e. let bad : ⊥ = cc in absurd bad; empty = h.empty }
+pub MasterStands_ring_close : (x : ℕ) (past : Past) (m : Master) → (armed past.seen).probe ≡ None → MasterStands past m →
+    MasterStands (grown x past (Ring CloseAlarm ∷ [])) m
+MasterStands_ring_close x past m none h = record {
+  peers = h.peers;
+  entries = h.entries;
+  asked_is = h.asked_is;
+  going = λ g. absurd (false≢true g);
+  idle = λ g p c. refl;
+  probing = λ at e. let bad : ⊥ = cc in absurd bad;
+  empty = h.empty;
+}
 
-pub MasterStands_late_close : (x : ℕ) (past : Past) (m : Master) → (armed past.seen).probe ≡ None → MasterStands past m → MasterStands (grown x past (Late CloseAlarm ∷ [])) m
-MasterStands_late_close x past m none h = record { peers = h.peers; entries = h.entries; asked_is = h.asked_is; going = λ g. absurd (false≢true g); idle = λ g p c. refl; probing = λ at e. let bad : ⊥ = cc in absurd bad; empty = h.empty }
+pub MasterStands_late_close : (x : ℕ) (past : Past) (m : Master) → (armed past.seen).probe ≡ None → MasterStands past m →
+    MasterStands (grown x past (Late CloseAlarm ∷ [])) m
+MasterStands_late_close x past m none h = record {
+  peers = h.peers;
+  entries = h.entries;
+  asked_is = h.asked_is;
+  going = λ g. absurd (false≢true g);
+  idle = λ g p c. refl;
+  probing = λ at e. let bad : ⊥ = cc in absurd bad;
+  empty = h.empty;
+}
 
 pub MasterStands_abandon : (x : ℕ) (past : Past) (m : Master) → MasterStands past m → MasterStands (grown x past (Abandon ∷ [])) m
-MasterStands_abandon x past m h = record { peers = h.peers; entries = h.entries; asked_is = h.asked_is; going = λ g. absurd (false≢true g); idle = λ g p c. refl; probing = λ at e. let bad : ⊥ = cc in absurd bad; empty = h.empty }
+MasterStands_abandon x past m h = record {
+  peers = h.peers;
+  entries = h.entries;
+  asked_is = h.asked_is;
+  going = λ g. absurd (false≢true g);
+  idle = λ g p c. refl;
+  probing = λ at e. let bad : ⊥ = cc in absurd bad;
+  empty = h.empty;
+}
 
 -- a probe is late, or in time
 pub MasterStands_late_probe : (x : ℕ) (past : Past) (m : Master) → MasterStands past m → MasterStands (grown x past (Late Probe ∷ [])) m
@@ -32,12 +60,19 @@ MasterStands_late_probe x past m h = record {
   empty = h.empty;
 }
 
-pub MasterStands_ring_probe : (x : ℕ) (past : Past) (old new : Master) → new.slaves ≡ old.slaves → new.rounds ≡ record old.rounds { probes = old.rounds.probes + 1 } → MasterStands past old → MasterStands (grown x past (Ring Probe ∷ [])) new
+pub MasterStands_ring_probe : (x : ℕ) (past : Past) (old new : Master) → new.slaves ≡ old.slaves → new.rounds ≡
+    record old.rounds { probes = old.rounds.probes + 1 } → MasterStands past old → MasterStands (grown x past (Ring Probe ∷ [])) new
 MasterStands_ring_probe x past old new ss rs h = record {
   peers = ap peers_of ss ∙ h.peers;
   entries = λ p. ap (λ es. entry_of es p) ss ∙ h.entries p;
   asked_is = ap (λ (v : RoundsValue). v.asked) rs ∙ h.asked_is;
-  going = λ g. let r = h.going g in rw rs (record { requests = r.requests; samples = r.samples; probes_is = ap (λ n. n + 1) r.probes_is; opened = r.opened; recent = r.recent });
+  going = λ g. let r = h.going g in rw rs (record {
+    requests = r.requests;
+    samples = r.samples;
+    probes_is = ap (λ n. n + 1) r.probes_is;
+    opened = r.opened;
+    recent = r.recent;
+  });
   idle = h.idle;
   probing = λ at e. let bad : ⊥ = cc in absurd bad;
   empty = h.empty;
@@ -45,7 +80,8 @@ MasterStands_ring_probe x past old new ss rs h = record {
 
 -- an open request after one more
 request_open-asked : (p q : PeerId) (w k c : ℕ) (past : Past) (x : ℕ) →
-    request_open q c (seen_act past.step x (Post (Peer p) (Stamp (Request w k))) ∷ past.seen) ≡ (if (p.0 == q.0) && (k == c) then Some (record { word = w; target = target (plain past.seen) x }) else request_open q c past.seen)
+    request_open q c (seen_act past.step x (Post (Peer p) (Stamp (Request w k))) ∷ past.seen) ≡
+    (if (p.0 == q.0) && (k == c) then Some (record { word = w; target = target (plain past.seen) x }) else request_open q c past.seen)
 request_open-asked p q w k c past x = by_test ((p.0 == q.0) && (k == c)) where
   by_test : (b : Bool) → request_at_place (if b then seen_act past.step x (Post (Peer p) (Stamp (Request w k))) ∷ past.seen else exchange q c past.seen)
       ≡ (if b then Some (record { word = w; target = target (plain past.seen) x }) else request_open q c past.seen)
@@ -67,16 +103,20 @@ Within-started (Here d ∷ before) = by_deed d.deed (Within-started before) wher
   by_deed _ w = inr w
 Within-started (Elsewhere d ∷ before) = inr (Within-started before)
 
-opened-asked : (p q : PeerId) (w k c : ℕ) (past : Past) (x : ℕ) (post : Seen) (older : List Seen) → ((t : Seen) (rest : List Seen) → exchange q c past.seen ≡ t ∷ rest → Within (started past.seen) rest) →
+opened-asked : (p q : PeerId) (w k c : ℕ) (past : Past) (x : ℕ) (post : Seen) (older : List Seen) → ((t : Seen) (rest : List Seen) → exchange q c past.seen ≡
+    t ∷ rest → Within (started past.seen) rest) →
     exchange q c (seen_act past.step x (Post (Peer p) (Stamp (Request w k))) ∷ past.seen) ≡ post ∷ older → Within (started past.seen) older
 opened-asked p q w k c past x post older opened e = by_test ((p.0 == q.0) && (k == c)) e where
-  by_test : (b : Bool) → (if b then seen_act past.step x (Post (Peer p) (Stamp (Request w k))) ∷ past.seen else exchange q c past.seen) ≡ post ∷ older → Within (started past.seen) older
+  by_test : (b : Bool) → (if b then seen_act past.step x (Post (Peer p) (Stamp (Request w k))) ∷ past.seen else exchange q c past.seen) ≡ post ∷ older →
+      Within (started past.seen) older
   by_test true f = let same : past.seen ≡ older = cc in subst (Within (started past.seen)) same (Within-started past.seen)
   by_test false f = opened post older f
 
 -- a request is posted in a going round
-pub MasterStands_asks : (p : PeerId) (x : ℕ) (past : Past) (old new : Master) → is_going past.seen ≡ true → Starts p (word (plain past.seen)) (target (plain past.seen) x) old.rounds new.rounds → peers_of new.slaves ≡ peers_of old.slaves →
-    EntriesAfter past x (Post (Peer p) (Stamp (Request (word (plain past.seen)) (asked past.seen % 2 ^ 64)))) new → EmptyAfter past x (Post (Peer p) (Stamp (Request (word (plain past.seen)) (asked past.seen % 2 ^ 64)))) →
+pub MasterStands_asks : (p : PeerId) (x : ℕ) (past : Past) (old new : Master) → is_going past.seen ≡ true →
+    Starts p (word (plain past.seen)) (target (plain past.seen) x) old.rounds new.rounds → peers_of new.slaves ≡ peers_of old.slaves →
+    EntriesAfter past x (Post (Peer p) (Stamp (Request (word (plain past.seen)) (asked past.seen % 2 ^ 64)))) new →
+    EmptyAfter past x (Post (Peer p) (Stamp (Request (word (plain past.seen)) (asked past.seen % 2 ^ 64)))) →
     MasterStands past old → MasterStands (grown x past (Post (Peer p) (Stamp (Request (word (plain past.seen)) (asked past.seen % 2 ^ 64))) ∷ [])) new
 MasterStands_asks p x past old new goes s ps es em h = record {
   peers = ps ∙ h.peers;
@@ -105,14 +145,17 @@ MasterStands_asks p x past old new goes s ps es em h = record {
   same_samples : (q : PeerId) (b : Bool) → (p.0 == q.0) ≡ b → (measured_with new.rounds q).samples ≡ (measured_with old.rounds q).samples
   same_samples q true e =
       let it : p ≡ q = ap (λ n. record { 0 = n }) (eqb-true p.0 q.0 e) in
-      ap (λ (t : PeerId). (measured_with new.rounds t).samples) (sym it) ∙ ap (λ (m : Measured). m.samples) s.started ∙ ap (λ (t : PeerId). (measured_with old.rounds t).samples) it
+      ap (λ (t : PeerId). (measured_with new.rounds t).samples) (sym it) ∙ ap (λ (m : Measured). m.samples) s.started ∙
+      ap (λ (t : PeerId). (measured_with old.rounds t).samples) it
   same_samples q false e = ap (λ (m : Measured). m.samples) (s.others q (other q e))
 
   by_peer : (q : PeerId) (c : ℕ) (b : Bool) → (p.0 == q.0) ≡ b → request_open q c past.seen ≡ pending_at c (measured_with old.rounds q).pending →
-      (if b && (asked past.seen % 2 ^ 64 == c) then Some (record { word = word (plain past.seen); target = target (plain past.seen) x }) else request_open q c past.seen) ≡ pending_at c (measured_with new.rounds q).pending
+      (if b && (asked past.seen % 2 ^ 64 == c) then Some (record { word = word (plain past.seen); target = target (plain past.seen) x }) else request_open q c
+      past.seen) ≡ pending_at c (measured_with new.rounds q).pending
   by_peer q c true e r =
       let it : p ≡ q = ap (λ n. record { 0 = n }) (eqb-true p.0 q.0 e) in
-      let r_p : request_open q c past.seen ≡ pending_at c (measured_with old.rounds p).pending = r ∙ ap (λ (t : PeerId). pending_at c (measured_with old.rounds t).pending) (sym it) in
+      let r_p : request_open q c past.seen ≡ pending_at c (measured_with old.rounds p).pending = r ∙
+      ap (λ (t : PeerId). pending_at c (measured_with old.rounds t).pending) (sym it) in
       ap (λ k. if k == c then Some (request_of begun) else request_open q c past.seen) (sym h.asked_is)
       ∙ ap (λ o. if old.rounds.asked == c then Some (request_of begun) else o) r_p
       ∙ sym (pending_at-push c (measured_with old.rounds p).pending begun s.fresh)
@@ -120,7 +163,8 @@ MasterStands_asks p x past old new goes s ps es em h = record {
   by_peer q c false e r = r ∙ ap (λ (m : Measured). pending_at c m.pending) (sym (s.others q (other q e)))
 
 -- the same exchanges, counts and table stand for the same past
-pub MasterStands_unasked : (past : Past) (old new : Master) → new.slaves ≡ old.slaves → new.rounds.asked ≡ old.rounds.asked → new.rounds.probes ≡ old.rounds.probes → ((q : PeerId) → measured_with new.rounds q ≡ measured_with old.rounds q) → MasterStands past old → MasterStands past new
+pub MasterStands_unasked : (past : Past) (old new : Master) → new.slaves ≡ old.slaves → new.rounds.asked ≡ old.rounds.asked → new.rounds.probes ≡
+    old.rounds.probes → ((q : PeerId) → measured_with new.rounds q ≡ measured_with old.rounds q) → MasterStands past old → MasterStands past new
 MasterStands_unasked past old new ss asked_is probes_is same h = record {
   peers = ap peers_of ss ∙ h.peers;
   entries = λ q. ap (λ es. entry_of es q) ss ∙ h.entries q;

@@ -12,7 +12,17 @@ Within-plain s [] e = ap plain e
 Within-plain s (l ∷ t) (inl e) = inl (ap plain e)
 Within-plain s (l ∷ t) (inr w) = inr (Within-plain s t w)
 
-pub since_correct : (past : Past) (m : Master) (p : PeerId) (s : Sampled) → MasterStands past m → is_going past.seen ≡ true → IsLeftAlone past.seen → best p past.seen ≡ Some s → IsSinceCorrect p s past.seen
+pub since_correct : (past : Past) (m : Master) (p : PeerId) (s : Sampled) → MasterStands past m → is_going past.seen ≡ true → IsLeftAlone past.seen →
+    best p past.seen ≡ Some s → IsSinceCorrect p s past.seen
 since_correct past m p s h goes alone e =
     let r = (h.going goes).recent p s e in
-    record { taken = r.taken; before = r.before; place_is = r.place_is; post = r.post; older = r.older; exchange_is = r.exchange_is; since = Within-through (correct_place (plain past.seen)) (plain (started past.seen)) (plain r.older) alone (Within-plain (started past.seen) r.older r.since) }
+    record {
+      taken = r.taken;
+      before = r.before;
+      place_is = r.place_is;
+      post = r.post;
+      older = r.older;
+      exchange_is = r.exchange_is;
+      since = Within-through (correct_place (plain past.seen)) (plain (started past.seen)) (plain r.older) alone
+          (Within-plain (started past.seen) r.older r.since);
+    }

@@ -1,13 +1,18 @@
 -- What one act more makes of the past of a peer, and of a master's table.
-use Rattle.std.proofs.Common.{◌≡◌, ℕ, ◌==◌, ◌&&◌, ◌||◌, not, cond, get_or, pos, ◌+ℤ◌, Bool, true, false, if◌then◌else◌, List, [], ◌∷◌, Option, Some, eqb-true, refl, sym, ◌∙◌, ap}
+use Rattle.std.proofs.Common.{◌≡◌, ℕ, ◌==◌, ◌&&◌, ◌||◌, not, cond, get_or, pos, ◌+ℤ◌, Bool, true, false, if◌then◌else◌, List, [], ◌∷◌, Option, Some, eqb-true}
+use Rattle.std.proofs.Common.{refl, sym, ◌∙◌, ap}
 use Rattle.std.specs.List.{All, filter}
 use Rattle.std.proofs.lemmas.{Bool.false≢true, Bool.and_right, Bool.and_left, List.Elements.All-head, List.Elements.All-tail}
-use Rattle.tsp_rules.specs.Values.{Act, Boot, Post, Become, Arm, Ring, Late, Abandon, Sample, Acked, Join, Leave, Probe, CloseAlarm, Message, Stamp, Kind, AdjTime, SetTime, PeerId, Place, Peer, Stranger, Follow, Master, Request, Reply}
-use Rattle.tsp_base.specs.Words.{Past, MessageValue, Keeps, acting, in_table, is_measured, grown, puts, corrects_in, is_correction, is_acknowledged, last_number, last_post, open_send, IsPeers}
-use Rattle.tsp_base.proofs.SendLemmas.{seen_act, last_post-posts, last_post-other, last_number-begins, last_number-other, is_acknowledged-begins, is_acknowledged-other, is_acknowledged-acked}
+use Rattle.tsp_rules.specs.Values.{Act, Boot, Post, Become, Arm, Ring, Late, Abandon, Sample, Acked, Join, Leave, Probe, CloseAlarm, Message, Stamp, Kind}
+use Rattle.tsp_rules.specs.Values.{AdjTime, SetTime, PeerId, Place, Peer, Stranger, Follow, Master, Request, Reply}
+use Rattle.tsp_base.specs.Words.{Past, MessageValue, Keeps, acting, in_table, is_measured, grown, puts, corrects_in, is_correction, is_acknowledged}
+use Rattle.tsp_base.specs.Words.{last_number, last_post, open_send, IsPeers}
+use Rattle.tsp_base.proofs.SendLemmas.{seen_act, last_post-posts, last_post-other, last_number-begins, last_number-other, is_acknowledged-begins}
+use Rattle.tsp_base.proofs.SendLemmas.{is_acknowledged-other, is_acknowledged-acked}
 use Rattle.tsp_rules.specs.{DateRows.all_settled, DateRows.are_settled, DateRows.is_settled, SendRows.may_correct, SendRows.may_set}
 use Rattle.tsp_rules.specs.Guards.{is_clock_value, is_in_range, target_at}
-use Rattle.tsp_rules.proofs.Emits.{Sort, Taking, Numbering, Passing, Posting, Backing, Counting, Alarming, Rivalling, Giving, Closing, Tracing, is_in, sort_of, sort_of_kind}
+use Rattle.tsp_rules.proofs.Emits.{Sort, Taking, Numbering, Passing, Posting, Backing, Counting, Alarming, Rivalling, Giving, Closing, Tracing, is_in, sort_of}
+use Rattle.tsp_rules.proofs.Emits.{sort_of_kind}
 use Rattle.tsp_clock.specs.{ClockStands.ClockStands, Clocks.ClockValue, Clocks.target_of}
 use Rattle.tsp_measure.specs.Slaves.{entry_of, peers_of, Changes, joins, leaves, begins_at, acks, acks_where, may_correct_by, is_settled_by, are_settled_by}
 use Rattle.tsp_measure.{proofs.Entries.Rising-peers, proofs.Entries.entry_of-at, specs.declared.entry.Entry.Entry}
@@ -16,7 +21,8 @@ use Rattle.tsp_master.proofs.MasterLemmas.{EntriesAfter, MasterStands_aside, is_
 
 -- an entry that changes where the act is about its peer
 abbrev ChangesAt : PeerId → (Entry → Entry) → Past → ℕ → Act → Type 0
-ChangesAt p f past x a = (q : PeerId) → entry_at q (seen_act past.step x a ∷ past.seen) ≡ (if p.0 == q.0 then f (entry_at q past.seen) else entry_at q past.seen)
+ChangesAt p f past x a = (q : PeerId) → entry_at q (seen_act past.step x a ∷ past.seen) ≡
+    (if p.0 == q.0 then f (entry_at q past.seen) else entry_at q past.seen)
 
 -- the table changes as the past does
 pub EntriesAfter_changed : (p : PeerId) (f : Entry → Entry) (past : Past) (x : ℕ) (a : Act) (old new : MasterStruct) →
@@ -27,14 +33,28 @@ EntriesAfter_changed p f past x a old new after change h q = change q ∙ ap (λ
 -- a peer joins, or leaves
 pub joins-after : (p : PeerId) (past : Past) (x : ℕ) → ChangesAt p joins past x (Join p)
 joins-after p past x q = by_test (p.0 == q.0) where
-  by_test : (b : Bool) → record { peer = q; joined = if b then true else in_table q past.seen; measured = is_measured q past.seen; posted = last_post q past.seen; number = last_number q past.seen; acked = is_acknowledged q past.seen }
+  by_test : (b : Bool) → record {
+    peer = q;
+    joined = if b then true else in_table q past.seen;
+    measured = is_measured q past.seen;
+    posted = last_post q past.seen;
+    number = last_number q past.seen;
+    acked = is_acknowledged q past.seen;
+  }
       ≡ (if b then joins (entry_at q past.seen) else entry_at q past.seen)
   by_test true = refl
   by_test false = refl
 
 pub leaves-after : (p : PeerId) (past : Past) (x : ℕ) → ChangesAt p leaves past x (Leave p)
 leaves-after p past x q = by_test (p.0 == q.0) where
-  by_test : (b : Bool) → record { peer = q; joined = if b then false else in_table q past.seen; measured = if b then false else is_measured q past.seen; posted = last_post q past.seen; number = last_number q past.seen; acked = is_acknowledged q past.seen }
+  by_test : (b : Bool) → record {
+    peer = q;
+    joined = if b then false else in_table q past.seen;
+    measured = if b then false else is_measured q past.seen;
+    posted = last_post q past.seen;
+    number = last_number q past.seen;
+    acked = is_acknowledged q past.seen;
+  }
       ≡ (if b then leaves (entry_at q past.seen) else entry_at q past.seen)
   by_test true = refl
   by_test false = refl
@@ -44,35 +64,44 @@ abbrev entry_with : PeerId → Bool → Bool → Option ℕ → ℕ → Bool →
 entry_with q j m posted number acked = record { peer = q; joined = j; measured = m; posted = posted; number = number; acked = acked }
 
 entry-is : (q : PeerId) (j m : Bool) {a b : Option ℕ} {c d : ℕ} {e f : Bool} → a ≡ b → c ≡ d → e ≡ f → entry_with q j m a c e ≡ entry_with q j m b d f
-entry-is q j m {a = a} {b = b} {c = c} {d = d} {e = e} s t u = ap (λ k. entry_with q j m k c e) s ∙ ap (λ k. entry_with q j m b k e) t ∙ ap (λ k. entry_with q j m b d k) u
+entry-is q j m {a = a} {b = b} {c = c} {d = d} {e = e} s t u = ap (λ k. entry_with q j m k c e) s ∙ ap (λ k. entry_with q j m b k e) t ∙
+    ap (λ k. entry_with q j m b d k) u
 
 -- a correction begins
-pub begins-after : (p : PeerId) (m : MessageValue) (past : Past) (x : ℕ) → is_correction m.kind ≡ true → acting past.seen ≡ true → ChangesAt p (begins_at x m.number) past x (Post (Peer p) (Message m))
+pub begins-after : (p : PeerId) (m : MessageValue) (past : Past) (x : ℕ) → is_correction m.kind ≡ true → acting past.seen ≡ true →
+    ChangesAt p (begins_at x m.number) past x (Post (Peer p) (Message m))
 begins-after p m past x corrects acts q =
-    entry-is q (in_table q past.seen) (is_measured q past.seen) (last_post-posts past.step x q p m past.seen corrects) (last_number-begins past.step x q p m past.seen corrects acts) (is_acknowledged-begins past.step x q p m past.seen corrects acts)
+    entry-is q (in_table q past.seen) (is_measured q past.seen) (last_post-posts past.step x q p m past.seen corrects)
+    (last_number-begins past.step x q p m past.seen corrects acts) (is_acknowledged-begins past.step x q p m past.seen corrects acts)
     ∙ by_test (p.0 == q.0) where
-      by_test : (b : Bool) → entry_with q (in_table q past.seen) (is_measured q past.seen) (if b then Some x else last_post q past.seen) (if b then m.number else last_number q past.seen) (if b then false else is_acknowledged q past.seen)
+      by_test : (b : Bool) → entry_with q (in_table q past.seen) (is_measured q past.seen) (if b then Some x else last_post q past.seen)
+          (if b then m.number else last_number q past.seen) (if b then false else is_acknowledged q past.seen)
           ≡ (if b then begins_at x m.number (entry_at q past.seen) else entry_at q past.seen)
       by_test true = refl
       by_test false = refl
 
 -- another message is posted
-message-quiet : (to : Place) (m : MessageValue) (past : Past) (x : ℕ) (q : PeerId) → is_correction m.kind ≡ false → entry_at q (seen_act past.step x (Post to (Message m)) ∷ past.seen) ≡ entry_at q past.seen
+message-quiet : (to : Place) (m : MessageValue) (past : Past) (x : ℕ) (q : PeerId) → is_correction m.kind ≡ false →
+    entry_at q (seen_act past.step x (Post to (Message m)) ∷ past.seen) ≡ entry_at q past.seen
 message-quiet (Peer p) m past x q other =
     let none : (is_correction m.kind && acting past.seen) ≡ false = and_left (is_correction m.kind) (acting past.seen) other in
-    entry-is q (in_table q past.seen) (is_measured q past.seen) (last_post-other past.step x q (Peer p) m past.seen other) (last_number-other past.step x q (Peer p) m past.seen none) (is_acknowledged-other past.step x q (Peer p) m past.seen none)
+    entry-is q (in_table q past.seen) (is_measured q past.seen) (last_post-other past.step x q (Peer p) m past.seen other)
+    (last_number-other past.step x q (Peer p) m past.seen none) (is_acknowledged-other past.step x q (Peer p) m past.seen none)
 message-quiet Stranger m past x q other =
     let none : (is_correction m.kind && acting past.seen) ≡ false = and_left (is_correction m.kind) (acting past.seen) other in
-    entry-is q (in_table q past.seen) (is_measured q past.seen) (last_post-other past.step x q Stranger m past.seen other) (last_number-other past.step x q Stranger m past.seen none) (is_acknowledged-other past.step x q Stranger m past.seen none)
+    entry-is q (in_table q past.seen) (is_measured q past.seen) (last_post-other past.step x q Stranger m past.seen other)
+    (last_number-other past.step x q Stranger m past.seen none) (is_acknowledged-other past.step x q Stranger m past.seen none)
 
 pub acked-after : (p : PeerId) (past : Past) (x : ℕ) → ChangesAt p (acks_where (corrects_in (open_send p past.seen))) past x (Acked p)
 acked-after p past x q =
     entry-is q (in_table q past.seen) (is_measured q past.seen) refl refl (is_acknowledged-acked past.step x q p past.seen) ∙ by_test (p.0 == q.0) refl where
-      by_open : (c : Bool) → entry_with q (in_table q past.seen) (is_measured q past.seen) (last_post q past.seen) (last_number q past.seen) (if c then true else is_acknowledged q past.seen) ≡ (if c then acks (entry_at q past.seen) else entry_at q past.seen)
+      by_open : (c : Bool) → entry_with q (in_table q past.seen) (is_measured q past.seen) (last_post q past.seen) (last_number q past.seen)
+          (if c then true else is_acknowledged q past.seen) ≡ (if c then acks (entry_at q past.seen) else entry_at q past.seen)
       by_open true = refl
       by_open false = refl
 
-      by_test : (b : Bool) → (p.0 == q.0) ≡ b → entry_with q (in_table q past.seen) (is_measured q past.seen) (last_post q past.seen) (last_number q past.seen) (if b && corrects_in (open_send q past.seen) then true else is_acknowledged q past.seen)
+      by_test : (b : Bool) → (p.0 == q.0) ≡ b → entry_with q (in_table q past.seen) (is_measured q past.seen) (last_post q past.seen) (last_number q past.seen)
+          (if b && corrects_in (open_send q past.seen) then true else is_acknowledged q past.seen)
           ≡ (if b then acks_where (corrects_in (open_send p past.seen)) (entry_at q past.seen) else entry_at q past.seen)
       by_test true e =
           let it : q ≡ p = ap (λ n. record { 0 = n }) (sym (eqb-true p.0 q.0 e)) in
@@ -109,7 +138,8 @@ aside-quiet Abandon e = absurd (false≢true e)
 aside-quiet (Sample p counter diff err ticket) e = absurd (false≢true e)
 aside-quiet _ e = refl
 
-entry-quiet : (a : Act) → is_in (sort_of a) quiet_sorts ≡ true → (past : Past) (x : ℕ) (q : PeerId) → entry_at q (seen_act past.step x a ∷ past.seen) ≡ entry_at q past.seen
+entry-quiet : (a : Act) → is_in (sort_of a) quiet_sorts ≡ true → (past : Past) (x : ℕ) (q : PeerId) → entry_at q (seen_act past.step x a ∷ past.seen) ≡
+    entry_at q past.seen
 entry-quiet Boot e past x q = absurd (false≢true e)
 entry-quiet (Become Master) e past x q = absurd (false≢true e)
 entry-quiet (Become (Follow p)) e past x q = absurd (false≢true e)
@@ -130,7 +160,11 @@ pub MasterStands_quiet : (a : Act) → is_in (sort_of a) quiet_sorts ≡ true �
 unfolding puts
 MasterStands_quiet a e x past m h =
     MasterStands_aside a x past m m (aside-quiet a e) refl refl (λ q. h.entries q ∙ sym (entry-quiet a e past x q))
-    (λ other q. (ap (λ (k : Entry). k.joined) (entry-quiet a e past x q) ∙ (h.empty other q).0, ap (λ (k : Entry). k.measured) (entry-quiet a e past x q) ∙ (h.empty other q).1)) h
+    (λ other q. (
+      ap (λ (k : Entry). k.joined) (entry-quiet a e past x q) ∙ (h.empty other q).0,
+      ap (λ (k : Entry). k.measured) (entry-quiet a e past x q) ∙
+          (h.empty other q).1,
+    )) h
 
 -- a change that makes no slave
 abbrev pub MakesNone : (Entry → Entry) → Type 0
@@ -139,23 +173,30 @@ MakesNone f = (e : Entry) → e.joined ≡ false → e.measured ≡ false → ((
 -- an act about one peer, and the same change of the table
 pub MasterStands_changed : (p : PeerId) (f : Entry → Entry) (a : Act) (x : ℕ) (past : Past) (old new : MasterStruct) → is_aside a ≡ true → MakesNone f →
     ((q : PeerId) → entry_at q (seen_act past.step x a ∷ past.seen) ≡ (if p.0 == q.0 then f (entry_at q past.seen) else entry_at q past.seen)) →
-    Changes p f old.slaves new.slaves → peers_of new.slaves ≡ peers_of old.slaves → new.rounds ≡ old.rounds → MasterStands past old → MasterStands (grown x past (a ∷ [])) new
+    Changes p f old.slaves new.slaves → peers_of new.slaves ≡ peers_of old.slaves → new.rounds ≡ old.rounds → MasterStands past old →
+    MasterStands (grown x past (a ∷ [])) new
 MasterStands_changed p f a x past old new aside none after change ps rs h =
     MasterStands_aside a x past old new aside ps rs (EntriesAfter_changed p f past x a old new after change h.entries)
-    (λ other q. let e = h.empty other q in let k = by_test (p.0 == q.0) q (none (entry_at q past.seen) e.0 e.1) e in (ap (λ (t : Entry). t.joined) (after q) ∙ k.0, ap (λ (t : Entry). t.measured) (after q) ∙ k.1)) h where
-      by_test : (b : Bool) (q : PeerId) → ((f (entry_at q past.seen)).joined ≡ false) × ((f (entry_at q past.seen)).measured ≡ false) → (in_table q past.seen ≡ false) × (is_measured q past.seen ≡ false) →
-          ((if b then f (entry_at q past.seen) else entry_at q past.seen).joined ≡ false) × ((if b then f (entry_at q past.seen) else entry_at q past.seen).measured ≡ false)
+    (λ other q. let e = h.empty other q in let k = by_test (p.0 == q.0) q (none (entry_at q past.seen) e.0 e.1) e in
+    (ap (λ (t : Entry). t.joined) (after q) ∙ k.0, ap (λ (t : Entry). t.measured) (after q) ∙ k.1)) h where
+      by_test : (b : Bool) (q : PeerId) → ((f (entry_at q past.seen)).joined ≡ false) × ((f (entry_at q past.seen)).measured ≡ false) →
+          (in_table q past.seen ≡ false) × (is_measured q past.seen ≡ false) →
+          ((if b then f (entry_at q past.seen) else entry_at q past.seen).joined ≡ false) ×
+          ((if b then f (entry_at q past.seen) else entry_at q past.seen).measured ≡ false)
       by_test true q k e = k
       by_test false q k e = e
 
 -- a correction begins, and the table has it
-pub MasterStands_begins : (p : PeerId) (m : MessageValue) (x : ℕ) (past : Past) (old new : MasterStruct) → is_correction m.kind ≡ true → acting past.seen ≡ true → Changes p (begins_at x m.number) old.slaves new.slaves → peers_of new.slaves ≡ peers_of old.slaves → new.rounds ≡ old.rounds →
+pub MasterStands_begins : (p : PeerId) (m : MessageValue) (x : ℕ) (past : Past) (old new : MasterStruct) → is_correction m.kind ≡ true → acting past.seen ≡
+    true → Changes p (begins_at x m.number) old.slaves new.slaves → peers_of new.slaves ≡ peers_of old.slaves → new.rounds ≡ old.rounds →
     MasterStands past old → MasterStands (grown x past (Post (Peer p) (Message m) ∷ [])) new
 MasterStands_begins p m x past old new corrects acts change ps rs h =
-    MasterStands_changed p (begins_at x m.number) (Post (Peer p) (Message m)) x past old new refl (λ e j k. (j, k)) (begins-after p m past x corrects acts) change ps rs h
+    MasterStands_changed p (begins_at x m.number) (Post (Peer p) (Message m)) x past old new refl (λ e j k. (j, k)) (begins-after p m past x corrects acts)
+    change ps rs h
 
 -- whether a correction may begin, as the entry has it
-pub may_correct-is : (p : PeerId) (number x : ℕ) (past : Past) (m : MasterStruct) (e : Entry) → MasterStands past m → e ≡ entry_of m.slaves p → may_correct p number x past ≡ may_correct_by e number x
+pub may_correct-is : (p : PeerId) (number x : ℕ) (past : Past) (m : MasterStruct) (e : Entry) → MasterStands past m → e ≡ entry_of m.slaves p →
+    may_correct p number x past ≡ may_correct_by e number x
 may_correct-is p number x past m e h is = ap (λ k. may_correct_by k number x) (sym (is ∙ h.entries p))
 
 -- the clock's target, as the clock has it
@@ -163,23 +204,29 @@ pub target-is : (x : ℕ) (past : Past) (clock : ClockValue) → ClockStands pas
 target-is x past clock h = ap (λ o. o +ℤ pos x) (sym h.offset_is)
 
 -- whether the clock's target may be set
-pub may_set-is : (p : PeerId) (number x : ℕ) (past : Past) (m : MasterStruct) (e : Entry) (clock : ClockValue) (a b : Bool) → MasterStands past m → ClockStands past clock → e ≡ entry_of m.slaves p →
+pub may_set-is : (p : PeerId) (number x : ℕ) (past : Past) (m : MasterStruct) (e : Entry) (clock : ClockValue) (a b : Bool) → MasterStands past m →
+    ClockStands past clock → e ≡ entry_of m.slaves p →
     may_correct_by e number x ≡ a → is_clock_value (target_of clock x) ≡ b → may_set p number x past ≡ (a && b)
 may_set-is p number x past m e clock a b h k is f g =
     ap (λ t. t && is_in_range x past) (may_correct-is p number x past m e h is ∙ f) ∙ ap (λ t. a && t) (ap is_clock_value (target-is x past clock k) ∙ g)
 
-pub may_set-none : (p : PeerId) (number x : ℕ) (past : Past) (clock : ClockValue) → ClockStands past clock → is_clock_value (target_of clock x) ≡ false → may_set p number x past ≡ false
+pub may_set-none : (p : PeerId) (number x : ℕ) (past : Past) (clock : ClockValue) → ClockStands past clock → is_clock_value (target_of clock x) ≡ false →
+    may_set p number x past ≡ false
 may_set-none p number x past clock k g = and_right (may_correct p number x past) (is_in_range x past) (ap is_clock_value (target-is x past clock k) ∙ g)
 
-settled-all : (x : ℕ) (past : Past) (es : List Entry) → All (λ (e : Entry). e ≡ entry_at e.peer past.seen) es → are_settled (filter (λ (p : PeerId). in_table p past.seen) (peers_of es)) x past ≡ are_settled_by x es
+settled-all : (x : ℕ) (past : Past) (es : List Entry) → All (λ (e : Entry). e ≡ entry_at e.peer past.seen) es →
+    are_settled (filter (λ (p : PeerId). in_table p past.seen) (peers_of es)) x past ≡ are_settled_by x es
 settled-all x past [] h = refl
 settled-all x past (e ∷ es) h =
-    by_test (in_table e.peer past.seen) (ap (λ (k : Entry). k.joined) is) (ap (λ k. is_settled_by k x) (sym is)) (settled-all x past es (All-tail (λ (k : Entry). k ≡ entry_at k.peer past.seen) e es h)) where
+    by_test (in_table e.peer past.seen) (ap (λ (k : Entry). k.joined) is) (ap (λ k. is_settled_by k x) (sym is))
+    (settled-all x past es (All-tail (λ (k : Entry). k ≡ entry_at k.peer past.seen) e es h)) where
       is : e ≡ entry_at e.peer past.seen
       is = All-head (λ (k : Entry). k ≡ entry_at k.peer past.seen) e es h
 
-      by_test : (b : Bool) → e.joined ≡ b → is_settled e.peer x past ≡ is_settled_by e x → are_settled (filter (λ (p : PeerId). in_table p past.seen) (peers_of es)) x past ≡ are_settled_by x es →
-          are_settled (cond b (e.peer ∷ filter (λ (p : PeerId). in_table p past.seen) (peers_of es)) (filter (λ (p : PeerId). in_table p past.seen) (peers_of es))) x past ≡ ((not e.joined || is_settled_by e x) && are_settled_by x es)
+      by_test : (b : Bool) → e.joined ≡ b → is_settled e.peer x past ≡ is_settled_by e x →
+          are_settled (filter (λ (p : PeerId). in_table p past.seen) (peers_of es)) x past ≡ are_settled_by x es →
+          are_settled (cond b (e.peer ∷ filter (λ (p : PeerId). in_table p past.seen) (peers_of es))
+          (filter (λ (p : PeerId). in_table p past.seen) (peers_of es))) x past ≡ ((not e.joined || is_settled_by e x) && are_settled_by x es)
       by_test true j k rest = rw (j, k, rest) refl
       by_test false j k rest = rw (j, rest) refl
 
@@ -187,10 +234,12 @@ settled-all x past (e ∷ es) h =
 pub settled-is : (x : ℕ) (past : Past) (m : MasterStruct) → IsPeers (peers_of m.slaves) → MasterStands past m → all_settled x past ≡ are_settled_by x m.slaves
 settled-is x past m up h =
     ap (λ ps. are_settled (filter (λ (p : PeerId). in_table p past.seen) ps) x past) (sym h.peers)
-    ∙ settled-all x past m.slaves (λ k d l. sym (entry_of-at m.slaves k d (get_or m.slaves k d).peer (Rising-peers m.slaves up) l refl) ∙ h.entries (get_or m.slaves k d).peer)
+    ∙ settled-all x past m.slaves (λ k d l. sym (entry_of-at m.slaves k d (get_or m.slaves k d).peer (Rising-peers m.slaves up) l refl) ∙
+    h.entries (get_or m.slaves k d).peer)
 
 -- the same table and rounds stand for the same past
-pub MasterStands_same : (past : Past) (old new : MasterStruct) → peers_of new.slaves ≡ peers_of old.slaves → new.rounds ≡ old.rounds → ((q : PeerId) → entry_of new.slaves q ≡ entry_of old.slaves q) → MasterStands past old → MasterStands past new
+pub MasterStands_same : (past : Past) (old new : MasterStruct) → peers_of new.slaves ≡ peers_of old.slaves → new.rounds ≡ old.rounds →
+    ((q : PeerId) → entry_of new.slaves q ≡ entry_of old.slaves q) → MasterStands past old → MasterStands past new
 MasterStands_same past old new ps rs es h = record {
   peers = ps ∙ h.peers;
   entries = λ q. es q ∙ h.entries q;

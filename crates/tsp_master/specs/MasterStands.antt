@@ -2,7 +2,8 @@
 use Rattle.std.specs.Prelude.{◌∷◌, ◌≡◌, ◌≢◌, ℕ, ◌+◌, ◌*◌, ◌%◌, ◌^◌, ◌<◌, ◌≤◌, true, false, List, None, Some}
 use Rattle.std.specs.Option.{option_map}
 use Rattle.tsp_rules.specs.Values.{PeerId, Master}
-use Rattle.tsp_base.specs.Words.{Past, Seen, plain, correct_place, Within, role, acting, armed, in_table, Sampled, asked, best, exchange, is_going, is_measured, is_starting, probes, request_open, started, is_acknowledged, last_number, last_post}
+use Rattle.tsp_base.specs.Words.{Past, Seen, plain, correct_place, Within, role, acting, armed, in_table, Sampled, asked, best, exchange, is_going, is_measured}
+use Rattle.tsp_base.specs.Words.{is_starting, probes, request_open, started, is_acknowledged, last_number, last_post}
 use Rattle.tsp_acks.specs.{Stands.StationStands, declared.station.Station.Station}
 use Rattle.tsp_clock.specs.{ClockStands.ClockStands, Clocks.ClockValue}
 use Rattle.tsp_measure.specs.{Measures.best_of, Slaves.entry_of, Slaves.peers_of, declared.entry.Entry.Entry}
@@ -11,7 +12,14 @@ use Rattle.tsp_master.specs.declared.master.Master.{Master as MasterStruct}
 
 -- what the past comes to with a peer
 abbrev pub entry_at : PeerId → List Seen → Entry
-entry_at p seen = record { peer = p; joined = in_table p seen; measured = is_measured p seen; posted = last_post p seen; number = last_number p seen; acked = is_acknowledged p seen }
+entry_at p seen = record {
+  peer = p;
+  joined = in_table p seen;
+  measured = is_measured p seen;
+  posted = last_post p seen;
+  number = last_number p seen;
+  acked = is_acknowledged p seen;
+}
 
 -- a sample is of an exchange whose request stands after this place
 pub record IsOfRound (p : PeerId) (s : Sampled) (start : List Seen) : Type 0 where

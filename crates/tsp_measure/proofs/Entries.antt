@@ -1,5 +1,6 @@
 -- Lemmas on the table of a master's peers.
-use Rattle.std.proofs.Common.{◌≡◌, ◌≢◌, ℕ, zero, suc, ◌+◌, ◌<◌, ◌≤◌, ◌==◌, Bool, true, false, if◌then◌else◌, List, [], ◌∷◌, ◌++◌, length, map, take, drop, append_assoc, append-nil, Result, Ok, Err, get_or, set, eqb-true, eq-eqb, refl, sym, ◌∙◌, ap, arith}
+use Rattle.std.proofs.Common.{◌≡◌, ◌≢◌, ℕ, zero, suc, ◌+◌, ◌<◌, ◌≤◌, ◌==◌, Bool, true, false, if◌then◌else◌, List, [], ◌∷◌, ◌++◌, length, map, take, drop}
+use Rattle.std.proofs.Common.{append_assoc, append-nil, Result, Ok, Err, get_or, set, eqb-true, eq-eqb, refl, sym, ◌∙◌, ap, arith}
 use Rattle.std.specs.{List.Contains, List.Sorted.IsBinarySearchResult, List.Sorted.IsSearchInRange, Ordering.nat_cmp}
 use Rattle.std.proofs.{Math.Seq.take-suc, Math.Seq.take-append_seam, lemmas.Bool.ne_eqb}
 use Rattle.std.proofs.lemmas.List.{length-map, length-take-le, get_or-map, get_or_at, set_at, take_all, drop_more, map-append}
@@ -30,11 +31,13 @@ entry_of-absent [] p h = refl
 entry_of-absent (x ∷ es) p h = rw (ne_eqb x.peer.0 p.0 (h 0 x (omega arith))) (entry_of-absent es p (λ k d l. h (suc k) d (omega arith)))
 
 -- an entry is put in its peer's place
-entry_of-set : (es : List Entry) (i : ℕ) (d : Entry) (p : PeerId) (new : Entry) (q : PeerId) → Rising es → i < length es → (get_or es i d).peer.0 ≡ p.0 → new.peer.0 ≡ p.0
+entry_of-set : (es : List Entry) (i : ℕ) (d : Entry) (p : PeerId) (new : Entry) (q : PeerId) → Rising es → i < length es → (get_or es i d).peer.0 ≡ p.0 →
+    new.peer.0 ≡ p.0
     → entry_of (set es i new) q ≡ (if p.0 == q.0 then new else entry_of es q)
 entry_of-set [] i d p new q r h e f = absurd (omega arith)
 entry_of-set (x ∷ es) zero d p new q r h e f =
-    ap (λ n. if n == q.0 then new else entry_of es q) f ∙ by_test (p.0 == q.0) ∙ sym (ap (λ n. if p.0 == q.0 then new else (if n == q.0 then x else entry_of es q)) e) where
+    ap (λ n. if n == q.0 then new else entry_of es q) f ∙ by_test (p.0 == q.0) ∙ sym
+    (ap (λ n. if p.0 == q.0 then new else (if n == q.0 then x else entry_of es q)) e) where
       by_test : (b : Bool) → (if b then new else entry_of es q) ≡ (if b then new else (if b then x else entry_of es q))
       by_test true = refl
       by_test false = refl
@@ -42,24 +45,28 @@ entry_of-set (x ∷ es) (suc i) d p new q r h e f =
     let before : x.peer.0 < (get_or es i d).peer.0 = r.at 0 (suc i) d (omega arith) h in
     let other : x.peer.0 ≢ p.0 = λ same. omega arith in
     rw (entry_of-set es i d p new q (Rise-rest x es r) (omega arith) e f) (by_test (x.peer.0 == q.0) refl other) where
-      by_test : (b : Bool) → (x.peer.0 == q.0) ≡ b → x.peer.0 ≢ p.0 → (if b then x else (if p.0 == q.0 then new else entry_of es q)) ≡ (if p.0 == q.0 then new else (if b then x else entry_of es q))
+      by_test : (b : Bool) → (x.peer.0 == q.0) ≡ b → x.peer.0 ≢ p.0 → (if b then x else (if p.0 == q.0 then new else entry_of es q)) ≡
+          (if p.0 == q.0 then new else (if b then x else entry_of es q))
       by_test true g n = let o : (p.0 == q.0) ≡ false = ne_eqb p.0 q.0 (λ same. n (eqb-true x.peer.0 q.0 g ∙ sym same)) in rw o refl
       by_test false g n = refl
 
 -- the entry that was found, changed, is put back
-pub Changes-put : (f : Entry → Entry) (es new : List Entry) (p : PeerId) (i : ℕ) (x : Entry) → IsPeers (peers_of es) → IsEntryPlace p es (Ok i) → x ≡ get_or es i x → (f x).peer ≡ x.peer → new ≡ set es i (f x) → Changes p f es new
+pub Changes-put : (f : Entry → Entry) (es new : List Entry) (p : PeerId) (i : ℕ) (x : Entry) → IsPeers (peers_of es) → IsEntryPlace p es (Ok i) → x ≡
+    get_or es i x → (f x).peer ≡ x.peer → new ≡ set es i (f x) → Changes p f es new
 Changes-put f es new p i x up place is same put q = rw put (
     let r = Rising-peers es up in
     let here : (get_or es i x).peer.0 ≡ p.0 = place.1 x in
     let own : x.peer.0 ≡ p.0 = ap (λ (e : Entry). e.peer.0) is ∙ here in
     entry_of-set es i x p (f x) q r place.0 here (ap (λ (t : PeerId). t.0) same ∙ own)
     ∙ by_test (p.0 == q.0) refl (λ e. is ∙ sym (entry_of-at es i x q r place.0 (here ∙ e)))) where
-      by_test : (b : Bool) → (p.0 == q.0) ≡ b → (p.0 ≡ q.0 → x ≡ entry_of es q) → (if b then f x else entry_of es q) ≡ (if b then f (entry_of es q) else entry_of es q)
+      by_test : (b : Bool) → (p.0 == q.0) ≡ b → (p.0 ≡ q.0 → x ≡ entry_of es q) → (if b then f x else entry_of es q) ≡
+          (if b then f (entry_of es q) else entry_of es q)
       by_test true e k = ap f (k (eqb-true p.0 q.0 e))
       by_test false e k = refl
 
 -- a change that leaves a peer without an entry alone
-pub Changes-absent : (f : Entry → Entry) (es : List Entry) (p : PeerId) (i : ℕ) → IsEntryPlace p es (Err i) → f (idle_entry p) ≡ idle_entry p → Changes p f es es
+pub Changes-absent : (f : Entry → Entry) (es : List Entry) (p : PeerId) (i : ℕ) → IsEntryPlace p es (Err i) → f (idle_entry p) ≡ idle_entry p →
+    Changes p f es es
 Changes-absent f es p i place same q = by_test (p.0 == q.0) refl where
   by_test : (b : Bool) → (p.0 == q.0) ≡ b → entry_of es q ≡ (if b then f (entry_of es q) else entry_of es q)
   by_test true e =
@@ -75,7 +82,8 @@ peers_of-set (x ∷ es) zero d new e = ap (λ p. p ∷ peers_of es) (e (omega ar
 peers_of-set (x ∷ es) (suc i) d new e = ap (λ ps. x.peer ∷ ps) (peers_of-set es i d new (λ h. e (omega arith)))
 
 -- what a binary search by the peers' numbers finds
-pub IsPlaceOf-searched : (es : List Entry) (p : PeerId) (r : Result ℕ ℕ) → Rising es → IsSearchInRange r (length es) → IsBinarySearchResult (λ (e : Entry). nat_cmp e.peer.0 p.0) es r → IsEntryPlace p es r
+pub IsPlaceOf-searched : (es : List Entry) (p : PeerId) (r : Result ℕ ℕ) → Rising es → IsSearchInRange r (length es) →
+    IsBinarySearchResult (λ (e : Entry). nat_cmp e.peer.0 p.0) es r → IsEntryPlace p es r
 IsPlaceOf-searched es p (Ok i) rise bound found = (bound, λ d. equal_means (get_or es i d).peer.0 p.0 (found d))
 IsPlaceOf-searched es p (Err i) rise bound found =
     let number = λ (e : Entry). e.peer.0 in
@@ -96,7 +104,8 @@ peers_of-idle (p ∷ ps) = ap (λ qs. p ∷ qs) (peers_of-idle ps)
 pub entry_of-idle : (ps : List PeerId) (q : PeerId) → entry_of (map idle_entry ps) q ≡ idle_entry q
 entry_of-idle [] q = refl
 entry_of-idle (p ∷ ps) q = by_test (p.0 == q.0) refl (entry_of-idle ps q) where
-  by_test : (b : Bool) → (p.0 == q.0) ≡ b → entry_of (map idle_entry ps) q ≡ idle_entry q → (if b then idle_entry p else entry_of (map idle_entry ps) q) ≡ idle_entry q
+  by_test : (b : Bool) → (p.0 == q.0) ≡ b → entry_of (map idle_entry ps) q ≡ idle_entry q → (if b then idle_entry p else entry_of (map idle_entry ps) q) ≡
+      idle_entry q
   by_test true e rest = let it : p ≡ q = ap (λ n. record { 0 = n }) (eqb-true p.0 q.0 e) in ap idle_entry it
   by_test false e rest = rest
 
@@ -105,10 +114,12 @@ pub peers_of-map : (f : Entry → Entry) → ((e : Entry) → (f e).peer ≡ e.p
 peers_of-map f same [] = refl
 peers_of-map f same (x ∷ es) = ap (λ p. p ∷ peers_of (map f es)) (same x) ∙ ap (λ ps. x.peer ∷ ps) (peers_of-map f same es)
 
-pub ChangesAll-map : (f : Entry → Entry) → ((e : Entry) → (f e).peer ≡ e.peer) → ((p : PeerId) → f (idle_entry p) ≡ idle_entry p) → (es : List Entry) → ChangesAll f es (map f es)
+pub ChangesAll-map : (f : Entry → Entry) → ((e : Entry) → (f e).peer ≡ e.peer) → ((p : PeerId) → f (idle_entry p) ≡ idle_entry p) → (es : List Entry) →
+    ChangesAll f es (map f es)
 ChangesAll-map f same idle [] q = sym (idle q)
 ChangesAll-map f same idle (x ∷ es) q =
-    ap (λ n. if n == q.0 then f x else entry_of (map f es) q) (ap (λ (p : PeerId). p.0) (same x)) ∙ by_test (x.peer.0 == q.0) (ChangesAll-map f same idle es q) where
+    ap (λ n. if n == q.0 then f x else entry_of (map f es) q) (ap (λ (p : PeerId). p.0) (same x)) ∙
+    by_test (x.peer.0 == q.0) (ChangesAll-map f same idle es q) where
       by_test : (b : Bool) → entry_of (map f es) q ≡ f (entry_of es q) → (if b then f x else entry_of (map f es) q) ≡ f (if b then x else entry_of es q)
       by_test true rest = refl
       by_test false rest = rest
@@ -124,15 +135,18 @@ drop_past (x ∷ xs) zero h = absurd (omega arith)
 drop_past (x ∷ xs) (suc n) h = drop_past xs n (omega arith)
 
 -- one entry more is changed
-pub mapped_more : (f : Entry → Entry) (xs now : List Entry) (i : ℕ) (d : Entry) → i < length xs → now ≡ map f (take i xs) ++ drop i xs → set now i (f (get_or now i d)) ≡ map f (take (i + 1) xs) ++ drop (i + 1) xs
+pub mapped_more : (f : Entry → Entry) (xs now : List Entry) (i : ℕ) (d : Entry) → i < length xs → now ≡ map f (take i xs) ++ drop i xs →
+    set now i (f (get_or now i d)) ≡ map f (take (i + 1) xs) ++ drop (i + 1) xs
 mapped_more f xs now i d h e =
     let front : length (map f (take i xs)) ≡ i = length-map (take i xs) f ∙ length-take-le i xs (omega arith) in
     let rest : drop i xs ≡ get_or xs i d ∷ drop (i + 1) xs = drop_more xs i d h in
     let is : now ≡ map f (take i xs) ++ get_or xs i d ∷ drop (i + 1) xs = e ∙ ap (λ ys. map f (take i xs) ++ ys) rest in
     let here : get_or now i d ≡ get_or xs i d = ap (λ ys. get_or ys i d) is ∙ get_or_at (map f (take i xs)) (get_or xs i d) (drop (i + 1) xs) d i front in
     let one : i + 1 ≡ suc i = omega arith in
-    let more : map f (take (i + 1) xs) ≡ map f (take i xs) ++ f (get_or xs i d) ∷ [] = ap (λ k. map f (take k xs)) one ∙ ap (map f) (take-suc xs i d h) ∙ map-append f (take i xs) (get_or xs i d ∷ []) in
-    ap (λ x. set now i (f x)) here ∙ ap (λ ys. set ys i (f (get_or xs i d))) is ∙ set_at (map f (take i xs)) (get_or xs i d) (drop (i + 1) xs) (f (get_or xs i d)) i front
+    let more : map f (take (i + 1) xs) ≡ map f (take i xs) ++ f (get_or xs i d) ∷ [] = ap (λ k. map f (take k xs)) one ∙ ap (map f) (take-suc xs i d h) ∙
+    map-append f (take i xs) (get_or xs i d ∷ []) in
+    ap (λ x. set now i (f x)) here ∙ ap (λ ys. set ys i (f (get_or xs i d))) is ∙
+    set_at (map f (take i xs)) (get_or xs i d) (drop (i + 1) xs) (f (get_or xs i d)) i front
     ∙ sym (ap (λ ys. ys ++ drop (i + 1) xs) more ∙ append_assoc (map f (take i xs)) (f (get_or xs i d) ∷ []) (drop (i + 1) xs))
 
 -- all entries are changed

@@ -1,5 +1,6 @@
 -- Lemmas on what is measured with a peer.
-use Rattle.std.proofs.Common.{◌≡◌, ◌∙◌, refl, ap, sym, ℕ, zero, suc, ◌<◌, ◌≤◌, ◌==◌, cond, Bool, true, false, List, [], ◌∷◌, ◌++◌, length, get_or, set, arith, MatchResult, MatchOption, Result, Ok, Err, inl, inr, ◌⊎◌}
+use Rattle.std.proofs.Common.{◌≡◌, ◌∙◌, refl, ap, sym, ℕ, zero, suc, ◌<◌, ◌≤◌, ◌==◌, cond, Bool, true, false, List, [], ◌∷◌, ◌++◌, length, get_or, set, arith}
+use Rattle.std.proofs.Common.{MatchResult, MatchOption, Result, Ok, Err, inl, inr, ◌⊎◌}
 use Rattle.std.proofs.lemmas.List.Elements.{All-from_get_or, All-contains}
 use Rattle.std.proofs.{Math.ListN.length-set, lemmas.Bool.cases_lt, lemmas.Bool.Decides.nat_tests, lemmas.List.get_or-set_same}
 use Rattle.std.specs.{List.All, List.Contains, Result.result_ok}
@@ -13,7 +14,8 @@ other_test : (q p : ℕ) → (q ≡ p → ⊥) → (q == p) ≡ false
 other_test q p e = grind (arith, nat_tests)
 
 -- the peer at a place
-pub at_peer-found : (peers : List ℕ) (measured : List Measured) (p i : ℕ) (d : Measured) → Rise (λ (n : ℕ). n) peers → length measured ≤ length peers → i < length measured → get_or peers i 0 ≡ p → at_peer peers measured p ≡ get_or measured i d
+pub at_peer-found : (peers : List ℕ) (measured : List Measured) (p i : ℕ) (d : Measured) → Rise (λ (n : ℕ). n) peers → length measured ≤ length peers →
+    i < length measured → get_or peers i 0 ≡ p → at_peer peers measured p ≡ get_or measured i d
 at_peer-found [] measured p i d up e h k = absurd (omega arith)
 at_peer-found (q ∷ peers) [] p i d up e h k = absurd (omega arith)
 at_peer-found (q ∷ peers) (m ∷ measured) p zero d up e h k = rw (same_test q p k) refl
@@ -23,11 +25,13 @@ at_peer-found (q ∷ peers) (m ∷ measured) p (suc i) d up e h k =
     rw (other_test q p (λ w. omega (arith, lt, k, w))) (at_peer-found peers measured p i d (Rise-rest q peers up) (omega arith) (omega arith) k)
 
 -- what is put at one peer's place leaves the others
-pub at_peer-others : (peers : List ℕ) (measured : List Measured) (p q i : ℕ) (m : Measured) → i < length peers → get_or peers i 0 ≡ p → (q ≡ p → ⊥) → at_peer peers (set measured i m) q ≡ at_peer peers measured q
+pub at_peer-others : (peers : List ℕ) (measured : List Measured) (p q i : ℕ) (m : Measured) → i < length peers → get_or peers i 0 ≡ p → (q ≡ p → ⊥) →
+    at_peer peers (set measured i m) q ≡ at_peer peers measured q
 at_peer-others [] measured p q i m h k ne = absurd (omega arith)
 at_peer-others (r ∷ peers) [] p q i m h k ne = refl
 at_peer-others (r ∷ peers) (x ∷ measured) p q zero m h k ne = rw (other_test r q (λ w. ne (sym w ∙ k))) refl
-at_peer-others (r ∷ peers) (x ∷ measured) p q (suc i) m h k ne = ap (λ (y : Measured). cond (r == q) x y) (at_peer-others peers measured p q i m (omega arith) k ne)
+at_peer-others (r ∷ peers) (x ∷ measured) p q (suc i) m h k ne = ap (λ (y : Measured). cond (r == q) x y) (at_peer-others peers measured p q i m (omega arith) k
+    ne)
 
 -- a number that isn't among the peers
 pub at_peer-missing : (peers : List ℕ) (measured : List Measured) (p : ℕ) → (Contains peers p → ⊥) → at_peer peers measured p ≡ nothing_measured
@@ -52,7 +56,8 @@ at_peer-more (q ∷ peers) [] p = either_way (q == p) nothing_measured (at_peer 
 at_peer-more (q ∷ peers) (m ∷ measured) p = ap (λ (y : Measured). cond (q == p) m y) (at_peer-more peers measured p)
 
 -- a peer whose place is past the list's end
-pub at_peer-past : (peers : List ℕ) (measured : List Measured) (p i : ℕ) → Rise (λ (n : ℕ). n) peers → length measured ≤ i → i < length peers → get_or peers i 0 ≡ p → at_peer peers measured p ≡ nothing_measured
+pub at_peer-past : (peers : List ℕ) (measured : List Measured) (p i : ℕ) → Rise (λ (n : ℕ). n) peers → length measured ≤ i → i < length peers →
+    get_or peers i 0 ≡ p → at_peer peers measured p ≡ nothing_measured
 at_peer-past [] measured p i up e h k = refl
 at_peer-past (q ∷ peers) [] p i up e h k = refl
 at_peer-past (q ∷ peers) (m ∷ measured) p zero up e h k = absurd (omega arith)
@@ -60,13 +65,15 @@ at_peer-past (q ∷ peers) (m ∷ measured) p (suc i) up e h k =
     let lt : q < get_or peers i 0 = up.at 0 (suc i) 0 (omega arith) h in
     rw (other_test q p (λ w. omega (arith, lt, k, w))) (at_peer-past peers measured p i (Rise-rest q peers up) (omega arith) (omega arith) k)
 
-misses_by : (xs : List ℕ) (x i k : ℕ) → ((k : ℕ) → k < i → get_or xs k 0 < x) → ((k : ℕ) → i ≤ k → k < length xs → x < get_or xs k 0) → k < length xs → (k < i) ⊎ (i ≤ k) → get_or xs k 0 ≡ x → ⊥
+misses_by : (xs : List ℕ) (x i k : ℕ) → ((k : ℕ) → k < i → get_or xs k 0 < x) → ((k : ℕ) → i ≤ k → k < length xs → x < get_or xs k 0) → k < length xs →
+    (k < i) ⊎ (i ≤ k) → get_or xs k 0 ≡ x → ⊥
 misses_by xs x i k low high h (inl lt) e = let a = low k lt in omega arith
 misses_by xs x i k low high h (inr le) e = let a = high k le h in omega arith
 
 -- what a binary search says of a number
 pub found_or_missing : (xs : List ℕ) (x : ℕ) (r : Result ℕ ℕ)
-    → MatchResult r (λ i. (i < length xs) × (get_or xs i 0 ≡ x)) (λ i. (i ≤ length xs) × ((k : ℕ) → k < i → get_or xs k 0 < x) × ((k : ℕ) → i ≤ k → k < length xs → x < get_or xs k 0))
+    → MatchResult r (λ i. (i < length xs) × (get_or xs i 0 ≡ x)) (λ i. (i ≤ length xs) × ((k : ℕ) → k < i → get_or xs k 0 < x) ×
+    ((k : ℕ) → i ≤ k → k < length xs → x < get_or xs k 0))
     → MatchOption (result_ok r) (Contains xs x → ⊥) (λ i. (i < length xs) × (get_or xs i 0 ≡ x))
 found_or_missing xs x (Ok i) h = h
 found_or_missing xs x (Err i) h = λ c.
@@ -74,7 +81,8 @@ found_or_missing xs x (Err i) h = λ c.
     All-contains (λ y. y ≡ x → ⊥) xs x none c refl
 
 -- what is put at a peer's place is what is measured with it
-pub at_peer-put : (peers : List ℕ) (measured : List Measured) (p i : ℕ) (m : Measured) → Rise (λ (n : ℕ). n) peers → length measured ≤ length peers → i < length measured → get_or peers i 0 ≡ p → at_peer peers (set measured i m) p ≡ m
+pub at_peer-put : (peers : List ℕ) (measured : List Measured) (p i : ℕ) (m : Measured) → Rise (λ (n : ℕ). n) peers → length measured ≤ length peers →
+    i < length measured → get_or peers i 0 ≡ p → at_peer peers (set measured i m) p ≡ m
 at_peer-put peers measured p i m up e h k =
     let long : length (set measured i m) ≡ length measured = length-set measured i m in
     at_peer-found peers (set measured i m) p i m up (omega arith) (omega arith) k ∙ get_or-set_same measured i m m h

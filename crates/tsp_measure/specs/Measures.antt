@@ -1,5 +1,6 @@
 -- What is measured with one peer.
-use Rattle.std.specs.Prelude.{◌≡◌, ℕ, ◌+◌, ◌<◌, ◌==◌, ◌&&◌, Bool, true, false, if◌then◌else◌, ℤ, pos, negsuc, ◌-ℤ◌, ◌≤ℤ◌, ◌<ℤ◌, int_lt, Option, None, Some, MatchOption, List, [], ◌∷◌, ◌++◌, length, slice_index_or}
+use Rattle.std.specs.Prelude.{◌≡◌, ℕ, ◌+◌, ◌<◌, ◌==◌, ◌&&◌, Bool, true, false, if◌then◌else◌, ℤ, pos, negsuc, ◌-ℤ◌, ◌≤ℤ◌, ◌<ℤ◌, int_lt, Option, None, Some}
+use Rattle.std.specs.Prelude.{MatchOption, List, [], ◌∷◌, ◌++◌, length, slice_index_or}
 use Rattle.std.specs.List.{All, fold}
 use Rattle.tsp_base.specs.Words.{sample_diff, sample_err}
 use Rattle.tsp_measure.specs.declared.{exchange.Exchange.Exchange, sample.Reply.Reply, sample.Sample.Sample, sample.TimedSample.TimedSample}
@@ -35,7 +36,10 @@ pub record IsNewCounter (counter : ℕ) (m : Measured) : Type 0 where
 
 -- the sample of a request that was sent at a and answered at d, where the other clock read s
 abbrev pub timed_sample : ℤ → ℤ → ℤ → ℕ → ℕ → TimedSample
-timed_sample a s d ticket counter = record { sample = record { diff = sample_diff a s d; err = sample_err a d; ticket = ticket; counter = counter }; trip = d -ℤ a }
+timed_sample a s d ticket counter = record {
+  sample = record { diff = sample_diff a s d; err = sample_err a d; ticket = ticket; counter = counter };
+  trip = d -ℤ a;
+}
 
 -- whether an exchange has this word and counter
 abbrev pub asks : ℕ → ℕ → Exchange → Bool

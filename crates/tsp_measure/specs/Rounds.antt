@@ -77,5 +77,8 @@ pub record Starts (p : PeerId) (word : ℕ) (a : ℤ) (old new : RoundsValue) : 
   pub probes : new.probes ≡ old.probes
   pub peers : new.exchanges.peers ≡ old.exchanges.peers
   pub fresh : pending_at old.asked (measured_with old p).pending ≡ None
-  pub started : measured_with new p ≡ record (measured_with old p) { pending = (measured_with old p).pending ++ record { word = word; counter = old.asked; a = a } ∷ [] }
+  pub started : measured_with new p ≡ record (measured_with old p) {
+    pending = (measured_with old p).pending ++
+        record { word = word; counter = old.asked; a = a } ∷ [];
+  }
   pub others : (q : PeerId) → (q.0 ≡ p.0 → ⊥) → measured_with new q ≡ measured_with old q

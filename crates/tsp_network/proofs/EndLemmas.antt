@@ -11,7 +11,8 @@ use Rattle.tsp_network.specs.{Lives.Daemons, Lives.Life, Lives.session_of, Lives
 use Rattle.tsp_network.specs.{Networks.network, Told.IsTold, Told.IsTriedSo, Told.ServedIsTried, Told.told_session}
 use Rattle.tsp_network.proofs.{NetworksKeep.all-tried, NetworksKeep.ends-after, ToldLemmas.sessions_are_told}
 
-module _ (d : Daemons) (events : List Event) (step : Step) (life : Life) (o : Outside) (written : List ℕ) (there : (network d events).lives step.node ≡ Some life) (told : IsTold o life.wall life.word life) where
+module _ (d : Daemons) (events : List Event) (step : Step) (life : Life) (o : Outside) (written : List ℕ) (there : (network d events).lives step.node ≡
+    Some life) (told : IsTold o life.wall life.word life) where
   -- the session when the turn began
   abbrev began : Session
   began = told_session (d.words step.node) o life.wall life.word written life
@@ -24,7 +25,8 @@ module _ (d : Daemons) (events : List Event) (step : Step) (life : Life) (o : Ou
   before-turn tried is = inl (is ∙ ap (λ l. Some l) (far ∙ ap (λ l. o.tried ++ l) (all-tried d events step.node life there).tried))
 
   -- the first of the turn's sends were tried
-  in-turn : (tried : Option (List Tried)) (part rest : List Tried) → sends_of (acts_in_turn began) ≡ part ++ rest → tried ≡ Some (began.outside.tried ++ part) → IsTriedSo d events step o life tried
+  in-turn : (tried : Option (List Tried)) (part rest : List Tried) → sends_of (acts_in_turn began) ≡ part ++ rest → tried ≡ Some (began.outside.tried ++ part) →
+      IsTriedSo d events step o life tried
   in-turn tried part rest cut is = inr (
     length part,
     λ arrival early tick later ends.
@@ -42,7 +44,8 @@ module _ (d : Daemons) (events : List Event) (step : Step) (life : Life) (o : Ou
 
   until-end : (turns : ℕ) (arrivals : Option (List Arrival)) (tried : Option (List Tried)) (calls : Option ℕ) (readings : Option (List ℕ)) (last : ℕ)
       (shown : Option (List ℕ)) (end : ServeEnd) →
-      ServesUntil turns (length life.arrivals) (first_session (d.words step.node) (after_bind o) life.wall life.word written) arrivals tried calls readings last shown end →
+      ServesUntil turns (length life.arrivals) (first_session (d.words step.node) (after_bind o) life.wall life.word written) arrivals tried calls readings last
+      shown end →
       IsTriedSo d events step o life tried
   until-end turns arrivals tried calls readings last shown Done e = before-turn tried e.1.tried_are
   until-end turns arrivals tried calls readings last shown LinkFault e = before-turn tried e.1.0.tried_are

@@ -1,5 +1,6 @@
 -- Lists of events without foreign octets, and what a test finds of all of them: that each can happen, that takes are early, that words differ.
-use Rattle.std.proofs.Common.{length-append, subst, suc, ◌-◌, if◌then◌else◌, ap, arith, leb-true, true≢false, ◌∙◌, sym, ◌≡◌, ℕ, ◌+◌, ◌<◌, ◌≤◌, ◌==◌, ◌&&◌, nat_le, nat_lt, not, Bool, true, false, List, [], ◌∷◌, length, Option, None, Some, slice_get, eq-eqb, All, refl}
+use Rattle.std.proofs.Common.{length-append, subst, suc, ◌-◌, if◌then◌else◌, ap, arith, leb-true, true≢false, ◌∙◌, sym, ◌≡◌, ℕ, ◌+◌, ◌<◌, ◌≤◌, ◌==◌, ◌&&◌}
+use Rattle.std.proofs.Common.{nat_le, nat_lt, not, Bool, true, false, List, [], ◌∷◌, length, Option, None, Some, slice_get, eq-eqb, All, refl}
 use Rattle.std.proofs.lemmas.{Bool.and_parts, Bool.ltb-true, List.Elements.All-cons, List.Elements.All-nil}
 use Rattle.tsp_rules.specs.Values.{Event, BootAt, Turn, Take, Bytes, LIFE}
 use Rattle.tsp_base.specs.{Words.HeaderValue, declared.event.EventFault.EventFault}
@@ -162,7 +163,8 @@ soon-so at (Some q) soon p there =
     let same : q.at ≡ p.at = cc in
     omega (arith, early, same)
 
-soon-prompt : (clocks : Clocks) (header : HeaderValue) (before : List Event) (e : Event) → takes_soon (posts (run_by clocks header before)) e ≡ true → IsPromptBy clocks header before e
+soon-prompt : (clocks : Clocks) (header : HeaderValue) (before : List Event) (e : Event) → takes_soon (posts (run_by clocks header before)) e ≡ true →
+    IsPromptBy clocks header before e
 soon-prompt clocks header before (Take at k) p = soon-so at (slice_get (posts (run_by clocks header before)) k) p
 soon-prompt clocks header before _ p = tt
 

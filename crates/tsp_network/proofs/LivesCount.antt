@@ -36,15 +36,19 @@ module _ (setting : Setting) (forgets : ForgetsLives wandering setting) where
   -- a clock at the reply
   clock-is : (n : ℕ) → clock setting n after_reply ≡ clock_of n (wandering.wall n 1)
   clock-is n =
-      ap (λ w. (w +ℤ moved (dids (of n after_reply))) +ℤ pos (setting.tick n (time_of (dids after_reply)))) (forgets.wall_is n (lives (dids (of n after_reply))))
+      ap (λ w. (w +ℤ moved (dids (of n after_reply))) +ℤ pos (setting.tick n (time_of (dids after_reply))))
+      (forgets.wall_is n (lives (dids (of n after_reply))))
       ∙ ap (λ x. (wandering.wall n 1 +ℤ moved (dids (of n after_reply))) +ℤ pos x) (forgets.tick_is n (time_of (dids after_reply)))
 
   not-read : ReadBy setting sample_line (all_but_first (ran sampled)) (peer 1) (pos 5446606) (pos 311) → ⊥
   not-read r =
       let number : 30 ≡ posted (dids r.older) = same-number 30 (posted (dids r.older)) r.takes in
-      let there : Within (reply_line ∷ all_but_first after_reply) (all_but_first (ran sampled)) = subst (λ h. Within h (all_but_first (ran sampled))) is_wandered.replies is_wandered.place in
-      let one = post_unique (all_but_first (ran sampled)) r.post reply_line r.older (all_but_first after_reply) (Peer (peer 0)) (Peer (peer 0)) (Stamp (Reply r.reply))
-      (Stamp (Reply (record { ticket = 1899; word = 737; counter = 9; reading = pos 1116976788 }))) r.place there r.deed refl (sym number ∙ sym is_wandered.number) in
+      let there : Within (reply_line ∷ all_but_first after_reply) (all_but_first (ran sampled)) =
+      subst (λ h. Within h (all_but_first (ran sampled))) is_wandered.replies is_wandered.place in
+      let one = post_unique (all_but_first (ran sampled)) r.post reply_line r.older (all_but_first after_reply) (Peer (peer 0)) (Peer (peer 0))
+      (Stamp (Reply r.reply))
+      (Stamp (Reply (record { ticket = 1899; word = 737; counter = 9; reading = pos 1116976788 }))) r.place there r.deed refl (sym number ∙
+      sym is_wandered.number) in
       let same : r.post ∷ r.older ≡ after_reply = one ∙ sym is_wandered.replies in
       let near : pos (nat_abs (pos 5446606 -ℤ (clock setting 1 after_reply -ℤ clock setting 0 after_reply))) ≤ℤ pos 311 =
       subst (λ h. pos (nat_abs (pos 5446606 -ℤ (clock setting 1 h -ℤ clock setting 0 h))) ≤ℤ pos 311) same r.near in

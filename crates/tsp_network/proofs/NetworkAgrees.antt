@@ -7,7 +7,8 @@ use Rattle.tsp_args.specs.declared.serve.ServeWords.{ServeWords}
 use Rattle.tsp_io.specs.Links.{Arrival}
 use Rattle.tsp_daemon.specs.Sessions.{Session, acts_in_turn, turned, turn_begun, turn_cause, given_of}
 use Rattle.tsp_daemon.specs.{Nodes.daemon_config, Nodes.setups_from, Posts.sends_of}
-use Rattle.tsp_network.specs.Networks.{named_acts, daemon_tick, Network, acted, next_life, life_from, node_wall, nothing_yet, life_until, sent_by, sent_until, starts, turned_to, turns}
+use Rattle.tsp_network.specs.Networks.{named_acts, daemon_tick, Network, acted, next_life, life_from, node_wall, nothing_yet, life_until, sent_by, sent_until}
+use Rattle.tsp_network.specs.Networks.{starts, turned_to, turns}
 use Rattle.tsp_network.proofs.SetUpLemmas.{daemon_ports, tells_apart, AllMatch, NoneMatch, acts_match, match_append, until_match, configs_alike}
 use Rattle.tsp_network.specs.Lives.{Life, session_after, session_of, turn_told, turn_acts, Daemons, AreStarted, first_acts}
 use Rattle.tsp_network.specs.Rosters.{renaming_on}
@@ -33,29 +34,43 @@ with_more arrivals readings life = record life { arrivals = life.arrivals ++ arr
 
 -- lives that began, and were told turn after turn
 pub data Reached : Life → Type 0 where
-  Began : (origin sent : ℕ) (wall : ℤ) (word first : ℕ) → Reached (record { origin = origin; sent_before = sent; wall = wall; word = word; arrivals = []; readings = first ∷ [] })
+  Began : (origin sent : ℕ) (wall : ℤ) (word first : ℕ) → Reached (record {
+    origin = origin;
+    sent_before = sent;
+    wall = wall;
+    word = word;
+    arrivals = [];
+    readings = first ∷ [];
+  })
   Went : {life : Life} → Reached life → (arrival : Arrival) (early tick : ℕ) → Reached (turn_told arrival early tick life)
 
 -- after as many turns as were told, what is told besides is left
-pub left_over : (s : ServeWords) {life : Life} → Reached life → (came : List Arrival) (ts : List ℕ) → session_after (length life.arrivals) s (with_more came ts life) ≡ told_so came ts (session_of s life)
+pub left_over : (s : ServeWords) {life : Life} → Reached life → (came : List Arrival) (ts : List ℕ) →
+    session_after (length life.arrivals) s (with_more came ts life) ≡ told_so came ts (session_of s life)
 left_over s (Began origin sent wall word first) came ts = refl
 left_over s (Went {life} r arrival early tick) came ts =
-    let count : length (life.arrivals ++ arrival ∷ []) ≡ suc (length life.arrivals) = length-append life.arrivals (arrival ∷ []) ∙ (let e : length life.arrivals + 1 ≡ suc (length life.arrivals) = omega arith in e) in
+    let count : length (life.arrivals ++ arrival ∷ []) ≡ suc (length life.arrivals) = length-append life.arrivals (arrival ∷ []) ∙
+    (let e : length life.arrivals + 1 ≡ suc (length life.arrivals) = omega arith in e) in
     ap (λ n. session_after n s (with_more came ts (turn_told arrival early tick life))) count
-    ∙ ap (λ l. turned (session_after (length life.arrivals) s (record life { arrivals = l; readings = (life.readings ++ early ∷ tick ∷ []) ++ ts }))) (append_assoc life.arrivals (arrival ∷ []) came)
-    ∙ ap (λ l. turned (session_after (length life.arrivals) s (record life { arrivals = life.arrivals ++ arrival ∷ came; readings = l }))) (append_assoc life.readings (early ∷ tick ∷ []) ts)
+    ∙ ap (λ l. turned (session_after (length life.arrivals) s (record life { arrivals = l; readings = (life.readings ++ early ∷ tick ∷ []) ++ ts })))
+    (append_assoc life.arrivals (arrival ∷ []) came)
+    ∙ ap (λ l. turned (session_after (length life.arrivals) s (record life { arrivals = life.arrivals ++ arrival ∷ came; readings = l })))
+    (append_assoc life.readings (early ∷ tick ∷ []) ts)
     ∙ ap turned (left_over s r (arrival ∷ came) (early ∷ tick ∷ ts))
     ∙ ap (told_so came ts) (sym (ap turned (left_over s r (arrival ∷ []) (early ∷ tick ∷ []))))
     ∙ ap (λ n. told_so came ts (session_after n s (turn_told arrival early tick life))) (sym count)
 
 -- the session after one turn more
-pub session_told : (s : ServeWords) {life : Life} → Reached life → (a : Arrival) (e t : ℕ) → session_of s (turn_told a e t life) ≡ turned (told_so (a ∷ []) (e ∷ t ∷ []) (session_of s life))
+pub session_told : (s : ServeWords) {life : Life} → Reached life → (a : Arrival) (e t : ℕ) → session_of s (turn_told a e t life) ≡
+    turned (told_so (a ∷ []) (e ∷ t ∷ []) (session_of s life))
 session_told s {life} r a e t =
-    let count : length (life.arrivals ++ a ∷ []) ≡ suc (length life.arrivals) = length-append life.arrivals (a ∷ []) ∙ (let same : length life.arrivals + 1 ≡ suc (length life.arrivals) = omega arith in same) in
+    let count : length (life.arrivals ++ a ∷ []) ≡ suc (length life.arrivals) = length-append life.arrivals (a ∷ []) ∙
+    (let same : length life.arrivals + 1 ≡ suc (length life.arrivals) = omega arith in same) in
     ap (λ n. session_after n s (turn_told a e t life)) count ∙ ap turned (left_over s r (a ∷ []) (e ∷ t ∷ []))
 
 -- and the acts of that turn
-pub acts_told : (s : ServeWords) {life : Life} → Reached life → (a : Arrival) (e t : ℕ) → turn_acts s life (turn_told a e t life) ≡ acts_in_turn (told_so (a ∷ []) (e ∷ t ∷ []) (session_of s life))
+pub acts_told : (s : ServeWords) {life : Life} → Reached life → (a : Arrival) (e t : ℕ) → turn_acts s life (turn_told a e t life) ≡
+    acts_in_turn (told_so (a ∷ []) (e ∷ t ∷ []) (session_of s life))
 acts_told s {life} r a e t = ap acts_in_turn (left_over s r (a ∷ []) (e ∷ t ∷ []))
 
 -- of a past only its lines and its setup matter
@@ -163,8 +178,10 @@ module _ (d : Daemons) (is : IsSetUp d.header) (keeps : (n : ℕ) → KeepsTime 
             (stepped_other m step (tick_by d.clocks step) (named_acts nets step.node now.origin acts) h off) later (a.nodes m)
 
   -- a daemon takes a turn, and its node what comes to it: both act the same, and agree after it
-  pub turn_agrees_all : (w : Network) (t : ℕ) (h : List Line) (k : ℕ) (step : Step) (a : Arrival) (life : Life) (g : NodeGiven) → AllAgree w t h → t ≤ step.at → w.lives step.node ≡ Some life →
-      renamed_given (renaming_on nets step.node life.origin) (given step.node life a) ≡ g → ComesOn (session_of (d.words step.node) life).past (given step.node life a) →
+  pub turn_agrees_all : (w : Network) (t : ℕ) (h : List Line) (k : ℕ) (step : Step) (a : Arrival) (life : Life) (g : NodeGiven) → AllAgree w t h → t ≤ step.at →
+      w.lives step.node ≡ Some life →
+      renamed_given (renaming_on nets step.node life.origin) (given step.node life a) ≡ g →
+      ComesOn (session_of (d.words step.node) life).past (given step.node life a) →
       AllAgree (turns d k step a (w.lives step.node) w) step.at (joins (Some (stepping d.clocks d.header h (answers_all g) step)) h)
   turn_agrees_all w t h k step a life g all later lives same comes =
       let n : ℕ = step.node in

@@ -1,5 +1,6 @@
 -- Event after event a network of daemons does what the run of its events does, and what can happen in it isn't impossible in the run.
-use Rattle.std.proofs.Common.{sym, ap, subst, inl, inr, ◌∙◌, ◌≡◌, ℕ, ◌<◌, ◌≤◌, ◌==◌, not, true, List, length, Option, None, Some, All, refl, arith, length-append, ◌-◌, ◌^◌, nat_le, false, if◌then◌else◌, [], ◌∷◌, ◌++◌, slice_get}
+use Rattle.std.proofs.Common.{sym, ap, subst, inl, inr, ◌∙◌, ◌≡◌, ℕ, ◌<◌, ◌≤◌, ◌==◌, not, true, List, length, Option, None, Some, All, refl, arith}
+use Rattle.std.proofs.Common.{length-append, ◌-◌, ◌^◌, nat_le, false, if◌then◌else◌, [], ◌∷◌, ◌++◌, slice_get}
 use Rattle.std.proofs.lemmas.List.Elements.{All-get_or, All-filter, All-nil, All-cons}
 use Rattle.std.proofs.lemmas.Bool.{le-ltb, lt-ltb}
 use Rattle.tsp_rules.specs.Values.{BootAt, Turn, Take, Bytes, Peer, Stranger, Place, Port, Event, Message, Stamp, Datagram, Request, Reply}
@@ -39,9 +40,11 @@ is-up s n e = rw e refl
 could_take : (s : Scene) (at k : ℕ) → s.last ≤ at → k < length s.posts → down s.up (actor s (Take at k)) ≡ None → impossible s (Take at k) ≡ None
 could_take s at k time few up_is = none-of (in-time at s.last time) (none-of refl (none-of (rw (lt-ltb k (length s.posts) few) refl) up_is))
 
-could_come : (s : Scene) (at node : ℕ) (port : Port) (from : Place) (octets : List ℕ) → s.last ≤ at → node < s.nodes → port.0 < port_count node s.networks → unknown_place s.nodes from ≡ None → s.up node ≡ true → impossible s (Bytes at node port from octets) ≡ None
+could_come : (s : Scene) (at node : ℕ) (port : Port) (from : Place) (octets : List ℕ) → s.last ≤ at → node < s.nodes → port.0 < port_count node s.networks →
+    unknown_place s.nodes from ≡ None → s.up node ≡ true → impossible s (Bytes at node port from octets) ≡ None
 could_come s at node port from octets time low has place up_is =
-    none-of (in-time at s.last time) (none-of (none-of (is-node s.nodes node low) (none-of (rw (lt-ltb port.0 (port_count node s.networks) has) refl) place)) (none-of refl (is-up s node up_is)))
+    none-of (in-time at s.last time) (none-of (none-of (is-node s.nodes node low) (none-of (rw (lt-ltb port.0 (port_count node s.networks) has) refl) place))
+    (none-of refl (is-up s node up_is)))
 
 -- whoever octets may come from is a node, or a stranger
 sender_known : (d : Daemons) → IsSetUp d.header → (n : ℕ) → n < length d.header.nodes → (q : Port) → q.0 < length (ports_on n (networks d.header)) →
@@ -53,13 +56,16 @@ sender_known d is n low q has (Peer m) (inr member) =
     let at = place_is m.0 (neighbours_on n q.0 (networks d.header)) member in
     let below : All (λ k. k < length d.header.nodes) (neighbours_on n q.0 (networks d.header)) =
     subst (λ l. All (λ k. k < length d.header.nodes) l) (sym p.nodes) (All-filter (λ k. not (k == n)) (λ k. k < length d.header.nodes) p.net p.good.low) in
-    is-node (length d.header.nodes) m.0 (subst (λ k. k < length d.header.nodes) at.is (All-get_or (λ k. k < length d.header.nodes) (neighbours_on n q.0 (networks d.header)) (place_in m.0 (neighbours_on n q.0 (networks d.header))) 0 at.few below))
+    is-node (length d.header.nodes) m.0 (subst (λ k. k < length d.header.nodes) at.is
+    (All-get_or (λ k. k < length d.header.nodes) (neighbours_on n q.0 (networks d.header)) (place_in m.0 (neighbours_on n q.0 (networks d.header))) 0 at.few
+    below))
 
 -- a written datagram has at most 268 octets
 canon-small : (x : Datagram) → IsSound x → length (canon x) ≤ 512
-canon-small (Message m) s = let size = length_canon (Message m) (sound_writable (Message m) s) in let room = small-room (length m.name) in omega (arith, size, room) where
-  small-room : (n : ℕ) → room_for n ≤ 256
-  small-room n = elim (nat_le n 63) as (λ b. (if b then 64 else 256) ≤ 256) [ true ↦ omega arith | false ↦ omega arith ]
+canon-small (Message m) s = let size = length_canon (Message m) (sound_writable (Message m) s) in let room = small-room (length m.name) in
+    omega (arith, size, room) where
+      small-room : (n : ℕ) → room_for n ≤ 256
+      small-room n = elim (nat_le n 63) as (λ b. (if b then 64 else 256) ≤ 256) [ true ↦ omega arith | false ↦ omega arith ]
 canon-small (Stamp (Request word counter)) s = let size = length_canon (Stamp (Request word counter)) s in omega (arith, size)
 canon-small (Stamp (Reply r)) s = let size = length_canon (Stamp (Reply r)) s in omega (arith, size)
 
@@ -177,7 +183,8 @@ module _ (d : Daemons) (header_is : IsSetUp d.header) (keeps : (n : ℕ) → Kee
         destination nets s.from s.tried.0 ≡ o → RunsAt d w o → EventAgrees (Take at k) before
     by_address s m there None e r =
         let away : address_of nets m.post.from m.post.port m.post.to ≡ None = sym m.matches.goes ∙ e in
-        let net : after_event d (length before) (Take at k) w ≡ w = ap (λ z. takes_copy d (length before) at k z w) there ∙ ap (λ z. delivers d (length before) at k s z w) e in
+        let net : after_event d (length before) (Take at k) w ≡ w = ap (λ z. takes_copy d (length before) at k z w) there ∙
+        ap (λ z. delivers d (length before) at k s z w) e in
         let nowhere : goes_to nets (slice_get (posts h) k) ≡ None = ap (goes_to nets) m.there ∙ away in
         let nothing : happening_by d.clocks d.header h (Take at k) ≡ None = ap (λ z. reaches_by d.clocks d.header h at k (arrives nets z)) m.there ∙
         ap (λ z. reaches_by d.clocks d.header h at k (arrives_at m.post z)) away in
@@ -201,11 +208,14 @@ module _ (d : Daemons) (header_is : IsSetUp d.header) (keeps : (n : ℕ) → Kee
         let small : length octets ≤ 512 = subst (λ l. length l ≤ 512) (sym written) (canon-small post.datagram sound) in
         let from : s.from ≡ post.from = m.matches.sent.from in
         let near = poster_near nets post.from post.port post.to to goes (m.matches.away to goes) in
-        let may : MayCome nets to.node to.port (Peer (peer_of s.from)) = inr (subst (λ n. has_member n (neighbours_on to.node to.port.0 nets) ≡ true) (sym from) near) in
+        let may : MayCome nets to.node to.port (Peer (peer_of s.from)) = inr (subst (λ n. has_member n (neighbours_on to.node to.port.0 nets) ≡
+        true) (sym from) near) in
         let c = comes_as d header_is to.node r.life.origin to.port (Peer (peer_of s.from)) octets
         (session_of (d.words to.node) r.life).past own.ports may reach.has small in
-        let given_is = c.same ∙ ap (λ n. GotOn to.port (Peer (peer_of n)) (taken_of octets)) from ∙ ap (λ l. GotOn to.port (Peer (peer_of post.from)) (taken_of l)) written in
-        let net : after_event d (length before) (Take at k) w ≡ turns d (length before) step (copy_at nets to s) (w.lives to.node) w = ap (λ z. takes_copy d (length before) at k z w) there ∙ ap (λ z. delivers d (length before) at k s z w) e in
+        let given_is = c.same ∙ ap (λ n. GotOn to.port (Peer (peer_of n)) (taken_of octets)) from ∙
+        ap (λ l. GotOn to.port (Peer (peer_of post.from)) (taken_of l)) written in
+        let net : after_event d (length before) (Take at k) w ≡ turns d (length before) step (copy_at nets to s) (w.lives to.node) w =
+        ap (λ z. takes_copy d (length before) at k z w) there ∙ ap (λ z. delivers d (length before) at k s z w) e in
         let happened : happening_by d.clocks d.header h (Take at k) ≡ Some
         (stepping d.clocks d.header h (answers_all (GotOn to.port (Peer (peer_of post.from)) (taken_of (canon post.datagram)))) step) =
         taking d.clocks d.header h at k (record { post = post; to = to; there = m.there; goes = goes; has = reach.has }) in

@@ -1,7 +1,10 @@
 -- Every network of daemons keeps the promises: what can happen in a run can happen in it; what a daemon's session has tried is what the network
 -- has of it; and the numbers of a daemon's peers are the places of their addresses.
-use Rattle.std.proofs.Common.{option_map, sym, ap, subst, arith, inl, inr, ◌∙◌, ◌≡◌, ℕ, zero, suc, ◌<◌, ◌==◌, nat_lt, Bool, true, false, if◌then◌else◌, List, [], ◌∷◌, length, Option, None, Some, slice_get, refl, eq-eqb, eqb-true, append-nil, ◌-◌, ◌≤◌, ◌++◌, map, filter, drop, take, ◌&&◌, ◌+◌, flat_map, slice_index_or}
-use Rattle.std.proofs.lemmas.{List.drop-append-le, List.drop_all, List.map-append, List.length-map, Option.slice_get-get_or, Option.slice_get-map, Option.slice_get_cases}
+use Rattle.std.proofs.Common.{option_map, sym, ap, subst, arith, inl, inr, ◌∙◌, ◌≡◌, ℕ, zero, suc, ◌<◌, ◌==◌, nat_lt, Bool, true, false, if◌then◌else◌, List}
+use Rattle.std.proofs.Common.{[], ◌∷◌, length, Option, None, Some, slice_get, refl, eq-eqb, eqb-true, append-nil, ◌-◌, ◌≤◌, ◌++◌, map, filter, drop, take, ◌&&◌}
+use Rattle.std.proofs.Common.{◌+◌, flat_map, slice_index_or}
+use Rattle.std.proofs.lemmas.{List.drop-append-le, List.drop_all, List.map-append, List.length-map, Option.slice_get-get_or, Option.slice_get-map}
+use Rattle.std.proofs.lemmas.{Option.slice_get_cases}
 use Rattle.std.proofs.lemmas.{Bool.ltb-true, Bool.eqb-false, Bool.ne_eqb, List.Elements.All-head, List.Elements.filter-append}
 use Rattle.tsp_rules.specs.NodeRows.{NodePast, for_ports, nothing_at_all, on, reading_all, spread, ◌and_then◌}
 use Rattle.tsp_rules.specs.Values.{Placed, Event, BootAt, Turn, Take, Bytes, Boot, Port}
@@ -16,8 +19,10 @@ use Rattle.tsp_run.proofs.{PossibleRun.possible_before, RunPremises.clocked_runs
 use Rattle.tsp_run.specs.{Networks.networks, Networks.network_from, Promises.Promises, declared.posted.Posted.Posted}
 use Rattle.tsp_run.{proofs.NetworkLemmas.some_same, proofs.RunLemmas.stepped_other, specs.Ranges.IsInRange}
 use Rattle.tsp_network.proofs.NetworkRuns.{Running, Nothing, Outcome, RunAgrees, Starts, Turns, outcome, event_agrees, run_agrees, longer}
-use Rattle.tsp_network.specs.Kept.{HasTurn, tried_by, IsSent, NetworksKeepPromises, SchedulesAreKept, NumbersAreAddresses, AllSuit, RunsAreNetworks, Suits, TriesFirst}
-use Rattle.tsp_network.specs.Networks.{Network, Sent, acted, named_acts, network, life_from, daemon_tick, next_life, node_wall, first_sent, life_until, sent_by, sent_until, unsent}
+use Rattle.tsp_network.specs.Kept.{HasTurn, tried_by, IsSent, NetworksKeepPromises, SchedulesAreKept, NumbersAreAddresses, AllSuit, RunsAreNetworks, Suits}
+use Rattle.tsp_network.specs.Kept.{TriesFirst}
+use Rattle.tsp_network.specs.Networks.{Network, Sent, acted, named_acts, network, life_from, daemon_tick, next_life, node_wall, first_sent, life_until, sent_by}
+use Rattle.tsp_network.specs.Networks.{sent_until, unsent}
 use Rattle.tsp_network.specs.Rosters.{destination, count_below, neighbours, neighbours_on, number_for, others_in, place_in}
 use Rattle.tsp_network.specs.Lives.{AreStarted, Daemons, Life, first_acts, session_of, turn_told, turn_acts, addresses}
 use Rattle.tsp_network.proofs.SetUpLemmas.{AllMatch, Matches, MoreMatch, NoneMatch, match_length, match_at}
@@ -397,35 +402,45 @@ get-right (x ∷ xs) ys c = ap (slice_get (x ∷ xs ++ ys)) (let e : length (x �
 
 -- the c-th neighbour on port r stands behind those of the ports below it
 flat-at : (at : ℕ → ℕ → Addr) (n p i : ℕ) (nets : List (List ℕ)) (r k c : ℕ) → network_from n (p + r) p i nets ≡ Some k → c < length (neighbours_on n r nets) →
-    slice_get (flat_map (λ peers. peers) (addresses at n i nets)) (count_below r (neighbours n nets) + c) ≡ Some (at k (slice_index_or (neighbours_on n r nets) c 0))
+    slice_get (flat_map (λ peers. peers) (addresses at n i nets)) (count_below r (neighbours n nets) + c) ≡
+    Some (at k (slice_index_or (neighbours_on n r nets) c 0))
 flat-at at n p i [] r k c e h = absurd (none_some e)
-flat-at at n p i (net ∷ rest) r k c e h = by_member (has_member n net) refl (λ s f g. flat-at at n (p + 1) (i + 1) rest s k c f g) (λ s f g. flat-at at n p (i + 1) rest s k c f g) r e h where
-  by_member : (b : Bool) → has_member n net ≡ b →
-      ((s : ℕ) → network_from n ((p + 1) + s) (p + 1) (i + 1) rest ≡ Some k → c < length (neighbours_on n s rest) → slice_get (flat_map (λ peers. peers) (addresses at n (i + 1) rest)) (count_below s (neighbours n rest) + c) ≡ Some (at k (slice_index_or (neighbours_on n s rest) c 0))) →
-      ((s : ℕ) → network_from n (p + s) p (i + 1) rest ≡ Some k → c < length (neighbours_on n s rest) → slice_get (flat_map (λ peers. peers) (addresses at n (i + 1) rest)) (count_below s (neighbours n rest) + c) ≡ Some (at k (slice_index_or (neighbours_on n s rest) c 0))) →
-      (r : ℕ) → (if b then (if p == (p + r) then Some i else network_from n (p + r) (p + 1) (i + 1) rest) else network_from n (p + r) p (i + 1) rest) ≡ Some k →
-      c < length (slice_index_or (if b then others_in n net ∷ neighbours n rest else neighbours n rest) r []) →
-      slice_get (flat_map (λ peers. peers) (if b then map (at i) (others_in n net) ∷ addresses at n (i + 1) rest else addresses at n (i + 1) rest)) (count_below r (if b then others_in n net ∷ neighbours n rest else neighbours n rest) + c)
-      ≡ Some (at k (slice_index_or (slice_index_or (if b then others_in n net ∷ neighbours n rest else neighbours n rest) r []) c 0))
-  by_member true m more past zero e h =
-      let first : (p == (p + 0)) ≡ true = eq-eqb p (p + 0) (omega arith) in
-      let here : i ≡ k = some_same (subst (λ b. (if b then Some i else network_from n (p + 0) (p + 1) (i + 1) rest) ≡ Some k) first e) in
-      let same = length-map (others_in n net) (at i) in
-      ap (slice_get (map (at i) (others_in n net) ++ flat_map (λ peers. peers) (addresses at n (i + 1) rest))) (let z : 0 + c ≡ c = omega arith in z)
-      ∙ get-left (map (at i) (others_in n net)) (flat_map (λ peers. peers) (addresses at n (i + 1) rest)) c (omega (arith, h, same))
-      ∙ slice_get-map (at i) (others_in n net) c
-      ∙ ap (option_map (at i)) (slice_get-get_or (others_in n net) c 0 h)
-      ∙ ap (λ z. Some (at z (slice_index_or (others_in n net) c 0))) here
-  by_member true m more past (suc s) e h =
-      let other : (p == (p + suc s)) ≡ false = ne_eqb p (p + suc s) (λ z. let bad : ⊥ = omega (arith, z) in bad) in
-      let next : network_from n ((p + 1) + s) (p + 1) (i + 1) rest ≡ Some k =
-      ap (λ z. network_from n z (p + 1) (i + 1) rest) (let z : (p + 1) + s ≡ p + suc s = omega arith in z) ∙ subst (λ b. (if b then Some i else network_from n (p + suc s) (p + 1) (i + 1) rest) ≡ Some k) other e in
-      let same = length-map (others_in n net) (at i) in
-      ap (slice_get (map (at i) (others_in n net) ++ flat_map (λ peers. peers) (addresses at n (i + 1) rest)))
-      (let z : (length (others_in n net) + count_below s (neighbours n rest)) + c ≡ length (map (at i) (others_in n net)) + (count_below s (neighbours n rest) + c) = omega (arith, same) in z)
-      ∙ get-right (map (at i) (others_in n net)) (flat_map (λ peers. peers) (addresses at n (i + 1) rest)) (count_below s (neighbours n rest) + c)
-      ∙ more s next h
-  by_member false m more past s e h = past s e h
+flat-at at n p i (net ∷ rest) r k c e h = by_member (has_member n net) refl (λ s f g. flat-at at n (p + 1) (i + 1) rest s k c f g)
+    (λ s f g. flat-at at n p (i + 1) rest s k c f g) r e h where
+      by_member : (b : Bool) → has_member n net ≡ b →
+          ((s : ℕ) → network_from n ((p + 1) + s) (p + 1) (i + 1) rest ≡ Some k → c < length (neighbours_on n s rest) →
+          slice_get (flat_map (λ peers. peers) (addresses at n (i + 1) rest)) (count_below s (neighbours n rest) + c) ≡
+          Some (at k (slice_index_or (neighbours_on n s rest) c 0))) →
+          ((s : ℕ) → network_from n (p + s) p (i + 1) rest ≡ Some k → c < length (neighbours_on n s rest) →
+          slice_get (flat_map (λ peers. peers) (addresses at n (i + 1) rest)) (count_below s (neighbours n rest) + c) ≡
+          Some (at k (slice_index_or (neighbours_on n s rest) c 0))) →
+          (r : ℕ) → (if b then (if p == (p + r) then Some i else network_from n (p + r) (p + 1) (i + 1) rest) else network_from n (p + r) p (i + 1) rest) ≡
+          Some k →
+          c < length (slice_index_or (if b then others_in n net ∷ neighbours n rest else neighbours n rest) r []) →
+          slice_get (flat_map (λ peers. peers) (if b then map (at i) (others_in n net) ∷ addresses at n (i + 1) rest else addresses at n (i + 1) rest))
+          (count_below r (if b then others_in n net ∷ neighbours n rest else neighbours n rest) + c)
+          ≡ Some (at k (slice_index_or (slice_index_or (if b then others_in n net ∷ neighbours n rest else neighbours n rest) r []) c 0))
+      by_member true m more past zero e h =
+          let first : (p == (p + 0)) ≡ true = eq-eqb p (p + 0) (omega arith) in
+          let here : i ≡ k = some_same (subst (λ b. (if b then Some i else network_from n (p + 0) (p + 1) (i + 1) rest) ≡ Some k) first e) in
+          let same = length-map (others_in n net) (at i) in
+          ap (slice_get (map (at i) (others_in n net) ++ flat_map (λ peers. peers) (addresses at n (i + 1) rest))) (let z : 0 + c ≡ c = omega arith in z)
+          ∙ get-left (map (at i) (others_in n net)) (flat_map (λ peers. peers) (addresses at n (i + 1) rest)) c (omega (arith, h, same))
+          ∙ slice_get-map (at i) (others_in n net) c
+          ∙ ap (option_map (at i)) (slice_get-get_or (others_in n net) c 0 h)
+          ∙ ap (λ z. Some (at z (slice_index_or (others_in n net) c 0))) here
+      by_member true m more past (suc s) e h =
+          let other : (p == (p + suc s)) ≡ false = ne_eqb p (p + suc s) (λ z. let bad : ⊥ = omega (arith, z) in bad) in
+          let next : network_from n ((p + 1) + s) (p + 1) (i + 1) rest ≡ Some k =
+          ap (λ z. network_from n z (p + 1) (i + 1) rest) (let z : (p + 1) + s ≡ p + suc s = omega arith in z) ∙
+          subst (λ b. (if b then Some i else network_from n (p + suc s) (p + 1) (i + 1) rest) ≡ Some k) other e in
+          let same = length-map (others_in n net) (at i) in
+          ap (slice_get (map (at i) (others_in n net) ++ flat_map (λ peers. peers) (addresses at n (i + 1) rest)))
+          (let z : (length (others_in n net) + count_below s (neighbours n rest)) + c ≡
+          length (map (at i) (others_in n net)) + (count_below s (neighbours n rest) + c) = omega (arith, same) in z)
+          ∙ get-right (map (at i) (others_in n net)) (flat_map (λ peers. peers) (addresses at n (i + 1) rest)) (count_below s (neighbours n rest) + c)
+          ∙ more s next h
+      by_member false m more past s e h = past s e h
 
 pub numbers_are_addresses : NumbersAreAddresses
 numbers_are_addresses d n q k m started on member off =
@@ -435,7 +450,8 @@ numbers_are_addresses d n q k m started on member off =
     let i : ℕ = place_in m nodes in
     let other : (m == n) ≡ false = ne_eqb m n off in
     let number : number_for n q.0 m nets ≡ suc (count_below q.0 (neighbours n nets) + i) =
-    ap (λ b. if b then 0 else count_below q.0 (neighbours n nets) + 1 + i) other ∙ (let e : count_below q.0 (neighbours n nets) + 1 + i ≡ suc (count_below q.0 (neighbours n nets) + i) = omega arith in e) in
+    ap (λ b. if b then 0 else count_below q.0 (neighbours n nets) + 1 + i) other ∙ (let e : count_below q.0 (neighbours n nets) + 1 + i ≡
+    suc (count_below q.0 (neighbours n nets) + i) = omega arith in e) in
     ap (slice_get (serving_binding (d.words n)).peers) number
     ∙ ap (λ l. slice_get (all_peers l) (count_below q.0 (neighbours n nets) + i)) started.ports
     ∙ flat-at d.address n 0 0 nets q.0 k i (ap (λ z. network_from n z 0 0 nets) (let e : 0 + q.0 ≡ q.0 = omega arith in e) ∙ on) p.few

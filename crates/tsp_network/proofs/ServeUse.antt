@@ -1,5 +1,6 @@
 -- The daemons of the examples are started with words that `serve` takes.
-use Rattle.std.proofs.Common.{ap, arith, le-leb, ◌≡◌, ◌≢◌, ℕ, zero, suc, ◌<◌, ◌≤◌, ◌^◌, ◌==◌, ◌&&◌, ◌||◌, nat_le, true, List, [], ◌∷◌, length, slice_index_or, refl, Contains}
+use Rattle.std.proofs.Common.{ap, arith, le-leb, ◌≡◌, ◌≢◌, ℕ, zero, suc, ◌<◌, ◌≤◌, ◌^◌, ◌==◌, ◌&&◌, ◌||◌, nat_le, true, List, [], ◌∷◌, length, slice_index_or}
+use Rattle.std.proofs.Common.{refl, Contains}
 use Rattle.std.proofs.lemmas.List.Elements.{All-cons, All-nil}
 use Rattle.tsp_base.specs.Words.{IsName}
 use Rattle.tsp_io.specs.declared.addr.Addr.{Addr}
@@ -16,7 +17,8 @@ letter_name x some = record { short = omega arith; no_nul = λ c. none c.0 c.1 c
 
 -- octets that are allowed in a node's name: letters, digits, a point, a hyphen, and a low line
 abbrev MayStand : ℕ → Type 0
-MayStand c = (((nat_le 97 c && nat_le c 122) || (nat_le 65 c && nat_le c 90)) || ((nat_le 48 c && nat_le c 57) || ((c == 46) || ((c == 45) || (c == 95))))) ≡ true
+MayStand c = (((nat_le 97 c && nat_le c 122) || (nat_le 65 c && nat_le c 90)) || ((nat_le 48 c && nat_le c 57) || ((c == 46) || ((c == 45) || (c == 95))))) ≡
+    true
 
 -- the addresses of the examples are addresses
 pub address_is : (k m : ℕ) → k < 256 → m < 256 → IsAddr (network_address k m)
@@ -46,7 +48,8 @@ pub not_among : (a : Addr) (others : List Addr) → AllApart a others → ¬ Con
 not_among a others off c = not-at a others off c.0 c.1 c.2
 
 -- a daemon of the examples
-pub serves : (letter : ℕ) (candidacy : Candidacy) (n : ℕ) (ports : List (List Addr)) → n < 256 → 97 ≤ letter → letter ≤ 122 → ArePeers ports → length ports ≤ 4 →
+pub serves : (letter : ℕ) (candidacy : Candidacy) (n : ℕ) (ports : List (List Addr)) → n < 256 → 97 ≤ letter → letter ≤ 122 → ArePeers ports →
+    length ports ≤ 4 →
     length (all_peers ports) ≤ 999 → AllDiffer (network_address 0 n ∷ all_peers ports) →
     IsServe (record { local = network_address 0 n; name = letter ∷ []; candidacy = candidacy; turns = 1000; ports = ports })
 serves letter candidacy n ports low first last peers four few differ = record {
@@ -73,13 +76,24 @@ beside_one letter candidacy n m first end low high off =
 
 -- one that has two others on its port
 pub beside_two : (letter : ℕ) (candidacy : Candidacy) (n m k : ℕ) → 97 ≤ letter → letter ≤ 122 → n < 256 → m < 256 → k < 256 → m ≢ n → k ≢ n → k ≢ m →
-    IsServe (record { local = network_address 0 n; name = letter ∷ []; candidacy = candidacy; turns = 1000; ports = (network_address 0 m ∷ network_address 0 k ∷ []) ∷ [] })
+    IsServe (record {
+      local = network_address 0 n;
+      name = letter ∷ [];
+      candidacy = candidacy;
+      turns = 1000;
+      ports = (network_address 0 m ∷ network_address 0 k ∷
+          []) ∷ [];
+    })
 beside_two letter candidacy n m k first end low high last off other differ =
     let a : Addr = network_address 0 n in
     let b : Addr = network_address 0 m in
     let c : Addr = network_address 0 k in
     serves letter candidacy n ((b ∷ c ∷ []) ∷ []) low first end
-    (record { some = omega arith; addrs = All-cons IsAddr b (c ∷ []) (address_is 0 m (omega arith) high) (All-cons IsAddr c [] (address_is 0 k (omega arith) last) (All-nil IsAddr)) })
+    (record {
+      some = omega arith;
+      addrs = All-cons IsAddr b (c ∷ []) (address_is 0 m (omega arith) high)
+          (All-cons IsAddr c [] (address_is 0 k (omega arith) last) (All-nil IsAddr));
+    })
     (omega arith) (omega arith)
     (not_among a (b ∷ c ∷ []) (apart 0 0 m n off, (apart 0 0 k n other, tt)), (not_among b (c ∷ []) (apart 0 0 k m differ, tt), (not_among c [] tt, tt)))
 

@@ -1,6 +1,8 @@
 -- The node of a daemon is set up as its node in the schedule, in other names: each port has its peers' numbers to itself. What comes to a daemon
 -- is what comes to its node, and what it sends is what its node posts.
-use Rattle.std.proofs.Common.{sym, ap, subst, arith, le-leb, ◌∙◌, ◌≡◌, ◌≢◌, ℕ, zero, suc, ◌+◌, ◌<◌, ◌==◌, nat_le, Bool, true, false, if◌then◌else◌, List, [], ◌∷◌, length, map, None, Option, Some, slice_index_or, refl, inl, inr, true≢false, eq-eqb, take_all, ◌≤◌, take, ◌++◌, None, slice_get}
+use Rattle.std.proofs.Common.{sym, ap, subst, arith, le-leb, ◌∙◌, ◌≡◌, ◌≢◌, ℕ, zero, suc, ◌+◌, ◌<◌, ◌==◌, nat_le, Bool, true, false, if◌then◌else◌, List, []}
+use Rattle.std.proofs.Common.{◌∷◌, length, map, None, Option, Some, slice_index_or, refl, inl, inr, true≢false, eq-eqb, take_all, ◌≤◌, take, ◌++◌, None}
+use Rattle.std.proofs.Common.{slice_get}
 use Rattle.std.proofs.lemmas.{Bool.lt-leb, Bool.ne_eqb, Bool.cases_lt, Bool.or_right, List.length-map, List.get_or_past, List.map-append}
 use Rattle.std.proofs.lemmas.List.{Elements.All-head, Elements.All-tail, FromFn.length-map-range_with_len}
 use Rattle.std.specs.List.{range_with_len}
@@ -13,9 +15,12 @@ use Rattle.tsp_rules.specs.{GateRows.GotOn, Renames.Renaming, Renames.renamed_pl
 use Rattle.tsp_rules.specs.NodeRows.{no_port, NodePast, PortSetup, port_setup}
 use Rattle.tsp_daemon.specs.{Nodes.numbered_setup, Nodes.setups_from, Nodes.daemon_config, Sessions.given_of, Sessions.port_from}
 use Rattle.tsp_daemon.specs.Posts.{send_of, sends_of}
-use Rattle.tsp_network.specs.Rosters.{count_below, neighbours, others_in, port_of_number, neighbours_on, renaming_on, named_node, number_for, place_in, sender_for, destination, send_address}
-use Rattle.tsp_network.proofs.RosterLemmas.{is_in_range, not_in_range, IsRoster, compared, in_range, named_member, others_above, range_named, header_nets, length_neighbours, one_fewer, others_on, port_is, roster, place_is, none_some}
-use Rattle.tsp_network.specs.{Events.MayCome, Kept.IsSent, Lives.addresses, Lives.Daemons, Lives.IsStarted, Networks.Sent, Networks.first_sent, Networks.sent_by, Networks.sent_until, Networks.unsent}
+use Rattle.tsp_network.specs.Rosters.{count_below, neighbours, others_in, port_of_number, neighbours_on, renaming_on, named_node, number_for, place_in}
+use Rattle.tsp_network.specs.Rosters.{sender_for, destination, send_address}
+use Rattle.tsp_network.proofs.RosterLemmas.{is_in_range, not_in_range, IsRoster, compared, in_range, named_member, others_above, range_named, header_nets}
+use Rattle.tsp_network.proofs.RosterLemmas.{length_neighbours, one_fewer, others_on, port_is, roster, place_is, none_some}
+use Rattle.tsp_network.specs.{Events.MayCome, Kept.IsSent, Lives.addresses, Lives.Daemons, Lives.IsStarted, Networks.Sent, Networks.first_sent}
+use Rattle.tsp_network.specs.{Networks.sent_by, Networks.sent_until, Networks.unsent}
 use Rattle.tsp_run.proofs.NetworkLemmas.{port_named, goes_there, some_same}
 use Rattle.tsp_run.specs.{Clocked.IsSetUp, Networks.networks, Networks.ports_on, Networks.address_of, declared.address.Address.Address}
 use Rattle.tsp_run.specs.{Run.posted_by, Run.posts_from, Setup.node_line, Setup.past_of, declared.posted.Posted.Posted}
@@ -25,13 +30,15 @@ use Rattle.tsp_codec.specs.{Canon.canon, Taken.taken_of}
 -- lists of lists that are as long, each as the other's
 pub data AsLong : List (List Addr) → List (List ℕ) → Type 0 where
   NoneLong : AsLong [] []
-  MoreLong : {ps : List Addr} {ns : List ℕ} {pss : List (List Addr)} {nss : List (List ℕ)} → length ps ≡ length ns → AsLong pss nss → AsLong (ps ∷ pss) (ns ∷ nss)
+  MoreLong : {ps : List Addr} {ns : List ℕ} {pss : List (List Addr)} {nss : List (List ℕ)} → length ps ≡ length ns → AsLong pss nss →
+      AsLong (ps ∷ pss) (ns ∷ nss)
 
 -- a daemon's words name as many addresses on each port as there are neighbours
 pub as_long : (at : ℕ → ℕ → Addr) (n k : ℕ) (nets : List (List ℕ)) → AsLong (addresses at n k nets) (neighbours n nets)
 as_long at n k [] = NoneLong
 as_long at n k (net ∷ rest) = by_member (has_member n net) (as_long at n (k + 1) rest) where
-  by_member : (b : Bool) → AsLong (addresses at n (k + 1) rest) (neighbours n rest) → AsLong (if b then map (at k) (others_in n net) ∷ addresses at n (k + 1) rest else addresses at n (k + 1) rest) (if b then others_in n net ∷ neighbours n rest else neighbours n rest)
+  by_member : (b : Bool) → AsLong (addresses at n (k + 1) rest) (neighbours n rest) → AsLong (if b then map (at k) (others_in n net) ∷
+      addresses at n (k + 1) rest else addresses at n (k + 1) rest) (if b then others_in n net ∷ neighbours n rest else neighbours n rest)
   by_member true a = MoreLong (length-map (others_in n net) (at k)) a
   by_member false a = a
 
@@ -41,12 +48,15 @@ ports_count done NoneLong = refl
 ports_count done (MoreLong {ps = ps} e a) = ap (λ k. suc k) (ports_count (done + length ps) a)
 
 -- how they are set up
-pub setup_at : (done r : ℕ) {pss : List (List Addr)} {nss : List (List ℕ)} → AsLong pss nss → r < length nss → slice_index_or (setups_from done pss) r no_port ≡ numbered_setup (done + count_below r nss) (length (slice_index_or nss r []))
+pub setup_at : (done r : ℕ) {pss : List (List Addr)} {nss : List (List ℕ)} → AsLong pss nss → r < length nss → slice_index_or (setups_from done pss) r no_port ≡
+    numbered_setup (done + count_below r nss) (length (slice_index_or nss r []))
 setup_at done r NoneLong h = absurd (omega (arith, h))
-setup_at done zero (MoreLong {ps = ps} e a) h = ap (λ k. numbered_setup k (length ps)) (let same : done ≡ done + 0 = omega arith in same) ∙ ap (λ c. numbered_setup (done + 0) c) e
+setup_at done zero (MoreLong {ps = ps} e a) h = ap (λ k. numbered_setup k (length ps)) (let same : done ≡ done + 0 = omega arith in same) ∙
+    ap (λ c. numbered_setup (done + 0) c) e
 setup_at done (suc r) (MoreLong {ps = ps} {ns = ns} {nss = nss} e a) h =
     setup_at (done + length ps) r a (omega (arith, h))
-    ∙ ap (λ k. numbered_setup k (length (slice_index_or nss r []))) (let same : (done + length ps) + count_below r nss ≡ done + (length ns + count_below r nss) = omega (arith, e) in same)
+    ∙ ap (λ k. numbered_setup k (length (slice_index_or nss r []))) (let same : (done + length ps) + count_below r nss ≡
+    done + (length ns + count_below r nss) = omega (arith, e) in same)
 
 -- a number above 0 that isn't among these numbers is no other peer of such a port
 not-other : (done count p : ℕ) → ((i : ℕ) → i < count → p ≢ done + 1 + i) → 0 < p → has_other_peer (peer_of p) (numbered_setup done count) ≡ false
@@ -62,15 +72,19 @@ is-other done count i h =
     rw (zero_off, on) refl
 
 -- a daemon finds the port of a number by its segment
-pub port_found : (k done r i p : ℕ) {pss : List (List Addr)} {nss : List (List ℕ)} → AsLong pss nss → r < length nss → i < length (slice_index_or nss r []) → p ≡ done + count_below r nss + 1 + i →
+pub port_found : (k done r i p : ℕ) {pss : List (List Addr)} {nss : List (List ℕ)} → AsLong pss nss → r < length nss → i < length (slice_index_or nss r []) →
+    p ≡ done + count_below r nss + 1 + i →
     (port_of_from k (peer_of p) (setups_from done pss)).0 ≡ k + r
 port_found k done r i p NoneLong h few is = absurd (omega (arith, h))
 port_found k done zero i p (MoreLong {ps = ps} {pss = pss} e a) h few is =
     let same : p ≡ done + 1 + i = omega (arith, is) in
-    let on : has_other_peer (peer_of p) (numbered_setup done (length ps)) ≡ true = subst (λ z. has_other_peer (peer_of z) (numbered_setup done (length ps)) ≡ true) (sym same) (is-other done (length ps) i (omega (arith, few, e))) in
-    ap (λ b. (if b then record { 0 = k } else port_of_from (k + 1) (peer_of p) (setups_from (done + length ps) pss)).0) on ∙ (let z : k ≡ k + 0 = omega arith in z)
+    let on : has_other_peer (peer_of p) (numbered_setup done (length ps)) ≡ true = subst (λ z. has_other_peer (peer_of z) (numbered_setup done (length ps)) ≡
+    true) (sym same) (is-other done (length ps) i (omega (arith, few, e))) in
+    ap (λ b. (if b then record { 0 = k } else port_of_from (k + 1) (peer_of p) (setups_from (done + length ps) pss)).0) on ∙
+    (let z : k ≡ k + 0 = omega arith in z)
 port_found k done (suc r) i p (MoreLong {ps = ps} {ns = ns} {pss = pss} {nss = nss} e a) h few is =
-    let off : has_other_peer (peer_of p) (numbered_setup done (length ps)) ≡ false = not-other done (length ps) p (λ j low same. let bad : ⊥ = omega (arith, is, e, low, same) in bad) (omega (arith, is)) in
+    let off : has_other_peer (peer_of p) (numbered_setup done (length ps)) ≡ false =
+    not-other done (length ps) p (λ j low same. let bad : ⊥ = omega (arith, is, e, low, same) in bad) (omega (arith, is)) in
     ap (λ b. (if b then record { 0 = k } else port_of_from (k + 1) (peer_of p) (setups_from (done + length ps) pss)).0) off
     ∙ port_found (k + 1) (done + length ps) r i p a (omega (arith, h)) few (omega (arith, is, e))
     ∙ (let z : (k + 1) + r ≡ k + suc r = omega arith in z)
@@ -81,11 +95,13 @@ port_own k done [] = refl
 port_own k done (ps ∷ pss) = port_own (k + 1) (done + length ps) pss
 
 -- the same of the number of a send
-pub port_with_found : (done q r i p : ℕ) (nss : List (List ℕ)) → r < length nss → i < length (slice_index_or nss r []) → p ≡ done + count_below r nss + 1 + i → port_of_number p done q nss ≡ Some (record { 0 = q + r })
+pub port_with_found : (done q r i p : ℕ) (nss : List (List ℕ)) → r < length nss → i < length (slice_index_or nss r []) → p ≡ done + count_below r nss + 1 + i →
+    port_of_number p done q nss ≡ Some (record { 0 = q + r })
 port_with_found done q r i p [] h few is = absurd (omega (arith, h))
 port_with_found done q zero i p (ns ∷ nss) h few is =
     let here : nat_le p (done + length ns) ≡ true = le-leb p (done + length ns) (omega (arith, is, few)) in
-    ap (λ b. if b then Some (record { 0 = q }) else port_of_number p (done + length ns) (q + 1) nss) here ∙ ap (λ k. Some (let z : Port = record { 0 = k } in z)) (let z : q ≡ q + 0 = omega arith in z)
+    ap (λ b. if b then Some (record { 0 = q }) else port_of_number p (done + length ns) (q + 1) nss) here ∙
+    ap (λ k. Some (let z : Port = record { 0 = k } in z)) (let z : q ≡ q + 0 = omega arith in z)
 port_with_found done q (suc r) i p (ns ∷ nss) h few is =
     let past : nat_le p (done + length ns) ≡ false = lt-leb p (done + length ns) (omega (arith, is)) in
     ap (λ b. if b then Some (record { 0 = q }) else port_of_number p (done + length ns) (q + 1) nss) past
@@ -111,7 +127,8 @@ pub data AllMatch (d : Daemons) : List Sent → List Posted → Type 0 where
   NoneMatch : AllMatch d [] []
   MoreMatch : {s : Sent} {p : Posted} {ss : List Sent} {ps : List Posted} → Matches d s p → AllMatch d ss ps → AllMatch d (s ∷ ss) (p ∷ ps)
 
-pub match_append : (d : Daemons) {ss : List Sent} {ps : List Posted} {ts : List Sent} {qs : List Posted} → AllMatch d ss ps → AllMatch d ts qs → AllMatch d (ss ++ ts) (ps ++ qs)
+pub match_append : (d : Daemons) {ss : List Sent} {ps : List Posted} {ts : List Sent} {qs : List Posted} → AllMatch d ss ps → AllMatch d ts qs →
+    AllMatch d (ss ++ ts) (ps ++ qs)
 match_append d NoneMatch b = b
 match_append d (MoreMatch m a) b = MoreMatch m (match_append d a b)
 
@@ -147,7 +164,12 @@ pub record MatchedAt (d : Daemons) (s : Sent) (ps : List Posted) (k : ℕ) : Typ
 pub match_at : (d : Daemons) {ss : List Sent} {ps : List Posted} → AllMatch d ss ps → (k : ℕ) (s : Sent) → slice_get ss k ≡ Some s → MatchedAt d s ps k
 match_at d NoneMatch k s e = let bad : ⊥ = cc in absurd bad
 match_at d (MoreMatch {p = p} m a) zero s e = record { post = p; there = refl; few = omega arith; matches = subst (λ z. Matches d z p) (some_same e) m }
-match_at d (MoreMatch m a) (suc k) s e = let r = match_at d a k s e in record { post = r.post; there = r.there; few = (let f = r.few in omega (arith, f)); matches = r.matches }
+match_at d (MoreMatch m a) (suc k) s e = let r = match_at d a k s e in record {
+  post = r.post;
+  there = r.there;
+  few = (let f = r.few in omega (arith, f));
+  matches = r.matches;
+}
 
 module _ (d : Daemons) (is : IsSetUp d.header) (n : ℕ) where
   abbrev nets : List (List ℕ)
@@ -174,12 +196,15 @@ module _ (d : Daemons) (is : IsSetUp d.header) (n : ℕ) where
   tells_apart origin q p r = compared n (count_below q.0 (neighbours n nets)) (neighbours_on n q.0 nets) (is_roster q.0) p.0 r.0
 
   -- each port of the daemon
-  pub daemon_port : (q : ℕ) → q < length (ports_on n nets) → slice_index_or (daemon_ports d n) q no_port ≡ numbered_setup (count_below q (neighbours n nets)) (length (neighbours_on n q nets))
+  pub daemon_port : (q : ℕ) → q < length (ports_on n nets) → slice_index_or (daemon_ports d n) q no_port ≡
+      numbered_setup (count_below q (neighbours n nets)) (length (neighbours_on n q nets))
   daemon_port q has =
       let all = length_neighbours n nets in
-      setup_at 0 q long (omega (arith, has, all)) ∙ ap (λ k. numbered_setup k (length (neighbours_on n q nets))) (let e : 0 + count_below q (neighbours n nets) ≡ count_below q (neighbours n nets) = omega arith in e)
+      setup_at 0 q long (omega (arith, has, all)) ∙ ap (λ k. numbered_setup k (length (neighbours_on n q nets)))
+      (let e : 0 + count_below q (neighbours n nets) ≡ count_below q (neighbours n nets) = omega arith in e)
 
-  alike-port : (origin : ℕ) (q : Port) → q.0 < length (ports_on n nets) → AlikeSetup (renaming_on nets n origin q) (numbered_setup (count_below q.0 (neighbours n nets)) (length (neighbours_on n q.0 nets))) (slice_index_or (ports_on n nets) q.0 no_port)
+  alike-port : (origin : ℕ) (q : Port) → q.0 < length (ports_on n nets) → AlikeSetup (renaming_on nets n origin q)
+      (numbered_setup (count_below q.0 (neighbours n nets)) (length (neighbours_on n q.0 nets))) (slice_index_or (ports_on n nets) q.0 no_port)
   alike-port origin q has =
       let p = port_is (length d.header.nodes) n q.0 nets (header_nets d.header is) has in
       let done : ℕ = count_below q.0 (neighbours n nets) in
@@ -187,12 +212,16 @@ module _ (d : Daemons) (is : IsSetUp d.header) (n : ℕ) where
       let r : Renaming = renaming_on nets n origin q in
       subst (λ s. AlikeSetup r (numbered_setup done (length nodes)) s) (sym p.setup) (record {
         own = refl;
-        others_are = others_on n p.net ∙ ap (map peer_of) (sym p.nodes) ∙ sym (range_named r.peer (done + 1) nodes (λ i h. ap peer_of (named_member n done nodes i h))) ∙ ap (map r.peer) (sym (others_above (done + 1) (length nodes) (omega arith)));
-        count = (let one = length-map p.net peer_of in let two = length-map-range_with_len peer_of (done + 1) (length nodes) in let three = one_fewer n p.net (Rise-numbers p.net p.good.rising) p.member in let four : length nodes ≡ length (others_in n p.net) = ap (λ l. length l) p.nodes in omega (arith, one, two, three, four));
+        others_are = others_on n p.net ∙ ap (map peer_of) (sym p.nodes) ∙ sym (range_named r.peer (done + 1) nodes
+            (λ i h. ap peer_of (named_member n done nodes i h))) ∙ ap (map r.peer) (sym (others_above (done + 1) (length nodes) (omega arith)));
+        count = (let one = length-map p.net peer_of in let two = length-map-range_with_len peer_of (done + 1) (length nodes) in
+            let three = one_fewer n p.net (Rise-numbers p.net p.good.rising) p.member in let four : length nodes ≡ length (others_in n p.net) =
+            ap (λ l. length l) p.nodes in omega (arith, one, two, three, four));
       })
 
   -- both are set up alike
-  pub configs_alike : IsStarted d n → (origin : ℕ) (step : Step) (h : List Line) → step.node ≡ n → (p : NodePast) → p.name ≡ (daemon_config (d.words n)).name → p.may ≡ (daemon_config (d.words n)).may → p.strict ≡ (daemon_config (d.words n)).strict → p.ports ≡ daemon_ports d n →
+  pub configs_alike : IsStarted d n → (origin : ℕ) (step : Step) (h : List Line) → step.node ≡ n → (p : NodePast) → p.name ≡ (daemon_config (d.words n)).name →
+      p.may ≡ (daemon_config (d.words n)).may → p.strict ≡ (daemon_config (d.words n)).strict → p.ports ≡ daemon_ports d n →
       AlikeConfigs (renaming_on nets n origin) origin p (past_of d.header step h)
   configs_alike s origin step h node p name may strict ports =
       let count : length p.ports ≡ length (ports_on n nets) = ap (λ (l : List PortSetup). length l) ports ∙ sym same_ports in
@@ -207,7 +236,8 @@ module _ (d : Daemons) (is : IsSetUp d.header) (n : ℕ) where
             let r : Renaming = renaming_on nets n origin q in
             subst (λ k. AlikeSetup r (port_setup q p) (slice_index_or (ports_on k nets) q.0 no_port)) (sym node)
             (subst (λ (l : List PortSetup). AlikeSetup r (slice_index_or l q.0 no_port) (slice_index_or (ports_on n nets) q.0 no_port)) (sym ports)
-            (subst (λ (k : PortSetup). AlikeSetup r k (slice_index_or (ports_on n nets) q.0 no_port)) (sym (daemon_port q.0 there)) (alike-port origin q there)));
+            (subst (λ (k : PortSetup). AlikeSetup r k (slice_index_or (ports_on n nets) q.0 no_port)) (sym (daemon_port q.0 there))
+            (alike-port origin q there)));
       }
 
   -- the other peers of a port have the numbers of its segment
@@ -217,10 +247,13 @@ module _ (d : Daemons) (is : IsSetUp d.header) (n : ℕ) where
     pub few : i < length (neighbours_on n q nets)
     pub number : num ≡ count_below q (neighbours n nets) + 1 + i
 
-  pub segment : (q num : ℕ) → is_among (peer_of num) (others (slice_index_or (daemon_ports d n) q no_port).own (slice_index_or (daemon_ports d n) q no_port).peers) ≡ true → Segment q num
+  pub segment : (q num : ℕ) → is_among (peer_of num) (others (slice_index_or (daemon_ports d n) q no_port).own
+      (slice_index_or (daemon_ports d n) q no_port).peers) ≡ true → Segment q num
   segment q num e = elim (cases_lt q (length (ports_on n nets))) [
-    | inl has ↦ (let known : is_among (peer_of num) (map peer_of (range_with_len (count_below q (neighbours n nets) + 1) (length (neighbours_on n q nets)))) ≡ true =
-        subst (λ l. is_among (peer_of num) l ≡ true) (others_above (count_below q (neighbours n nets) + 1) (length (neighbours_on n q nets)) (omega arith)) (subst (λ (s : PortSetup). is_among (peer_of num) (others s.own s.peers) ≡ true) (daemon_port q has) e) in
+    | inl has ↦ (let known : is_among (peer_of num) (map peer_of (range_with_len (count_below q (neighbours n nets) + 1) (length (neighbours_on n q nets)))) ≡
+        true =
+        subst (λ l. is_among (peer_of num) l ≡ true) (others_above (count_below q (neighbours n nets) + 1) (length (neighbours_on n q nets)) (omega arith))
+        (subst (λ (s : PortSetup). is_among (peer_of num) (others s.own s.peers) ≡ true) (daemon_port q has) e) in
         let r = in_range (count_below q (neighbours n nets) + 1) (length (neighbours_on n q nets)) num known in
         record { has = has; i = r.i; few = r.few; number = r.is })
     | inr past ↦ (let all = same_ports in
@@ -254,16 +287,20 @@ module _ (d : Daemons) (is : IsSetUp d.header) (n : ℕ) where
       let other : (m == n) ≡ false = ne_eqb m n (λ e. (is_roster q.0).apart i p.few (p.is ∙ e)) in
       let number : number_for n q.0 m nets ≡ done + 1 + i = ap (λ b. if b then 0 else done + 1 + i) other in
       record {
-        port = ap (λ k. (port_of_from 0 (peer_of k) (daemon_ports d n)).0) number ∙ port_found 0 0 q.0 i (done + 1 + i) (as_long d.address n 0 nets) (omega (arith, has, all)) p.few (omega arith) ∙ (let e : 0 + q.0 ≡ q.0 = omega arith in e);
+        port = ap (λ k. (port_of_from 0 (peer_of k) (daemon_ports d n)).0) number ∙
+            port_found 0 0 q.0 i (done + 1 + i) (as_long d.address n 0 nets) (omega (arith, has, all)) p.few (omega arith) ∙
+            (let e : 0 + q.0 ≡ q.0 = omega arith in e);
         among = subst (λ (s : PortSetup). is_among (peer_of (number_for n q.0 m nets)) s.peers ≡ true) (sym (daemon_port q.0 has))
             (or_right (0 == number_for n q.0 m nets) (is_among (peer_of (number_for n q.0 m nets)) (map peer_of (range_with_len (done + 1) (length nodes))))
-            (subst (λ k. is_among (peer_of k) (map peer_of (range_with_len (done + 1) (length nodes))) ≡ true) (sym number) (is_in_range (done + 1) (length nodes) i few)));
+            (subst (λ k. is_among (peer_of k) (map peer_of (range_with_len (done + 1) (length nodes))) ≡
+            true) (sym number) (is_in_range (done + 1) (length nodes) i few)));
         names = ap (named_node n done nodes) number ∙ named_member n done nodes i few ∙ p.is;
       }
 
   found : (q : Port) (m : PeerId) → MayCome nets n q (Peer m) → q.0 < length (ports_on n nets) → Found q m.0 (number_for n q.0 m.0 nets)
   found q m (inl own) has =
-      let number : number_for n q.0 m.0 nets ≡ 0 = ap (λ b. if b then 0 else count_below q.0 (neighbours n nets) + 1 + place_in m.0 (neighbours_on n q.0 nets)) (eq-eqb m.0 n own.0) in
+      let number : number_for n q.0 m.0 nets ≡ 0 = ap (λ b. if b then 0 else count_below q.0 (neighbours n nets) + 1 + place_in m.0 (neighbours_on n q.0 nets))
+      (eq-eqb m.0 n own.0) in
       subst (λ k. Found q k (number_for n q.0 m.0 nets)) (sym own.0) (subst (λ k. Found q n k) (sym number) (found-own q own.1 has))
   found q m (inr member) has = found-neighbour q m.0 member has
 
@@ -272,7 +309,8 @@ module _ (d : Daemons) (is : IsSetUp d.header) (n : ℕ) where
     pub same : renamed_given (renaming_on nets n origin) (given_of past.ports (Some (sender_for nets n q from, octets))) ≡ GotOn q from (taken_of octets)
     pub comes : ComesOn past (given_of past.ports (Some (sender_for nets n q from, octets)))
 
-  by-port : (origin : ℕ) (q r : Port) (from place : Place) (octets : List ℕ) → r ≡ q → renamed_place (renaming_on nets n origin q) place ≡ from → length octets ≤ 512 →
+  by-port : (origin : ℕ) (q r : Port) (from place : Place) (octets : List ℕ) → r ≡ q → renamed_place (renaming_on nets n origin q) place ≡ from →
+      length octets ≤ 512 →
       renamed_given (renaming_on nets n origin) (GotOn r place (taken_of (take 512 octets))) ≡ GotOn q from (taken_of octets)
   by-port origin q r from place octets port names few =
       ap (λ z. renamed_given (renaming_on nets n origin) (GotOn z place (taken_of (take 512 octets)))) port
@@ -281,7 +319,8 @@ module _ (d : Daemons) (is : IsSetUp d.header) (n : ℕ) where
   count : (past : NodePast) → past.ports ≡ daemon_ports d n → length past.ports ≡ length (ports_on n nets)
   count past ports = ap (λ (l : List PortSetup). length l) ports ∙ sym (same_ports)
 
-  pub comes_as : (origin : ℕ) (q : Port) (from : Place) (octets : List ℕ) (past : NodePast) → past.ports ≡ daemon_ports d n → MayCome nets n q from → q.0 < length (ports_on n nets) → length octets ≤ 512 → ComesAs origin q from octets past
+  pub comes_as : (origin : ℕ) (q : Port) (from : Place) (octets : List ℕ) (past : NodePast) → past.ports ≡ daemon_ports d n → MayCome nets n q from →
+      q.0 < length (ports_on n nets) → length octets ≤ 512 → ComesAs origin q from octets past
   comes_as origin q Stranger octets past ports may has few =
       let port : first_port ≡ q = port_named first_port q (sym may) in
       record {
@@ -291,11 +330,15 @@ module _ (d : Daemons) (is : IsSetUp d.header) (n : ℕ) where
   comes_as origin q (Peer m) octets past ports may has few =
       let f = found q m may has in
       let num : ℕ = number_for n q.0 m.0 nets in
-      let port : port_from past.ports (Peer (peer_of num)) ≡ q = port_named (port_from past.ports (Peer (peer_of num))) q (ap (λ (l : List PortSetup). (port_of_from 0 (peer_of num) l).0) ports ∙ f.port) in
+      let port : port_from past.ports (Peer (peer_of num)) ≡ q = port_named (port_from past.ports (Peer (peer_of num))) q
+      (ap (λ (l : List PortSetup). (port_of_from 0 (peer_of num) l).0) ports ∙ f.port) in
       record {
         same = by-port origin q (port_from past.ports (Peer (peer_of num))) (Peer m) (Peer (peer_of num)) octets port (ap (λ k. Peer (peer_of k)) f.names) few;
-        comes = subst (λ (r : Port). (r.0 < length past.ports) × (is_among (peer_of num) (port_setup r past).peers ≡ true)) (sym port)
-            ((let all = count past ports in omega (arith, has, all)), subst (λ (l : List PortSetup). is_among (peer_of num) (slice_index_or l q.0 no_port).peers ≡ true) (sym ports) f.among);
+        comes = subst (λ (r : Port). (r.0 < length past.ports) × (is_among (peer_of num) (port_setup r past).peers ≡ true)) (sym port) (
+          (let all = count past ports in omega (arith, has, all)),
+          subst (λ (l : List PortSetup). is_among (peer_of num) (slice_index_or l q.0 no_port).peers
+              ≡ true) (sym ports) f.among,
+        );
       }
 
   module _ (origin : ℕ) (may : Bool) where
@@ -304,7 +347,13 @@ module _ (d : Daemons) (is : IsSetUp d.header) (n : ℕ) where
 
     -- a send to a known peer goes where its node's post goes
     peer-matches : (at : ℕ) (port : Port) (num : PeerId) (datagram : Datagram) → Segment port.0 num.0 →
-        Matches d (sent_by n (Peer num, canon datagram)) (record { at = at; from = n; port = port; to = Peer ((renaming_on nets n origin port).peer num); datagram = datagram })
+        Matches d (sent_by n (Peer num, canon datagram)) (record {
+          at = at;
+          from = n;
+          port = port;
+          to = Peer ((renaming_on nets n origin port).peer num);
+          datagram = datagram;
+        })
     peer-matches at port num datagram g =
         let done : ℕ = count_below port.0 (neighbours n nets) in
         let nodes : List ℕ = neighbours_on n port.0 nets in
@@ -312,25 +361,35 @@ module _ (d : Daemons) (is : IsSetUp d.header) (n : ℕ) where
         let few = g.has in
         let some : (num.0 == 0) ≡ false = ne_eqb num.0 0 (λ e. let same = g.number in let bad : ⊥ = omega (arith, e, same) in bad) in
         let found : port_of_number num.0 0 0 (neighbours n nets) ≡ Some port =
-        port_with_found 0 0 port.0 g.i num.0 (neighbours n nets) (omega (arith, few, all)) g.few (let same = g.number in omega (arith, same)) ∙ ap (λ k. Some (let z : Port = record { 0 = k } in z)) (let e : 0 + port.0 ≡ port.0 = omega arith in e) in
-        let named_is : named_node n done nodes num.0 ≡ slice_index_or nodes g.i 0 = ap (named_node n done nodes) g.number ∙ named_member n done nodes g.i g.few in
+        port_with_found 0 0 port.0 g.i num.0 (neighbours n nets) (omega (arith, few, all)) g.few (let same = g.number in omega (arith, same)) ∙
+        ap (λ k. Some (let z : Port = record { 0 = k } in z)) (let e : 0 + port.0 ≡ port.0 = omega arith in e) in
+        let named_is : named_node n done nodes num.0 ≡ slice_index_or nodes g.i 0 = ap (named_node n done nodes) g.number ∙
+        named_member n done nodes g.i g.few in
         record {
           sent = record { from = refl; to = refl; octets = refl };
-          goes = ap (λ b. if b then None else send_address nets n num.0 (port_of_number num.0 0 0 (neighbours n nets))) some ∙ ap (send_address nets n num.0) found;
+          goes = ap (λ b. if b then None else send_address nets n num.0 (port_of_number num.0 0 0 (neighbours n nets))) some ∙
+              ap (send_address nets n num.0) found;
           away = λ a e same.
               let to = (goes_there nets n port (Peer ((renaming_on nets n origin port).peer num)) a e).to_is in
               (is_roster port.0).apart g.i g.few (sym named_is ∙ place-of to ∙ same);
         }
 
-    act-matches : (at : ℕ) (port : Port) (act : Act) → Knows (naming port) act → AllMatch d (map (sent_by n) (send_of act)) (posted_by at n port (renamed_act (renaming_on nets n origin port) act))
+    act-matches : (at : ℕ) (port : Port) (act : Act) → Knows (naming port) act → AllMatch d (map (sent_by n) (send_of act))
+        (posted_by at n port (renamed_act (renaming_on nets n origin port) act))
     act-matches at port (Post (Peer num) datagram) known = MoreMatch (peer-matches at port num datagram (segment port.0 num.0 known)) NoneMatch
-    act-matches at port (Post Stranger datagram) known = MoreMatch (record { sent = record { from = refl; to = refl; octets = refl }; goes = refl; away = λ a e same. none_some e }) NoneMatch
+    act-matches at port (Post Stranger datagram) known = MoreMatch (record {
+      sent = record { from = refl; to = refl; octets = refl };
+      goes = refl;
+      away = λ a e same. none_some e;
+    }) NoneMatch
     act-matches at port _ known = NoneMatch
 
     -- so it is of all acts of a step
-    pub acts_match : (at : ℕ) (acts : List Placed) → AllKnown naming acts → AllMatch d (map (sent_by n) (sends_of acts)) (posts_from at n (map (renamed_placed (renaming_on nets n origin)) acts))
+    pub acts_match : (at : ℕ) (acts : List Placed) → AllKnown naming acts → AllMatch d (map (sent_by n) (sends_of acts))
+        (posts_from at n (map (renamed_placed (renaming_on nets n origin)) acts))
     acts_match at [] known = NoneMatch
     acts_match at (p ∷ rest) known =
         let first = act-matches at p.port p.act (All-head (λ (k : Placed). Knows (naming k.port) k.act) p rest known) in
         let more = acts_match at rest (All-tail (λ (k : Placed). Knows (naming k.port) k.act) p rest known) in
-        subst (λ l. AllMatch d l (posts_from at n (map (renamed_placed (renaming_on nets n origin)) (p ∷ rest)))) (sym (map-append (sent_by n) (send_of p.act) (sends_of rest))) (match_append d first more)
+        subst (λ l. AllMatch d l (posts_from at n (map (renamed_placed (renaming_on nets n origin)) (p ∷ rest))))
+        (sym (map-append (sent_by n) (send_of p.act) (sends_of rest))) (match_append d first more)

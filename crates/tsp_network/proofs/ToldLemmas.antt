@@ -1,5 +1,6 @@
 -- A session whose outside is told to its end comes, turn after turn, as far as that of a life that has been told the beginning.
-use Rattle.std.proofs.Common.{sym, ap, arith, append_assoc, append-nil, length-append, ◌∙◌, ◌≡◌, ℕ, zero, suc, ◌+◌, ◌*◌, ◌≤◌, ◌||◌, ℤ, List, [], ◌∷◌, ◌++◌, length, refl}
+use Rattle.std.proofs.Common.{sym, ap, arith, append_assoc, append-nil, length-append, ◌∙◌, ◌≡◌, ℕ, zero, suc, ◌+◌, ◌*◌, ◌≤◌, ◌||◌, ℤ, List, [], ◌∷◌, ◌++◌}
+use Rattle.std.proofs.Common.{length, refl}
 use Rattle.tsp_args.specs.declared.serve.ServeWords.{ServeWords}
 use Rattle.tsp_base.specs.Words.{dids, tracing}
 use Rattle.tsp_io.specs.Links.{Arrival, Tried}
@@ -20,7 +21,8 @@ record Ahead (tr : List Tried) (wr : List ℕ) (arrivals : List Arrival) (readin
   pub posts : whole.posts ≡ told.posts
   pub shown : whole.written ≡ wr ++ told.written
 
-module _ {tr : List Tried} {wr : List ℕ} {arrivals : List Arrival} {readings : List ℕ} {whole told : Session} (h : Ahead tr wr arrivals readings whole told) (a : Arrival) (left : List Arrival) (e t : ℕ) (more : List ℕ) (came : told.outside.arrivals ≡ a ∷ left) (read : told.outside.readings ≡ e ∷ t ∷ more) where
+module _ {tr : List Tried} {wr : List ℕ} {arrivals : List Arrival} {readings : List ℕ} {whole told : Session} (h : Ahead tr wr arrivals readings whole told)
+    (a : Arrival) (left : List Arrival) (e t : ℕ) (more : List ℕ) (came : told.outside.arrivals ≡ a ∷ left) (read : told.outside.readings ≡ e ∷ t ∷ more) where
   given-same : given_in whole ≡ given_in told
   given-same =
       ap (λ (p : NodePast). given_of p.ports (next_arrival whole.outside.arrivals)) h.past
@@ -48,20 +50,28 @@ module _ {tr : List Tried} {wr : List ℕ} {arrivals : List Arrival} {readings :
 
   shown-same : shown_by_turn whole ≡ shown_by_turn told
   shown-same =
-      ap (λ (p : NodePast). shown_lines (tracing (dids p.lines) || tracing (dids (past_after whole).lines)) (whole.turns + 1) (turn_tick whole) whole.posts (acts_in_turn whole)) h.past
-      ∙ ap (λ (p : NodePast). shown_lines (tracing (dids told.past.lines) || tracing (dids p.lines)) (whole.turns + 1) (turn_tick whole) whole.posts (acts_in_turn whole)) past-same
-      ∙ ap (λ n. shown_lines (tracing (dids told.past.lines) || tracing (dids (past_after told).lines)) (n + 1) (turn_tick whole) whole.posts (acts_in_turn whole)) h.turns
-      ∙ ap (λ x. shown_lines (tracing (dids told.past.lines) || tracing (dids (past_after told).lines)) (told.turns + 1) x whole.posts (acts_in_turn whole)) tick-same
-      ∙ ap (λ n. shown_lines (tracing (dids told.past.lines) || tracing (dids (past_after told).lines)) (told.turns + 1) (turn_tick told) n (acts_in_turn whole)) h.posts
-      ∙ ap (λ acts. shown_lines (tracing (dids told.past.lines) || tracing (dids (past_after told).lines)) (told.turns + 1) (turn_tick told) told.posts acts) acts-same
+      ap (λ (p : NodePast). shown_lines (tracing (dids p.lines) || tracing (dids (past_after whole).lines)) (whole.turns + 1) (turn_tick whole) whole.posts
+      (acts_in_turn whole)) h.past
+      ∙ ap (λ (p : NodePast). shown_lines (tracing (dids told.past.lines) || tracing (dids p.lines)) (whole.turns + 1) (turn_tick whole) whole.posts
+      (acts_in_turn whole)) past-same
+      ∙ ap (λ n. shown_lines (tracing (dids told.past.lines) || tracing (dids (past_after told).lines)) (n + 1) (turn_tick whole) whole.posts
+      (acts_in_turn whole)) h.turns
+      ∙ ap (λ x. shown_lines (tracing (dids told.past.lines) || tracing (dids (past_after told).lines)) (told.turns + 1) x whole.posts (acts_in_turn whole))
+      tick-same
+      ∙ ap (λ n. shown_lines (tracing (dids told.past.lines) || tracing (dids (past_after told).lines)) (told.turns + 1) (turn_tick told) n
+      (acts_in_turn whole)) h.posts
+      ∙ ap (λ acts. shown_lines (tracing (dids told.past.lines) || tracing (dids (past_after told).lines)) (told.turns + 1) (turn_tick told) told.posts acts)
+      acts-same
 
   -- and are as far after it
   ahead-turned : Ahead tr wr arrivals readings (turned whole) (turned told)
   ahead-turned = record {
     past = past-same;
     arrivals_are = ap (λ l. all_but_first l) (h.arrivals_are ∙ ap (λ l. l ++ arrivals) came) ∙ sym (ap (λ l. all_but_first l ++ arrivals) came);
-    readings_are = ap (λ l. all_but_first (all_but_first l)) (h.readings_are ∙ ap (λ l. l ++ readings) read) ∙ sym (ap (λ l. all_but_first (all_but_first l) ++ readings) read);
-    tried = ap (λ l. l ++ sends_of (acts_in_turn whole)) h.tried ∙ ap (λ acts. (tr ++ told.outside.tried) ++ sends_of acts) acts-same ∙ append_assoc tr told.outside.tried (sends_of (acts_in_turn told));
+    readings_are = ap (λ l. all_but_first (all_but_first l)) (h.readings_are ∙ ap (λ l. l ++ readings) read) ∙
+        sym (ap (λ l. all_but_first (all_but_first l) ++ readings) read);
+    tried = ap (λ l. l ++ sends_of (acts_in_turn whole)) h.tried ∙ ap (λ acts. (tr ++ told.outside.tried) ++ sends_of acts) acts-same ∙
+        append_assoc tr told.outside.tried (sends_of (acts_in_turn told));
     turns = ap (λ n. n + 1) h.turns;
     posts = ap (λ n. n + length (sends_of (acts_in_turn whole))) h.posts ∙ ap (λ acts. told.posts + length (sends_of acts)) acts-same;
     shown = ap (λ l. l ++ shown_by_turn whole) h.shown ∙ ap (λ l. (wr ++ told.written) ++ l) shown-same ∙ append_assoc wr told.written (shown_by_turn told);
@@ -73,7 +83,8 @@ record At (tr : List Tried) (wr : List ℕ) (arrivals : List Arrival) (readings 
   pub arrivals_left : length told.outside.arrivals + k ≡ n
   pub readings_left : length told.outside.readings + 2 * k ≡ 2 * n
 
-module _ {tr : List Tried} {wr : List ℕ} {arrivals : List Arrival} {readings : List ℕ} {n k : ℕ} {whole told : Session} (h : At tr wr arrivals readings n k whole told) (later : suc k ≤ n) where
+module _ {tr : List Tried} {wr : List ℕ} {arrivals : List Arrival} {readings : List ℕ} {n k : ℕ} {whole told : Session}
+    (h : At tr wr arrivals readings n k whole told) (later : suc k ≤ n) where
   -- what is told in the next turn
   record Next : Type 0 where
     pub a : Arrival
@@ -86,7 +97,8 @@ module _ {tr : List Tried} {wr : List ℕ} {arrivals : List Arrival} {readings :
 
   next : Next
   next = by_lists told.outside.arrivals told.outside.readings refl refl h.arrivals_left h.readings_left where
-    by_lists : (ls : List Arrival) (rs : List ℕ) → told.outside.arrivals ≡ ls → told.outside.readings ≡ rs → length ls + k ≡ n → length rs + 2 * k ≡ 2 * n → Next
+    by_lists : (ls : List Arrival) (rs : List ℕ) → told.outside.arrivals ≡ ls → told.outside.readings ≡ rs → length ls + k ≡ n → length rs + 2 * k ≡ 2 * n →
+        Next
     by_lists [] rs came read few some = absurd (omega (arith, few, later))
     by_lists (a ∷ left) [] came read few some = absurd (omega (arith, some, later))
     by_lists (a ∷ left) (e ∷ []) came read few some = absurd (omega (arith, some, later))
@@ -111,9 +123,11 @@ module _ {tr : List Tried} {wr : List ℕ} {arrivals : List Arrival} {readings :
       }
 
 module _ (s : ServeWords) (o : Outside) (wall : ℤ) (word : ℕ) (written : List ℕ) (life : Life) (told : IsTold o wall word life) where
-  first-at : At o.tried written told.arrivals_left told.readings_left (length life.arrivals) 0 (first_session s (after_bind o) wall word written) (first_session s (after_bind (outside_of life)) life.wall life.word [])
+  first-at : At o.tried written told.arrivals_left told.readings_left (length life.arrivals) 0 (first_session s (after_bind o) wall word written)
+      (first_session s (after_bind (outside_of life)) life.wall life.word [])
   first-at = by_readings life.readings refl where
-    by_readings : (l : List ℕ) → life.readings ≡ l → At o.tried written told.arrivals_left told.readings_left (length life.arrivals) 0 (first_session s (after_bind o) wall word written) (first_session s (after_bind (outside_of life)) life.wall life.word [])
+    by_readings : (l : List ℕ) → life.readings ≡ l → At o.tried written told.arrivals_left told.readings_left (length life.arrivals) 0
+        (first_session s (after_bind o) wall word written) (first_session s (after_bind (outside_of life)) life.wall life.word [])
     by_readings [] e =
         let count = told.count in
         let none : length life.readings ≡ 0 = ap (λ l. length l) e in
@@ -139,16 +153,19 @@ module _ (s : ServeWords) (o : Outside) (wall : ℤ) (word : ℕ) (written : Lis
           readings_left = omega (arith, count, some, left);
         }
 
-  after-at : (k : ℕ) → k ≤ length life.arrivals → At o.tried written told.arrivals_left told.readings_left (length life.arrivals) k (after_turns k (first_session s (after_bind o) wall word written)) (after_turns k (first_session s (after_bind (outside_of life)) life.wall life.word []))
+  after-at : (k : ℕ) → k ≤ length life.arrivals → At o.tried written told.arrivals_left told.readings_left (length life.arrivals) k
+      (after_turns k (first_session s (after_bind o) wall word written)) (after_turns k (first_session s (after_bind (outside_of life)) life.wall life.word []))
   after-at zero few = first-at
   after-at (suc k) few = next-at (after-at k (omega (arith, few))) few
 
-sessions-far : (s : ServeWords) (o : Outside) (wall : ℤ) (word : ℕ) (written : List ℕ) (life : Life) → IsTold o wall word life → ComesAsFar o written (told_session s o wall word written life) (session_of s life)
+sessions-far : (s : ServeWords) (o : Outside) (wall : ℤ) (word : ℕ) (written : List ℕ) (life : Life) → IsTold o wall word life →
+    ComesAsFar o written (told_session s o wall word written life) (session_of s life)
 sessions-far s o wall word written life told =
     let a = (after-at s o wall word written life told (length life.arrivals) (omega arith)).ahead in
     record { past = a.past; tried = a.tried; turns = a.turns; posts = a.posts; shown = a.shown }
 
-sessions-act : (s : ServeWords) (o : Outside) (wall : ℤ) (word : ℕ) (written : List ℕ) (life : Life) (arrival : Arrival) (early tick : ℕ) → IsTold o wall word life → IsTold o wall word (turn_told arrival early tick life) →
+sessions-act : (s : ServeWords) (o : Outside) (wall : ℤ) (word : ℕ) (written : List ℕ) (life : Life) (arrival : Arrival) (early tick : ℕ) →
+    IsTold o wall word life → IsTold o wall word (turn_told arrival early tick life) →
     acts_in_turn (told_session s o wall word written life) ≡ turn_acts s life (turn_told arrival early tick life)
 sessions-act s o wall word written life arrival early tick told later =
     let more = length-append life.arrivals (arrival ∷ []) in

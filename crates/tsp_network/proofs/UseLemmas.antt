@@ -1,14 +1,24 @@
 -- The rules give what the daemons of the examples do: two in use, three when a copy goes astray, and one to which happens what can't happen.
 use Rattle.std.proofs.Common.{sym, ap, arith, ◌∙◌, ◌≡◌, ℕ, ◌+◌, ◌≤◌, length, Option, Some, refl, pos, negsuc, true, List, [], ◌∷◌, codes, slice_get, ◌≢◌}
-use Rattle.tsp_base.specs.Words.{kind_number, nothing, puts, ◌followed_by◌, either_by, reading, for_each, arms, posts, posts_to_others, posts_back, posts_time, carries_hops, carries_time, kind_of, Came, Line, Step, bare, dids, first_port, of, peer_of as peer, role, stepped, timed, up, view, Acts, Deed}
-use Rattle.tsp_rules.specs.Answers.{alarm_rings, rings, rings_alone, due_alarms, says_in, peer_says, replies_in, peer_replies, from_peer, handles_kind, handles, takes, input_row, answers}
+use Rattle.tsp_base.specs.Words.{kind_number, nothing, puts, ◌followed_by◌, either_by, reading, for_each, arms, posts, posts_to_others, posts_back, posts_time}
+use Rattle.tsp_base.specs.Words.{carries_hops, carries_time, kind_of, Came, Line, Step, bare, dids, first_port, of, peer_of as peer, role, stepped, timed, up}
+use Rattle.tsp_base.specs.Words.{view, Acts, Deed}
+use Rattle.tsp_rules.specs.Answers.{alarm_rings, rings, rings_alone, due_alarms, says_in, peer_says, replies_in, peer_replies, from_peer, handles_kind, handles}
+use Rattle.tsp_rules.specs.Answers.{takes, input_row, answers}
 use Rattle.tsp_rules.specs.Values.{LIFE, Ack, Act, Arm, Correct, Datagram, Elect, Follow, Good, Message, Peer, Placed, Post, SetTime, Took, Stranger}
-use Rattle.tsp_rules.specs.CommonRows.{boots, arms_elect, searches, tells_ticket, follow_row, backs_own, candidature_row, follows_unless, quits, posts_reply, replies, names_master, says_master, traces, tests}
-use Rattle.tsp_rules.specs.RoundRows.{asks, asks_slaves, round_begins, round_rings, asks_measured, arms_next, abandons, probe_rings, samples_request, samples, corrects_by, corrects_peer, begins_or_waits, moves, closes_with, closes, close_rings, abandons_going, upsetting}
-use Rattle.tsp_rules.specs.SendRows.{begins, begins_timed, begins_to_others, begins_adjtime, begins_settime, acknowledges, leaves_after, gives_up, repeats, repeats_send, due_send, due_sends}
-use Rattle.tsp_rules.specs.SlaveRows.{quiet_rings, rings_or_late, search_rings, loosens, elect_rings, reports_conflict, masterup_in, masterack_in, election_of, acks_repeat, confirms, adjtime_of, settime_of, from_master, slave_takes_kind, slave_takes}
-use Rattle.tsp_rules.specs.DateRows.{passes_on, leaves, leaves_all, new_date, sets_date_where, date_in, date_of, sets_in_charge, date_request_in, date_request_of, date_acked_in, date_acked}
-use Rattle.tsp_rules.specs.GateRows.{sends_loops, loops_after, probes_on, closes_on, begins_round_on, alarm_on, alarms_on, turns_on, reposts, reposts_on, loosens_master, forwards, takes_loop_step, judges, heeds_loop, takes_loop, takes_message, takes_kind, takes_on, input_all, answers_all, boots_on, boots_all, GotOn}
+use Rattle.tsp_rules.specs.CommonRows.{boots, arms_elect, searches, tells_ticket, follow_row, backs_own, candidature_row, follows_unless, quits, posts_reply}
+use Rattle.tsp_rules.specs.CommonRows.{replies, names_master, says_master, traces, tests}
+use Rattle.tsp_rules.specs.RoundRows.{asks, asks_slaves, round_begins, round_rings, asks_measured, arms_next, abandons, probe_rings, samples_request, samples}
+use Rattle.tsp_rules.specs.RoundRows.{corrects_by, corrects_peer, begins_or_waits, moves, closes_with, closes, close_rings, abandons_going, upsetting}
+use Rattle.tsp_rules.specs.SendRows.{begins, begins_timed, begins_to_others, begins_adjtime, begins_settime, acknowledges, leaves_after, gives_up, repeats}
+use Rattle.tsp_rules.specs.SendRows.{repeats_send, due_send, due_sends}
+use Rattle.tsp_rules.specs.SlaveRows.{quiet_rings, rings_or_late, search_rings, loosens, elect_rings, reports_conflict, masterup_in, masterack_in, election_of}
+use Rattle.tsp_rules.specs.SlaveRows.{acks_repeat, confirms, adjtime_of, settime_of, from_master, slave_takes_kind, slave_takes}
+use Rattle.tsp_rules.specs.DateRows.{passes_on, leaves, leaves_all, new_date, sets_date_where, date_in, date_of, sets_in_charge, date_request_in}
+use Rattle.tsp_rules.specs.DateRows.{date_request_of, date_acked_in, date_acked}
+use Rattle.tsp_rules.specs.GateRows.{sends_loops, loops_after, probes_on, closes_on, begins_round_on, alarm_on, alarms_on, turns_on, reposts, reposts_on}
+use Rattle.tsp_rules.specs.GateRows.{loosens_master, forwards, takes_loop_step, judges, heeds_loop, takes_loop, takes_message, takes_kind, takes_on, input_all}
+use Rattle.tsp_rules.specs.GateRows.{answers_all, boots_on, boots_all, GotOn}
 use Rattle.tsp_rules.specs.CandidateRows.{lead_row, yields, window_rings, accepted_by, refused_by, candidate_takes_kind, candidate_takes}
 use Rattle.tsp_rules.specs.NodeRows.{nothing_at_all, on, ◌and_then◌, reading_all, for_ports, abandons_on, stirring}
 use Rattle.tsp_rules.specs.ResolveRows.{resolves, finds_rival, quits_rivals, resolve_rings}
@@ -111,16 +121,138 @@ pub record IsComputed : Type 0 where
   pub broken : IsBroken
 
 pub computed : IsComputed
-unfolding taken_of kind_number kind_of carries_time carries_hops nothing puts ◌followed_by◌ either_by reading for_each arms posts posts_to_others posts_back posts_time alarm_rings rings rings_alone due_alarms says_in peer_says replies_in peer_replies from_peer handles_kind handles takes input_row answers lead_row yields window_rings accepted_by refused_by candidate_takes_kind candidate_takes adjusts sets boots arms_elect searches tells_ticket follow_row backs_own candidature_row follows_unless quits posts_reply replies names_master says_master traces tests group_from goes_before better joins sends_away master_takes_kind master_takes resolves finds_rival quits_rivals resolve_rings asks asks_slaves round_begins round_rings asks_measured arms_next abandons probe_rings samples_request samples corrects_by corrects_peer begins_or_waits moves closes_with closes close_rings abandons_going upsetting begins begins_to_others begins_adjtime begins_settime acknowledges leaves_after gives_up repeats repeats_send due_send due_sends quiet_rings rings_or_late search_rings loosens elect_rings reports_conflict masterup_in masterack_in election_of acks_repeat confirms adjtime_of settime_of from_master slave_takes_kind slave_takes begins_timed passes_on leaves leaves_all new_date sets_date_where date_in date_of sets_in_charge date_request_in date_request_of date_acked_in date_acked nothing_at_all on ◌and_then◌ reading_all for_ports abandons_on stirring sends_loops loops_after probes_on closes_on begins_round_on alarm_on alarms_on turns_on reposts reposts_on loosens_master forwards takes_loop_step judges heeds_loop takes_loop takes_message takes_kind takes_on input_all answers_all boots_on boots_all steps
+unfolding taken_of kind_number kind_of carries_time carries_hops nothing puts ◌followed_by◌ either_by reading for_each arms posts posts_to_others posts_back
+    posts_time alarm_rings rings rings_alone due_alarms says_in peer_says replies_in peer_replies from_peer handles_kind handles takes input_row answers
+    lead_row yields window_rings accepted_by refused_by candidate_takes_kind candidate_takes adjusts sets boots arms_elect searches tells_ticket follow_row
+    backs_own candidature_row follows_unless quits posts_reply replies names_master says_master traces tests group_from goes_before better joins sends_away
+    master_takes_kind master_takes resolves finds_rival quits_rivals resolve_rings asks asks_slaves round_begins round_rings asks_measured arms_next abandons
+    probe_rings samples_request samples corrects_by corrects_peer begins_or_waits moves closes_with closes close_rings abandons_going upsetting begins
+    begins_to_others begins_adjtime begins_settime acknowledges leaves_after gives_up repeats repeats_send due_send due_sends quiet_rings rings_or_late
+    search_rings loosens elect_rings reports_conflict masterup_in masterack_in election_of acks_repeat confirms adjtime_of settime_of from_master
+    slave_takes_kind slave_takes begins_timed passes_on leaves leaves_all new_date sets_date_where date_in date_of sets_in_charge date_request_in
+    date_request_of date_acked_in date_acked nothing_at_all on ◌and_then◌ reading_all for_ports abandons_on stirring sends_loops loops_after probes_on closes_on
+    begins_round_on alarm_on alarms_on turns_on reposts reposts_on loosens_master forwards takes_loop_step judges heeds_loop takes_loop takes_message takes_kind
+    takes_on input_all answers_all boots_on boots_all steps
 computed = record {
   used = record {
-    happens = (refl, (refl, (refl, (refl, (refl, (refl, (refl, (refl, (refl, (refl, (refl, (refl, (refl, (refl, (refl, (refl, (refl, (refl, (refl, (refl, (refl, (refl, (refl, tt)))))))))))))))))))))));
+    happens = (
+      refl,
+      (
+        refl,
+        (
+          refl,
+          (
+            refl,
+            (
+              refl,
+              (
+                refl,
+                (
+                  refl,
+                  (
+                    refl,
+                    (
+                      refl,
+                      (
+                        refl,
+                        (refl, (refl, (refl, (refl, (refl, (refl, (refl, (refl, (refl, (refl, (refl, (refl, (refl, tt))))))))))))),
+                      ),
+                    ),
+                  ),
+                ),
+              ),
+            ),
+          ),
+        ),
+      ),
+    );
     count = refl;
     acts_a = refl;
     acts_b = refl;
-    prompt = (early _ 639000700 639000400 refl (omega arith), (early _ 639000400 639000000 refl (omega arith), (tt, (tt, (tt, (tt, (early _ 631000801 631000300 refl (omega arith), (early _ 631000300 631000000 refl (omega arith), (tt, (early _ 391001800 391001400 refl (omega arith), (early _ 391001400 391001000 refl (omega arith), (early _ 391001000 391000500 refl (omega arith), (early _ 391000500 391000000 refl (omega arith), (tt, (early _ 386000006 386000003 refl (omega arith), (early _ 386000003 386000000 refl (omega arith), (tt, (tt, (tt, (tt, (tt, (tt, (tt, tt)))))))))))))))))))))));
+    prompt = (
+      early _ 639000700 639000400 refl (omega arith),
+      (
+        early _ 639000400 639000000 refl (omega arith),
+        (
+          tt,
+          (
+            tt,
+            (
+              tt,
+              (
+                tt,
+                (
+                  early _ 631000801 631000300 refl (omega arith),
+                  (
+                    early _ 631000300 631000000 refl (omega arith),
+                    (
+                      tt,
+                      (
+                        early _ 391001800 391001400 refl (omega arith),
+                        (
+                          early _ 391001400 391001000 refl (omega arith),
+                          (
+                            early _ 391001000 391000500 refl (omega arith),
+                            (
+                              early _ 391000500 391000000 refl (omega arith),
+                              (
+                                tt,
+                                (
+                                  early _ 386000006 386000003 refl (omega arith),
+                                  (
+                                    early _ 386000003 386000000 refl (omega arith),
+                                    (tt, (tt, (tt, (tt, (tt, (tt, (tt, tt))))))),
+                                  ),
+                                ),
+                              ),
+                            ),
+                          ),
+                        ),
+                      ),
+                    ),
+                  ),
+                ),
+              ),
+            ),
+          ),
+        ),
+      ),
+    );
   };
-  astray = record { happens = (refl, (refl, (refl, (refl, (refl, (refl, (refl, (refl, (refl, (refl, (refl, (refl, (refl, (refl, (refl, (refl, (refl, (refl, tt)))))))))))))))))); count = refl; is_up = refl; posted = refl; still_posted = refl; size = refl; follows = refl; acts_are = refl };
+  astray = record {
+    happens = (
+      refl,
+      (
+        refl,
+        (
+          refl,
+          (
+            refl,
+            (
+              refl,
+              (
+                refl,
+                (
+                  refl,
+                  (
+                    refl,
+                    (refl, (refl, (refl, (refl, (refl, (refl, (refl, (refl, (refl, (refl, tt)))))))))),
+                  ),
+                ),
+              ),
+            ),
+          ),
+        ),
+      ),
+    );
+    count = refl;
+    is_up = refl;
+    posted = refl;
+    still_posted = refl;
+    size = refl;
+    follows = refl;
+    acts_are = refl;
+  };
   broken = record {
     late = λ same. (let bad : 80000005 ≡ 80000000 = ap last-armed same in omega (arith, bad));
     stranger = λ same. (let bad : 0 ≡ 1 = ap last-port same in omega (arith, bad));

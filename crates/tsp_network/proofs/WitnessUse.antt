@@ -1,6 +1,7 @@
 -- Networks of the examples: two daemons in use, three with a copy that comes to another than it is addressed to, which breaks a promise, and
 -- one to which happens what can't happen in a network, and which so doesn't do what the run of its events does.
-use Rattle.std.proofs.Common.{sym, ap, subst, arith, ◌∙◌, ◌≡◌, ℕ, zero, suc, ◌<◌, ◌≤◌, ◌^◌, List, [], ◌∷◌, refl, inr, ◌≢◌, true, pos, negsuc, length, Some, slice_get, inl, All}
+use Rattle.std.proofs.Common.{sym, ap, subst, arith, ◌∙◌, ◌≡◌, ℕ, zero, suc, ◌<◌, ◌≤◌, ◌^◌, List, [], ◌∷◌, refl, inr, ◌≢◌, true, pos, negsuc, length, Some}
+use Rattle.std.proofs.Common.{slice_get, inl, All}
 use Rattle.std.proofs.lemmas.List.{Elements.All-nil, Elements.All-cons, Sums.count_by-le-length}
 use Rattle.tsp_rules.specs.{Values.Event, Values.Message, Values.Peer, Values.Place, Values.Stranger, GateRows.GotOn}
 use Rattle.tsp_base.specs.Words.{HeaderValue, IsHeader, IsNet, KeepsDrift, Came, Handed, dids, first_port, has_member, peer_of as peer, posted, stepped}
@@ -12,7 +13,8 @@ use Rattle.tsp_network.proofs.EventLists.{differ_apart, plain_ranges, plain_seal
 use Rattle.tsp_network.proofs.ServeUse.{alone_on_two, beside_one, beside_two, letter_name}
 use Rattle.tsp_args.specs.declared.serve.Candidacy.TheVariants.{Never, Plain}
 use Rattle.tsp_run.{proofs.PromptRun.posted-at, specs.Run.run, specs.Run.posts, specs.Setup.node_line}
-use Rattle.tsp_network.specs.NetworkUse.{Misdelivered, astray, first_at, led, three_daemons, three_nodes, NetworksBreak, on_second_port, one_daemon, one_node, start, NetworkUse, acts_by_node, two_daemons, two_nodes, used}
+use Rattle.tsp_network.specs.NetworkUse.{Misdelivered, astray, first_at, led, three_daemons, three_nodes, NetworksBreak, on_second_port, one_daemon, one_node}
+use Rattle.tsp_network.specs.NetworkUse.{start, NetworkUse, acts_by_node, two_daemons, two_nodes, used}
 use Rattle.tsp_network.proofs.UseLemmas.{history, set_post, set_time, stray_acts, stray_step, taken_astray, computed}
 use Rattle.tsp_network.proofs.NetworksKeep.{run_is_network, SendAt, quiet, runs_up, send_at}
 use Rattle.tsp_network.proofs.NetworkAgrees.{AllAgree, OneAgrees, turn_agrees_all, Agrees}
@@ -25,8 +27,13 @@ used-header : IsHeader two_nodes
 used-header = record {
   small = omega arith;
   few = omega arith;
-  kept = All-cons (KeepsDrift 0) (node_line two_nodes 0) (node_line two_nodes 1 ∷ []) (record { name = letter_name 97 (omega arith); rate = omega arith; wall = omega arith })
-      (All-cons (KeepsDrift 0) (node_line two_nodes 1) [] (record { name = letter_name 98 (omega arith); rate = omega arith; wall = omega arith }) (All-nil (KeepsDrift 0)));
+  kept = All-cons (KeepsDrift 0) (node_line two_nodes 0) (node_line two_nodes 1 ∷ []) (record {
+    name = letter_name 97 (omega arith);
+    rate = omega arith;
+    wall = omega arith;
+  })
+      (All-cons (KeepsDrift 0) (node_line two_nodes 1) [] (record { name = letter_name 98 (omega arith); rate = omega arith; wall = omega arith })
+      (All-nil (KeepsDrift 0)));
   few_nets = omega arith;
   nets_are = All-nil (IsNet 2);
   few_ports = λ n. omega arith;
@@ -109,9 +116,15 @@ led-header : IsHeader three_nodes
 led-header = record {
   small = omega arith;
   few = omega arith;
-  kept = All-cons (KeepsDrift 0) (node_line three_nodes 0) (node_line three_nodes 1 ∷ node_line three_nodes 2 ∷ []) (record { name = letter_name 97 (omega arith); rate = omega arith; wall = omega arith })
-      (All-cons (KeepsDrift 0) (node_line three_nodes 1) (node_line three_nodes 2 ∷ []) (record { name = letter_name 98 (omega arith); rate = omega arith; wall = omega arith })
-      (All-cons (KeepsDrift 0) (node_line three_nodes 2) [] (record { name = letter_name 99 (omega arith); rate = omega arith; wall = omega arith }) (All-nil (KeepsDrift 0))));
+  kept = All-cons (KeepsDrift 0) (node_line three_nodes 0) (node_line three_nodes 1 ∷ node_line three_nodes 2 ∷
+      []) (record { name = letter_name 97 (omega arith); rate = omega arith; wall = omega arith })
+      (All-cons (KeepsDrift 0) (node_line three_nodes 1) (node_line three_nodes 2 ∷ []) (record {
+        name = letter_name 98 (omega arith);
+        rate = omega arith;
+        wall = omega arith;
+      })
+      (All-cons (KeepsDrift 0) (node_line three_nodes 2) [] (record { name = letter_name 99 (omega arith); rate = omega arith; wall = omega arith })
+      (All-nil (KeepsDrift 0))));
   few_nets = omega arith;
   nets_are = All-nil (IsNet 3);
   few_ports = λ n. omega arith;
@@ -181,7 +194,8 @@ astray-is =
     let may : MayCome nets 2 first_port (Peer (peer s.from)) = inr (subst (λ n. has_member n (neighbours_on 2 0 nets) ≡ true) (sym from) refl) in
     let c = comes_as three_daemons led-is.header_is 2 r.life.origin first_port (Peer (peer s.from)) s.tried.1
     (session_of (three_daemons.words 2) r.life).past own.ports may (omega arith) small in
-    let given_is = c.same ∙ ap (λ n. GotOn first_port (Peer (peer n)) (taken_of s.tried.1)) from ∙ ap (λ l. GotOn first_port (Peer (peer 0)) (taken_of l)) written in
+    let given_is = c.same ∙ ap (λ n. GotOn first_port (Peer (peer n)) (taken_of s.tried.1)) from ∙
+    ap (λ l. GotOn first_port (Peer (peer 0)) (taken_of l)) written in
     let after = turn_agrees_all three_daemons led-is.header_is led-is.keeps now 390001000 history 18 stray_step (copy_at nets (first_at 2) s) r.life
     (GotOn first_port (Peer (peer 0)) (taken_of (canon set_time))) a (omega arith) r.is given_is c.comes in
     after.history ∙ ap (λ l. stepped stray_step 390001400 l history) computed.astray.acts_are
@@ -204,7 +218,8 @@ not-obeyed setting o =
     let brings = obeys.brings in
     let found = posted-at taken_astray obeys.post obeys.older (Peer (peer 2)) (Message brings.message) brings.place brings.deed in
     let number : 14 ≡ posted (dids obeys.older) = came-same 14 (posted (dids obeys.older)) brings.cause in
-    let same : set_post ≡ found.post = some_same (sym computed.astray.still_posted ∙ subst (λ m. slice_get (posts taken_astray) m ≡ Some found.post) (sym number) found.there) in
+    let same : set_post ≡ found.post = some_same (sym computed.astray.still_posted ∙
+    subst (λ m. slice_get (posts taken_astray) m ≡ Some found.post) (sym number) found.there) in
     let bad : 1 ≡ 2 = place-of (ap (λ (p : Posted). p.to) same ∙ found.to_is) in
     omega (arith, bad)
 
@@ -219,13 +234,18 @@ misdelivered = record {
 }
 
 one-net : IsNet 1 (0 ∷ [])
-one-net = record { some = omega arith; ascending = λ k few. (let bad : ⊥ = omega (arith, few) in absurd bad); known = All-cons (λ n. n < 1) 0 [] (omega arith) (All-nil (λ n. n < 1)) }
+one-net = record {
+  some = omega arith;
+  ascending = λ k few. (let bad : ⊥ = omega (arith, few) in absurd bad);
+  known = All-cons (λ n. n < 1) 0 [] (omega arith) (All-nil (λ n. n < 1));
+}
 
 one-header : IsHeader one_node
 one-header = record {
   small = omega arith;
   few = omega arith;
-  kept = All-cons (KeepsDrift 0) (node_line one_node 0) [] (record { name = letter_name 97 (omega arith); rate = omega arith; wall = omega arith }) (All-nil (KeepsDrift 0));
+  kept = All-cons (KeepsDrift 0) (node_line one_node 0) [] (record { name = letter_name 97 (omega arith); rate = omega arith; wall = omega arith })
+      (All-nil (KeepsDrift 0));
   few_nets = omega arith;
   nets_are = All-cons (IsNet 1) (0 ∷ []) ((0 ∷ []) ∷ []) one-net (All-cons (IsNet 1) (0 ∷ []) [] one-net (All-nil (IsNet 1)));
   few_ports = λ n. (let most = count_by-le-length (has_member n) one_node.nets in omega (arith, most));
@@ -248,7 +268,8 @@ by-clocks : (d : Daemons) (events : List Event) → d.clocks ≡ clocks_of d.hea
 by-clocks d events own other same = other (same ∙ ap (λ c. run_by c d.header events) own ∙ runs_by_own_clocks d.header events)
 
 -- no octets come to it
-no-octets : (from : Place) → Happens one_node (on_second_port from) → length (posts (run one_node (on_second_port from))) ≡ 0 → Possible one_node (on_second_port from)
+no-octets : (from : Place) → Happens one_node (on_second_port from) → length (posts (run one_node (on_second_port from))) ≡ 0 →
+    Possible one_node (on_second_port from)
 no-octets from happens none = possible-so one-header (in_ranges (on_second_port from) ((λ i. omega arith), (omega arith, tt))) happens 0 none (omega arith)
 
 too-early : ¬ AllHappen (one_daemon 5) start

@@ -1,7 +1,8 @@
 -- What is promised of every network of daemons, by which addresses its daemons know each other, and which runs of the rules are a network.
 use Rattle.std.specs.Prelude.{◌≡◌, ◌==◌, ℕ, ◌&&◌, List, ◌++◌, length, map, filter, drop, take, None, Some, slice_get, ◌≢◌, true, ◌<◌, ◌≤◌, [], ◌∷◌}
 use Rattle.tsp_codec.specs.Canon.{canon}
-use Rattle.tsp_run.specs.{Networks.networks, Networks.network_at, Premised.KeptByText, Promises.Promises, declared.address.Address.Address, declared.posted.Posted.Posted}
+use Rattle.tsp_run.specs.{Networks.networks, Networks.network_at, Premised.KeptByText, Promises.Promises, declared.address.Address.Address}
+use Rattle.tsp_run.specs.{declared.posted.Posted.Posted}
 use Rattle.tsp_run.specs.Clocked.{KeptByEvents, PossibleBy, SetByClocks, clocks_of, run_by}
 use Rattle.tsp_run.specs.{Run.posts, Run.run, Setting.SetBy}
 use Rattle.tsp_rules.specs.Guards.{is_clock_value}

@@ -1,7 +1,9 @@
 -- Two daemons in use: an election, the setting of a clock, a round, and what it corrects. Then what is asked of the events of a network is
 -- needed: without it, what the daemons do isn't the run; and a copy that comes to another daemon than it is addressed to breaks a promise.
 use Rattle.std.specs.Prelude.{◌≡◌, ℕ, zero, suc, ◌==◌, pos, negsuc, true, false, if◌then◌else◌, List, [], ◌∷◌, ◌++◌, codes, ◌≢◌, None, Some, slice_get}
-use Rattle.tsp_rules.specs.Values.{Act, Boot, Took, Post, Become, Arm, Ring, Back, Backer, Close, Correct, Sample, Acked, Join, Quiet, Window, Elect, Search, Round, Probe, CloseAlarm, Message, Stamp, Good, Accept, Ack, AdjTime, Election, MasterReq, MasterUp, NodeLine, SetTime, SlaveUp, Peer, Starting, Loose, Follow, Candidate, Master, Request, Reply, Event, BootAt, Turn, Take, Bytes, Place, Stranger}
+use Rattle.tsp_rules.specs.Values.{Act, Boot, Took, Post, Become, Arm, Ring, Back, Backer, Close, Correct, Sample, Acked, Join, Quiet, Window, Elect, Search}
+use Rattle.tsp_rules.specs.Values.{Round, Probe, CloseAlarm, Message, Stamp, Good, Accept, Ack, AdjTime, Election, MasterReq, MasterUp, NodeLine, SetTime}
+use Rattle.tsp_rules.specs.Values.{SlaveUp, Peer, Starting, Loose, Follow, Candidate, Master, Request, Reply, Event, BootAt, Turn, Take, Bytes, Place, Stranger}
 use Rattle.tsp_base.specs.Words.{Acts, Begins, Deed, HeaderValue, Line, bare, timed, peer_of as peer, first_port}
 use Rattle.tsp_args.specs.declared.serve.{Candidacy.TheVariants.Never, Candidacy.TheVariants.Plain, ServeWords.ServeWords}
 use Rattle.tsp_args.specs.declared.serve.Candidacy.{Candidacy}
@@ -34,7 +36,13 @@ network_address k m = record { ip = 10 ∷ 0 ∷ k ∷ m ∷ []; port = 525 }
 
 -- the words that start a daemon of this name on these networks, as node n
 abbrev pub words_for : List (List ℕ) → List ℕ → Candidacy → ℕ → ServeWords
-words_for nets name candidacy n = record { local = network_address 0 n; name = name; candidacy = candidacy; turns = 1000; ports = addresses network_address n 0 nets }
+words_for nets name candidacy n = record {
+  local = network_address 0 n;
+  name = name;
+  candidacy = candidacy;
+  turns = 1000;
+  ports = addresses network_address n 0 nets;
+}
 
 -- those of each node
 abbrev pub two_words : ℕ → ServeWords
@@ -104,14 +112,18 @@ acts_of_a =
     Ring Elect ∷ Become Candidate ∷ Back (peer 0) ∷ Arm Window 391000000 ∷ Post (Peer (peer 1)) (Message (bare Election 32768 (codes "a"))) ∷
     Took (Peer (peer 1)) (Good (Message (bare Accept 32768 (codes "b")))) ∷ Acked (peer 1) ∷ Backer (peer 1) ∷
     Ring Window ∷ Become Master ∷ Arm Round 631000000 ∷ Post (Peer (peer 1)) (Message (bare MasterUp 0 (codes "a"))) ∷
-    Took (Peer (peer 1)) (Good (Message (bare SlaveUp 9 (codes "b")))) ∷ Join (peer 1) ∷ Post (Peer (peer 1)) (Message (timed SetTime 9 (pos 391001000) (codes "a"))) ∷
+    Took (Peer (peer 1)) (Good (Message (bare SlaveUp 9 (codes "b")))) ∷ Join (peer 1) ∷
+    Post (Peer (peer 1)) (Message (timed SetTime 9 (pos 391001000) (codes "a"))) ∷
     Took (Peer (peer 1)) (Good (Message (bare Ack 9 (codes "b")))) ∷ Acked (peer 1) ∷
-    Ring Round ∷ Arm Round 871000000 ∷ Arm Probe 632000000 ∷ Arm CloseAlarm 639000000 ∷ Post (Peer (peer 1)) (Message (bare MasterUp 0 (codes "a"))) ∷ Post (Peer (peer 1)) (Stamp (Request 0 0)) ∷
-    Took (Peer (peer 1)) (Good (Stamp (Reply (record { ticket = 10; word = 0; counter = 0; reading = pos 630999900 })))) ∷ Sample (peer 1) 0 (negsuc 499) (pos 401) 10 ∷
+    Ring Round ∷ Arm Round 871000000 ∷ Arm Probe 632000000 ∷ Arm CloseAlarm 639000000 ∷ Post (Peer (peer 1)) (Message (bare MasterUp 0 (codes "a"))) ∷
+    Post (Peer (peer 1)) (Stamp (Request 0 0)) ∷
+    Took (Peer (peer 1)) (Good (Stamp (Reply (record { ticket = 10; word = 0; counter = 0; reading = pos 630999900 })))) ∷
+    Sample (peer 1) 0 (negsuc 499) (pos 401) 10 ∷
     Ring Probe ∷ Post (Peer (peer 1)) (Stamp (Request 0 1)) ∷ Arm Probe 633000000 ∷
     Ring Probe ∷ Post (Peer (peer 1)) (Stamp (Request 0 2)) ∷ Arm Probe 634000000 ∷
     Ring Probe ∷ Post (Peer (peer 1)) (Stamp (Request 0 3)) ∷
-    Ring CloseAlarm ∷ Close 2 (negsuc 499) (pos 500) (negsuc 249) ∷ Correct (negsuc 249) false (pos 639000000) ∷ Post (Peer (peer 1)) (Message (timed AdjTime 10 (pos 250) (codes "a"))) ∷
+    Ring CloseAlarm ∷ Close 2 (negsuc 499) (pos 500) (negsuc 249) ∷ Correct (negsuc 249) false (pos 639000000) ∷
+    Post (Peer (peer 1)) (Message (timed AdjTime 10 (pos 250) (codes "a"))) ∷
     Took (Peer (peer 1)) (Good (Message (bare Ack 10 (codes "b")))) ∷ Acked (peer 1) ∷
     []
 
@@ -121,11 +133,16 @@ acts_of_b =
     Boot ∷ Become Starting ∷ Arm Quiet 81000000 ∷
     Ring Quiet ∷ Become Loose ∷ Arm Search 86000000 ∷ Post (Peer (peer 0)) (Message (bare MasterReq 0 (codes "b"))) ∷
     Ring Search ∷ Arm Elect 386000009 ∷
-    Took (Peer (peer 0)) (Good (Message (bare Election 32768 (codes "a")))) ∷ Back (peer 0) ∷ Arm Elect 686000012 ∷ Post (Peer (peer 0)) (Message (bare Accept 32768 (codes "b"))) ∷
-    Took (Peer (peer 0)) (Good (Message (bare MasterUp 0 (codes "a")))) ∷ Become (Follow (peer 0)) ∷ Arm Elect 691000509 ∷ Post (Peer (peer 0)) (Message (bare SlaveUp 9 (codes "b"))) ∷
-    Took (Peer (peer 0)) (Good (Message (timed SetTime 9 (pos 391001000) (codes "a")))) ∷ Correct (negsuc 10399) true (pos 391001000) ∷ Arm Elect 691001409 ∷ Post (Peer (peer 0)) (Message (bare Ack 9 (codes "b"))) ∷
-    Took (Peer (peer 0)) (Good (Stamp (Request 0 0))) ∷ Post (Peer (peer 0)) (Stamp (Reply (record { ticket = 10; word = 0; counter = 0; reading = pos 630999900 }))) ∷
-    Took (Peer (peer 0)) (Good (Message (timed AdjTime 10 (pos 250) (codes "a")))) ∷ Correct (pos 250) false (pos 639000000) ∷ Arm Elect 939000409 ∷ Post (Peer (peer 0)) (Message (bare Ack 10 (codes "b"))) ∷
+    Took (Peer (peer 0)) (Good (Message (bare Election 32768 (codes "a")))) ∷ Back (peer 0) ∷ Arm Elect 686000012 ∷
+    Post (Peer (peer 0)) (Message (bare Accept 32768 (codes "b"))) ∷
+    Took (Peer (peer 0)) (Good (Message (bare MasterUp 0 (codes "a")))) ∷ Become (Follow (peer 0)) ∷ Arm Elect 691000509 ∷
+    Post (Peer (peer 0)) (Message (bare SlaveUp 9 (codes "b"))) ∷
+    Took (Peer (peer 0)) (Good (Message (timed SetTime 9 (pos 391001000) (codes "a")))) ∷ Correct (negsuc 10399) true (pos 391001000) ∷ Arm Elect 691001409 ∷
+    Post (Peer (peer 0)) (Message (bare Ack 9 (codes "b"))) ∷
+    Took (Peer (peer 0)) (Good (Stamp (Request 0 0))) ∷ Post (Peer (peer 0)) (Stamp
+    (Reply (record { ticket = 10; word = 0; counter = 0; reading = pos 630999900 }))) ∷
+    Took (Peer (peer 0)) (Good (Message (timed AdjTime 10 (pos 250) (codes "a")))) ∷ Correct (pos 250) false (pos 639000000) ∷ Arm Elect 939000409 ∷
+    Post (Peer (peer 0)) (Message (bare Ack 10 (codes "b"))) ∷
     []
 
 -- the daemons and the events are a network's, in whose history a and b do this. No datagram is forged or lives too long, and the words of the

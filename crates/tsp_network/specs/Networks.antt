@@ -1,5 +1,6 @@
 -- A network of daemons: what they do at the events of true time, and what all of them have done.
-use Rattle.std.specs.Prelude.{ℕ, zero, suc, Bool, true, false, ◌+◌, ◌-◌, ◌==◌, ℤ, pos, ◌+ℤ◌, if◌then◌else◌, List, [], ◌∷◌, ◌++◌, length, map, Option, None, Some, slice_get}
+use Rattle.std.specs.Prelude.{ℕ, zero, suc, Bool, true, false, ◌+◌, ◌-◌, ◌==◌, ℤ, pos, ◌+ℤ◌, if◌then◌else◌, List, [], ◌∷◌, ◌++◌, length, map, Option, None}
+use Rattle.std.specs.Prelude.{Some, slice_get}
 use Rattle.tsp_rules.specs.Values.{Placed, Event, BootAt, Turn, Take, Bytes, Peer}
 use Rattle.tsp_base.specs.Words.{Turned, Came, Handed, Step, Line, dids, lives, of, peer_of, stepped}
 use Rattle.tsp_rules.specs.Renames.{renamed_act}

@@ -1,6 +1,7 @@
 -- Who is whom: by which numbers the daemons of a network know each other. A daemon is number 0 for itself, and its peers have the numbers
 -- from 1 on, port by port, and on each port in the order of the nodes.
-use Rattle.std.specs.Prelude.{ℕ, zero, suc, ◌+◌, ◌-◌, ◌==◌, nat_le, nat_lt, not, ◌&&◌, if◌then◌else◌, List, [], ◌∷◌, length, filter, sum, Option, None, Some, slice_index_or}
+use Rattle.std.specs.Prelude.{ℕ, zero, suc, ◌+◌, ◌-◌, ◌==◌, nat_le, nat_lt, not, ◌&&◌, if◌then◌else◌, List, [], ◌∷◌, length, filter, sum, Option, None, Some}
+use Rattle.std.specs.Prelude.{slice_index_or}
 use Rattle.tsp_rules.specs.{Values.Place, Values.Peer, Values.Stranger, Values.Port, Renames.Renaming}
 use Rattle.tsp_base.specs.Words.{has_member, peer_of}
 use Rattle.tsp_run.specs.{Networks.address_of, declared.address.Address.Address}
@@ -42,7 +43,13 @@ named_node n done nodes p = if p == 0 then n else
 -- what a port's acts are in the numbers of the nodes, and in the ticks of the node: `origin` is the node's tick when the daemon's own
 -- counter was at 0
 abbrev pub renaming_on : List (List ℕ) → ℕ → ℕ → Port → Renaming
-renaming_on nets n origin q = record { shift = origin; peer = λ p. record { 0 = named_node n (count_below q.0 (neighbours n nets)) (neighbours_on n q.0 nets) p.0 } }
+renaming_on nets n origin q = record {
+  shift = origin;
+  peer = λ p. record {
+    0 = named_node n (count_below q.0 (neighbours n nets)) (neighbours_on n q.0 nets)
+        p.0;
+  };
+}
 
 -- the port on which a number above 0 is a peer, if these are the nodes of the ports from q on, and `done` numbers are those of earlier ports
 abbrev pub port_of_number : ℕ → ℕ → ℕ → List (List ℕ) → Option Port

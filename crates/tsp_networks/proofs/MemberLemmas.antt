@@ -1,5 +1,6 @@
 -- Who is on which network of a header: each node of a whole header is on one, and who is on one is a node.
-use Rattle.std.specs.Prelude.{◌≡◌, ℕ, zero, suc, ◌+◌, ◌*◌, ◌<◌, ◌≤◌, ◌==◌, nat_le, ◌&&◌, ◌||◌, Bool, true, false, if◌then◌else◌, List, [], ◌∷◌, ◌++◌, length, map, slice_index, slice_index_or, refl}
+use Rattle.std.specs.Prelude.{◌≡◌, ℕ, zero, suc, ◌+◌, ◌*◌, ◌<◌, ◌≤◌, ◌==◌, nat_le, ◌&&◌, ◌||◌, Bool, true, false, if◌then◌else◌, List, [], ◌∷◌, ◌++◌, length}
+use Rattle.std.specs.Prelude.{map, slice_index, slice_index_or, refl}
 use Rattle.std.proofs.Common.{sym, ap, ◌∙◌, arith, subst, inl, inr, length-append, add-one, le-leb, leb-true, eq-eqb, eqb-true, true≢false}
 use Rattle.std.proofs.lemmas.Bool.{cases_lt, ne_eqb, and_parts, or_right}
 use Rattle.std.specs.List.{list_any, Sorted.IsStrictlyIncreasing}
@@ -61,7 +62,8 @@ rises-next least (p ∷ q ∷ rest) e (suc k) h =
 
 -- numbers that rise are strictly ascending
 pub ascending-below : (n : ℕ) → IsStrictlyIncreasing (numbers_below n)
-ascending-below n k h = subst (λ m. slice_index (numbers_below n) k < slice_index (numbers_below n) m) (sym (add-one k)) (rises-next 0 (numbers_below n) (rises-below n) k (omega (arith, h)))
+ascending-below n k h = subst (λ m. slice_index (numbers_below n) k < slice_index (numbers_below n) m) (sym (add-one k))
+    (rises-next 0 (numbers_below n) (rises-below n) k (omega (arith, h)))
 
 pub length-below : (n : ℕ) → length (numbers_below n) ≡ n
 length-below zero = refl
@@ -69,7 +71,11 @@ length-below (suc n) = length-append (numbers_below n) (n ∷ []) ∙ ap (λ k. 
 
 any-append : (n : ℕ) (ms : List ℕ) (m : ℕ) → has_member n (ms ++ m ∷ []) ≡ (has_member n ms || (m == n))
 any-append n [] m = elim (m == n) as (λ b. (b || false) ≡ b) [ true ↦ refl | false ↦ refl ]
-any-append n (k ∷ rest) m = elim (k == n) as (λ b. (b || has_member n (rest ++ m ∷ [])) ≡ ((b || has_member n rest) || (m == n))) [ true ↦ refl | false ↦ any-append n rest m ]
+any-append n (k ∷ rest) m = elim (k == n) as (λ b. (b || has_member n (rest ++ m ∷ [])) ≡ ((b || has_member n rest) || (m == n))) [
+  | true ↦ refl
+  | false ↦
+      any-append n rest m
+]
 
 -- each node is among all nodes
 member-below : (n m : ℕ) → m < n → has_member m (numbers_below n) ≡ true
@@ -87,7 +93,8 @@ numbers-peers (n ∷ rest) = ap (λ l. n ∷ l) (numbers-peers rest)
 joined-some : (n : ℕ) (nets : List (List ℕ)) → list_any (has_member n) nets ≡ true → 1 ≤ length (ports_on n nets)
 joined-some n [] e = absurd (true≢false (sym e))
 joined-some n (net ∷ rest) e = by_member (has_member n net) (λ f. joined-some n rest f) e where
-  by_member : (b : Bool) → (list_any (has_member n) rest ≡ true → 1 ≤ length (ports_on n rest)) → (b || list_any (has_member n) rest) ≡ true → 1 ≤ length (if b then port_on n net ∷ ports_on n rest else ports_on n rest)
+  by_member : (b : Bool) → (list_any (has_member n) rest ≡ true → 1 ≤ length (ports_on n rest)) → (b || list_any (has_member n) rest) ≡ true →
+      1 ≤ length (if b then port_on n net ∷ ports_on n rest else ports_on n rest)
   by_member true more e = omega arith
   by_member false more e = more e
 
@@ -95,14 +102,20 @@ joined-below : (n count : ℕ) (nets : List (List ℕ)) → all_joined count net
 joined-below n zero nets e h = absurd (omega (arith, h))
 joined-below n (suc count) nets e h =
     let both = and_parts (all_joined count nets) (list_any (has_member count) nets) e in
-    elim (cases_lt n count) [ inl lt ↦ joined-below n count nets both.0 lt | inr ge ↦ (let same : count ≡ n = omega (arith, h, ge) in subst (λ m. list_any (has_member m) nets ≡ true) same both.1) ]
+    elim (cases_lt n count) [
+      | inl lt ↦ joined-below n count nets both.0 lt
+      | inr ge ↦
+          (let same : count ≡ n = omega (arith, h, ge) in subst (λ m. list_any (has_member m) nets ≡ true) same both.1)
+    ]
 
 -- each node of a whole header has a port
 pub some_port : (header : HeaderValue) → is_whole header ≡ true → (n : ℕ) → n < length header.nodes → 1 ≤ length (ports_on n (networks header))
 some_port header whole n h = by_nets header.nets whole where
-  by_nets : (nets : List (List ℕ)) → ((length nets == 0) || all_joined (length header.nodes) nets) ≡ true → 1 ≤ length (ports_on n (networks_among (length header.nodes) nets))
+  by_nets : (nets : List (List ℕ)) → ((length nets == 0) || all_joined (length header.nodes) nets) ≡ true →
+      1 ≤ length (ports_on n (networks_among (length header.nodes) nets))
   by_nets [] e = joined-some n (numbers_below (length header.nodes) ∷ []) (let m = member-below (length header.nodes) n h in rw m refl)
-  by_nets (net ∷ rest) e = joined-some n (net ∷ rest) (joined-below n (length header.nodes) (net ∷ rest) (let some : (length (net ∷ rest) == 0) ≡ false = ne_eqb (length (net ∷ rest)) 0 (λ z. absurd (omega (arith, z))) in rw some at e) h)
+  by_nets (net ∷ rest) e = joined-some n (net ∷ rest) (joined-below n (length header.nodes) (net ∷ rest) (let some : (length (net ∷ rest) == 0) ≡
+      false = ne_eqb (length (net ∷ rest)) 0 (λ z. absurd (omega (arith, z))) in rw some at e) h)
 
 -- a step's room has place for a boot
 pub room-many : (ports : List PortSetup) → 256 * length ports ≤ room ports
@@ -111,11 +124,12 @@ room-many (s ∷ rest) = let more = room-many rest in omega (arith, more)
 
 below-member : (count n : ℕ) → has_member n (numbers_below count) ≡ true → n < count
 below-member zero n e = absurd (true≢false (sym e))
-below-member (suc count) n e = by_case (has_member n (numbers_below count)) (λ f. below-member count n f) (count == n) refl (sym (any-append n (numbers_below count) count) ∙ e) where
-  by_case : (a : Bool) → (a ≡ true → n < count) → (b : Bool) → (count == n) ≡ b → (a || b) ≡ true → n < suc count
-  by_case true more b same e = let lt = more refl in omega (arith, lt)
-  by_case false more true same e = let is = eqb-true count n same in omega (arith, is)
-  by_case false more false same e = absurd (true≢false (sym e))
+below-member (suc count) n e = by_case (has_member n (numbers_below count)) (λ f. below-member count n f) (count == n) refl
+    (sym (any-append n (numbers_below count) count) ∙ e) where
+      by_case : (a : Bool) → (a ≡ true → n < count) → (b : Bool) → (count == n) ≡ b → (a || b) ≡ true → n < suc count
+      by_case true more b same e = let lt = more refl in omega (arith, lt)
+      by_case false more true same e = let is = eqb-true count n same in omega (arith, is)
+      by_case false more false same e = absurd (true≢false (sym e))
 
 -- where the header names no network, who is on that of all nodes is a node
 pub member_alone : (count n k : ℕ) → has_member n (slice_index_or (networks_among count []) k []) ≡ true → n < count

@@ -4,7 +4,8 @@ use Rattle.tsp_run.specs.{Run.told_from, declared.line.Line.Line}
 use Rattle.tsp_networks.specs.Sheets.{placed_in}
 
 -- at the end all are told
-pub told_all : (event node x next i : ℕ) (lines : List Line) → length lines ≤ i → take i lines ++ told_from event node x next (map placed_in (drop i lines)) ≡ lines
+pub told_all : (event node x next i : ℕ) (lines : List Line) → length lines ≤ i → take i lines ++ told_from event node x next (map placed_in (drop i lines)) ≡
+    lines
 told_all event node x next i [] h = ends i where
   ends : (i : ℕ) → take i [] ++ told_from event node x next (map placed_in (drop i [])) ≡ []
   ends zero = refl

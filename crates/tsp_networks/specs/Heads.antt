@@ -14,9 +14,19 @@ own_name_in (Stamp s) = []
 
 -- the stored datagram, whose name is among these octets
 abbrev pub datagram_in : List ℕ → StoredDatagram → Datagram
-datagram_in names (HeldMessage port to_peer kind number len start body) = Message (record { kind = kind; number = number; body = body; name = slice_range names start (start + len) })
+datagram_in names (HeldMessage port to_peer kind number len start body) = Message (record {
+  kind = kind;
+  number = number;
+  body = body;
+  name = slice_range names start (start + len);
+})
 datagram_in names (HeldRequest port to_peer word counter) = Stamp (Request word counter)
-datagram_in names (HeldReply port to_peer ticket word counter reading) = Stamp (Reply (record { ticket = ticket; word = word; counter = counter; reading = reading }))
+datagram_in names (HeldReply port to_peer ticket word counter reading) = Stamp (Reply (record {
+  ticket = ticket;
+  word = word;
+  counter = counter;
+  reading = reading;
+}))
 
 -- whether a place is a peer
 abbrev pub is_peer : Place → Bool

@@ -1,5 +1,6 @@
 -- How a port's alarms meet their rows.
-use Rattle.std.proofs.Common.{sym, ◌∙◌, ap, ◌≡◌, ◌≢◌, ℕ, Bool, true, false, List, [], ◌∷◌, refl, ◌+◌, ◌<◌, ◌++◌, zero, suc, length, take, Some, arith, append-nil, subst, ◌&&◌, ◌||◌, if◌then◌else◌, is_some, not, slice_index_or}
+use Rattle.std.proofs.Common.{sym, ◌∙◌, ap, ◌≡◌, ◌≢◌, ℕ, Bool, true, false, List, [], ◌∷◌, refl, ◌+◌, ◌<◌, ◌++◌, zero, suc, length, take, Some, arith}
+use Rattle.std.proofs.Common.{append-nil, subst, ◌&&◌, ◌||◌, if◌then◌else◌, is_some, not, slice_index_or}
 use Rattle.std.proofs.{lemmas.Bool.false≢true, lemmas.Bool.and_parts, Math.Seq.take-suc}
 use Rattle.tsp_rules.specs.Values.{Ring, Late, Placed, Alarm, Quiet, Window, Elect, Search, Round, Probe, CloseAlarm, ResolveAlarm, Port, ROUND, WAIT, ALL}
 use Rattle.tsp_rules.specs.Answers.{alarm_rings, rings, due_alarms, rings_alone, rings_each}
@@ -62,12 +63,14 @@ a-probe Probe e = refl
 a-probe _ e = absurd (false≢true e)
 
 -- what comes right before a Close of these alarms
-close-after : (alarms : List Alarm) (i : ℕ) (probed : Bool) → are_probed probed alarms ≡ true → slice_index_or alarms (suc i) Quiet ≡ CloseAlarm → slice_index_or alarms i Quiet ≡ Probe
+close-after : (alarms : List Alarm) (i : ℕ) (probed : Bool) → are_probed probed alarms ≡ true → slice_index_or alarms (suc i) Quiet ≡ CloseAlarm →
+    slice_index_or alarms i Quiet ≡ Probe
 close-after [] i probed e is = let bad : ⊥ = cc in absurd bad
 close-after (a ∷ []) zero probed e is = let bad : ⊥ = cc in absurd bad
 close-after (a ∷ b ∷ rest) zero probed e is =
     let later = (and_parts (not (moves_by a) || probed) (are_probed (is_probe a) (b ∷ rest)) e).1 in
-    a-probe a (and_parts (is_probe a) (are_probed (is_probe b) rest) (subst (λ z. ((not (moves_by z) || is_probe a) && are_probed (is_probe b) rest) ≡ true) is later)).0
+    a-probe a (and_parts (is_probe a) (are_probed (is_probe b) rest) (subst (λ z. ((not (moves_by z) || is_probe a) && are_probed (is_probe b) rest) ≡
+    true) is later)).0
 close-after (a ∷ rest) (suc i) probed e is = close-after rest i (is_probe a) (and_parts (not (moves_by a) || probed) (are_probed (is_probe a) rest) e).1 is
 
 -- the Close comes right after the Probe
@@ -75,7 +78,8 @@ pub close_after_probe : (i : ℕ) → slice_index_or ALL (i + 1) Quiet ≡ Close
 close_after_probe i e = let one : i + 1 ≡ suc i = omega arith in close-after ALL i false refl (ap (λ k. slice_index_or ALL k Quiet) (sym one) ∙ e)
 
 -- whether an alarm is due, as the station has it
-due_is : (alarm : Alarm) (x : ℕ) (past : Past) (state : PortValue) → PortUntaken past state → is_due alarm x past ≡ is_over (deadline state.station.alarms alarm) x
+due_is : (alarm : Alarm) (x : ℕ) (past : Past) (state : PortValue) → PortUntaken past state → is_due alarm x past ≡
+    is_over (deadline state.station.alarms alarm) x
 due_is alarm x past state h = ap (λ ds. is_over (deadline ds alarm) x) (sym h.stands.station.alarms)
 
 -- one that isn't due does nothing
@@ -88,23 +92,31 @@ now_due : (own wait : Bool) (alarm : Alarm) (x : ℕ) (past : Past) → is_due a
 unfolding rings either_by
 now_due own wait alarm x past d = rw d refl
 
-pub Performs_not_due : {x : ℕ} {port : Port} {old : List Placed} (own wait : Bool) (alarm : Alarm) (before : PortValue) → is_over (deadline before.station.alarms alarm) x ≡ false → Performs PortUntaken PortUntaken (rings own wait alarm) x port before before old old
-Performs_not_due {x = x} own wait alarm before e = Performs_same (rings own wait alarm) (λ past h. sym (not_due own wait alarm x past (due_is alarm x past before h ∙ e))) Performs_nothing
+pub Performs_not_due : {x : ℕ} {port : Port} {old : List Placed} (own wait : Bool) (alarm : Alarm) (before : PortValue) →
+    is_over (deadline before.station.alarms alarm) x ≡ false → Performs PortUntaken PortUntaken (rings own wait alarm) x port before before old old
+Performs_not_due {x = x} own wait alarm before e = Performs_same (rings own wait alarm)
+    (λ past h. sym (not_due own wait alarm x past (due_is alarm x past before h ∙ e))) Performs_nothing
 
-pub corrects_not_due : (x : ℕ) (own wait : Bool) (alarm : Alarm) (before : PortValue) → is_over (deadline before.station.alarms alarm) x ≡ false → (past : Past) → PortUntaken past before → false ≡ corrects (rings own wait alarm x past)
+pub corrects_not_due : (x : ℕ) (own wait : Bool) (alarm : Alarm) (before : PortValue) → is_over (deadline before.station.alarms alarm) x ≡ false →
+    (past : Past) → PortUntaken past before → false ≡ corrects (rings own wait alarm x past)
 unfolding nothing
 corrects_not_due x own wait alarm before e past h = ap corrects (sym (not_due own wait alarm x past (due_is alarm x past before h ∙ e)))
 
-pub Performs_now_due : {x : ℕ} {port : Port} {after : PortValue} {old new : List Placed} (own wait : Bool) (alarm : Alarm) (before : PortValue) → is_over (deadline before.station.alarms alarm) x ≡ true →
-    Performs PortUntaken PortUntaken (alarm_rings own wait alarm) x port before after old new → Performs PortUntaken PortUntaken (rings own wait alarm) x port before after old new
-Performs_now_due {x = x} own wait alarm before e d = Performs_same (rings own wait alarm) (λ past h. sym (now_due own wait alarm x past (due_is alarm x past before h ∙ e))) d
+pub Performs_now_due : {x : ℕ} {port : Port} {after : PortValue} {old new : List Placed} (own wait : Bool) (alarm : Alarm) (before : PortValue) →
+    is_over (deadline before.station.alarms alarm) x ≡ true →
+    Performs PortUntaken PortUntaken (alarm_rings own wait alarm) x port before after old new →
+    Performs PortUntaken PortUntaken (rings own wait alarm) x port before after old new
+Performs_now_due {x = x} own wait alarm before e d = Performs_same (rings own wait alarm)
+    (λ past h. sym (now_due own wait alarm x past (due_is alarm x past before h ∙ e))) d
 
 pub corrects_now_due : (x : ℕ) (own wait : Bool) (alarm : Alarm) (before : PortValue) → is_over (deadline before.station.alarms alarm) x ≡ true → (b : Bool) →
-    ((past : Past) → PortUntaken past before → b ≡ corrects (alarm_rings own wait alarm x past)) → (past : Past) → PortUntaken past before → b ≡ corrects (rings own wait alarm x past)
+    ((past : Past) → PortUntaken past before → b ≡ corrects (alarm_rings own wait alarm x past)) → (past : Past) → PortUntaken past before → b ≡
+    corrects (rings own wait alarm x past)
 corrects_now_due x own wait alarm before e b k past h = k past h ∙ ap corrects (sym (now_due own wait alarm x past (due_is alarm x past before h ∙ e)))
 
 -- an alarm that is no candidate's and no master's
-pub of_slave : (wait : Bool) (alarm : Alarm) → is_of_master wait alarm ≡ false → alarm ≢ Round → alarm ≢ Window → alarm ≢ ResolveAlarm → is_of_slave alarm ≡ true
+pub of_slave : (wait : Bool) (alarm : Alarm) → is_of_master wait alarm ≡ false → alarm ≢ Round → alarm ≢ Window → alarm ≢ ResolveAlarm → is_of_slave alarm ≡
+    true
 of_slave wait Window e r w s = absurd (w refl)
 of_slave wait Probe e r w s = absurd (false≢true (sym e))
 of_slave wait CloseAlarm e r w s = absurd (false≢true (sym e))
@@ -151,7 +163,8 @@ beside_alarm own wait alarm e = Emits_more standing_sorts refl (slave_alarm own 
 
 -- the alarms of a port that is Starting, Loose or follows correct no clock, nor does a candidate's, nor a round that waits
 corrects_alarm : (own wait : Bool) (alarm : Alarm) → is_of_slave alarm ≡ true → (x : ℕ) (past : Past) → false ≡ corrects (alarm_rings own wait alarm x past)
-corrects_alarm own wait alarm e x past = sym (corrects-none (alarm_rings own wait alarm x past) ((Emits_more standing_sorts {all = still_sorts} refl (slave_alarm own wait alarm e)).only x past))
+corrects_alarm own wait alarm e x past = sym (corrects-none (alarm_rings own wait alarm x past)
+    ((Emits_more standing_sorts {all = still_sorts} refl (slave_alarm own wait alarm e)).only x past))
 
 pub beside_window : Emits beside_sorts window_rings
 beside_window = emits_built refl (built_window_rings tt)
@@ -161,7 +174,8 @@ corrects_window x past = sym (corrects-none (window_rings x past) ((emits_built 
 
 pub emits_wait : Emits (Alarming ∷ []) (round_rings true)
 unfolding round_rings begins_or_waits
-emits_wait = Emits_either (is_in_time Round) _ _ (Emits_then (puts (Ring Round)) (arms Round WAIT) (Emits_puts (Ring Round) refl) (Emits_arms Round WAIT refl)) (Emits_then (puts (Late Round)) (arms Round ROUND) (Emits_puts (Late Round) refl) (Emits_arms Round ROUND refl))
+emits_wait = Emits_either (is_in_time Round) _ _ (Emits_then (puts (Ring Round)) (arms Round WAIT) (Emits_puts (Ring Round) refl) (Emits_arms Round WAIT refl))
+    (Emits_then (puts (Late Round)) (arms Round ROUND) (Emits_puts (Late Round) refl) (Emits_arms Round ROUND refl))
 
 corrects_wait : (x : ℕ) (past : Past) → false ≡ corrects (round_rings true x past)
 corrects_wait x past = sym (corrects-none (round_rings true x past) ((Emits_more (Alarming ∷ []) {all = still_sorts} refl emits_wait).only x past))
@@ -170,7 +184,8 @@ corrects_resolve : (x : ℕ) (past : Past) → false ≡ corrects (resolve_rings
 corrects_resolve x past = sym (corrects-none (resolve_rings x past) ((emits_built {all = still_sorts} refl built_resolve_rings).only x past))
 
 -- an alarm that isn't its master's corrects no clock
-pub corrects_beside : (own wait : Bool) (alarm : Alarm) → is_of_master wait alarm ≡ false → (x : ℕ) (past : Past) → false ≡ corrects (alarm_rings own wait alarm x past)
+pub corrects_beside : (own wait : Bool) (alarm : Alarm) → is_of_master wait alarm ≡ false → (x : ℕ) (past : Past) → false ≡
+    corrects (alarm_rings own wait alarm x past)
 unfolding alarm_rings
 corrects_beside own wait Window e x past = corrects_window x past
 corrects_beside own wait Probe e x past = absurd (false≢true (sym e))

@@ -9,7 +9,8 @@ use Rattle.tsp_sends.specs.{Repeating.IsEarliest, Slots.sending_to}
 use Rattle.tsp_acks.specs.{Stands.StationStands, declared.station.Station.Station}
 
 -- the earliest deadline in a station's slots is that of its past
-pub IsEarliest-open : (past : Past) (station : Station) (o : Option ℕ) → StationStands past station → IsEarliest (sending_to station.sends) o → IsEarliest (λ p. open_send p past.seen) o
+pub IsEarliest-open : (past : Past) (station : Station) (o : Option ℕ) → StationStands past station → IsEarliest (sending_to station.sends) o →
+    IsEarliest (λ p. open_send p past.seen) o
 IsEarliest-open past station None s e = λ p. sym (s.sends p) ∙ e p
 IsEarliest-open past station (Some t) s e = record {
   of = (e.of.0, e.of.1, sym (s.sends e.of.0) ∙ e.of.2, e.of.3);
@@ -55,5 +56,6 @@ pub rests-not : (d : Deadlines) (sends : Option ℕ) (x : ℕ) → is_over (leas
 rests-not d sends x e = rw (over-earlier (least_deadline d) sends x, e) refl
 
 -- where none is, it is the sends'
-pub rests-sends : (d : Deadlines) (sends : Option ℕ) (x : ℕ) → is_over (least_deadline d) x ≡ false → not (is_over sends x) ≡ not (is_over (earlier (least_deadline d) sends) x)
+pub rests-sends : (d : Deadlines) (sends : Option ℕ) (x : ℕ) → is_over (least_deadline d) x ≡ false → not (is_over sends x) ≡
+    not (is_over (earlier (least_deadline d) sends) x)
 rests-sends d sends x e = rw (over-earlier (least_deadline d) sends x, e) refl

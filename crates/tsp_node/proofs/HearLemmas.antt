@@ -1,7 +1,10 @@
 -- What a port does with a message.
-use Rattle.std.proofs.Common.{◌∙◌, ap, subst, sym, ◌≡◌, ◌≢◌, ℕ, ◌==◌, ◌&&◌, not, Bool, true, false, if◌then◌else◌, List, [], ◌∷◌, ◌++◌, Option, None, Some, refl}
+use Rattle.std.proofs.Common.{◌∙◌, ap, subst, sym, ◌≡◌, ◌≢◌, ℕ, ◌==◌, ◌&&◌, not, Bool, true, false, if◌then◌else◌, List, [], ◌∷◌, ◌++◌, Option, None, Some}
+use Rattle.std.proofs.Common.{refl}
 use Rattle.std.{proofs.lemmas.Bool.false≢true, proofs.lemmas.Bool.and_right, specs.List.Contains}
-use Rattle.tsp_rules.specs.Values.{Backer, Acked, Placed, Kind, Accept, Ack, AdjTime, Conflict, Date, DateAck, DateReq, Election, LoopKind, MasterAck, MasterUp, Msite, MsiteReq, QuitKind, Refuse, SetDate, SetDateReq, SetTime, Test, TraceOff, TraceOn, PeerId, Place, Peer, Stranger, Port, Role, Starting, Candidate, Master}
+use Rattle.tsp_rules.specs.Values.{Backer, Acked, Placed, Kind, Accept, Ack, AdjTime, Conflict, Date, DateAck, DateReq, Election, LoopKind, MasterAck, MasterUp}
+use Rattle.tsp_rules.specs.Values.{Msite, MsiteReq, QuitKind, Refuse, SetDate, SetDateReq, SetTime, Test, TraceOff, TraceOn, PeerId, Place, Peer, Stranger}
+use Rattle.tsp_rules.specs.Values.{Port, Role, Starting, Candidate, Master}
 use Rattle.tsp_rules.specs.Answers.{from_peer, is_left, peer_says, replies_in, says_in, handles_kind}
 use Rattle.tsp_rules.specs.CommonRows.{names_master, quits, says_master, tests, traces}
 use Rattle.tsp_rules.specs.{MasterRows.master_takes, MasterRows.master_takes_kind, SlaveRows.slave_takes, SlaveRows.slave_takes_kind}
@@ -10,7 +13,8 @@ use Rattle.tsp_rules.specs.CandidateRows.{accepted_by, candidate_takes, candidat
 use Rattle.tsp_rules.specs.SendRows.{acknowledges, answers_election, has_election, is_kind_election}
 use Rattle.tsp_rules.specs.Guards.{is_follow, is_heard, is_master, is_starting_role, role_at}
 use Rattle.tsp_rules.proofs.{BuiltRoles.built_candidate_takes_kind, BuiltRoles.built_yields, EmitsBuilt.emits_built}
-use Rattle.tsp_base.specs.Words.{Past, MessageValue, is_among, Performs, Received, role, Row, either_by, grown, nothing, placed, posts, puts, reading, ◌followed_by◌, Sending, corrects_in, is_correction, is_date_request, open_send, ReplyValue}
+use Rattle.tsp_base.specs.Words.{Past, MessageValue, is_among, Performs, Received, role, Row, either_by, grown, nothing, placed, posts, puts, reading}
+use Rattle.tsp_base.specs.Words.{◌followed_by◌, Sending, corrects_in, is_correction, is_date_request, open_send, ReplyValue}
 use Rattle.tsp_base.proofs.PerformsLemmas.{Performs_else_part, Performs_reading, Performs_then_part}
 use Rattle.tsp_acks.{proofs.PeerLemmas.Contains-among, specs.Stands.StationStands, specs.declared.station.Station.Station}
 use Rattle.tsp_master.specs.MasterStands.{MasterStands}
@@ -29,20 +33,25 @@ abbrev pub leaves_by : Bool → Kind → Role → Bool
 leaves_by steer kind r = not steer && (is_correction kind && is_follow r)
 
 -- the row's tests, as the station has them
-is_left-at : (steer : Bool) (kind : Kind) (x : ℕ) (past : Past) (station : Station) → StationStands past station → is_left steer kind x past ≡ leaves_by steer kind station.role
+is_left-at : (steer : Bool) (kind : Kind) (x : ℕ) (past : Past) (station : Station) → StationStands past station → is_left steer kind x past ≡
+    leaves_by steer kind station.role
 is_left-at steer kind x past station s = ap (leaves_by steer kind) (sym s.role)
 
 is_heard-at : (p : PeerId) (x : ℕ) (past : Past) (station : Station) → StationStands past station → is_heard p x past ≡ hears_by station p
 is_heard-at p x past station s = rw (s.peers, s.role) refl
 
 -- a correction that is left is passed over
-pub Performs_left : {r : Received} {x : ℕ} {port : Port} {state : PortValue} {old : List Placed} (steer : Bool) (k : Kind) (row : Row) → leaves_by steer k state.station.role ≡ true → Performs (PortTook r) PortStands (either_by (is_left steer k) nothing row) x port state state old old
-Performs_left {x = x} {state = state} steer k row e = Performs_then_part (is_left steer k) row (λ past h. is_left-at steer k x past state.station h.stands.station ∙ e) Performs_pass
+pub Performs_left : {r : Received} {x : ℕ} {port : Port} {state : PortValue} {old : List Placed} (steer : Bool) (k : Kind) (row : Row) →
+    leaves_by steer k state.station.role ≡ true → Performs (PortTook r) PortStands (either_by (is_left steer k) nothing row) x port state state old old
+Performs_left {x = x} {state = state} steer k row e = Performs_then_part (is_left steer k) row (λ past h. is_left-at steer k x past state.station
+    h.stands.station ∙ e) Performs_pass
 
 -- what isn't left is handled
-pub Performs_kept : {r : Received} {x : ℕ} {port : Port} {before after : PortValue} {old new : List Placed} (steer : Bool) (k : Kind) {row : Row} → leaves_by steer k before.station.role ≡ false → Performs (PortTook r) PortStands row x port before after old new →
+pub Performs_kept : {r : Received} {x : ℕ} {port : Port} {before after : PortValue} {old new : List Placed} (steer : Bool) (k : Kind) {row : Row} →
+    leaves_by steer k before.station.role ≡ false → Performs (PortTook r) PortStands row x port before after old new →
     Performs (PortTook r) PortStands (either_by (is_left steer k) nothing row) x port before after old new
-Performs_kept {x = x} {before = before} steer k e d = Performs_else_part (is_left steer k) nothing (λ past h. is_left-at steer k x past before.station h.stands.station ∙ e) d
+Performs_kept {x = x} {before = before} steer k e d = Performs_else_part (is_left steer k) nothing (λ past h. is_left-at steer k x past before.station
+    h.stands.station ∙ e) d
 
 -- only a follower leaves anything
 pub leaves_none : (steer : Bool) (k : Kind) (r : Role) → is_follow r ≡ false → leaves_by steer k r ≡ false
@@ -59,17 +68,23 @@ never_left : (steer : Bool) (k : Kind) (x : ℕ) (past : Past) → is_correction
 never_left true k x past e = refl
 never_left false k x past e = rw e refl
 
-pub Performs_never_left : {S T : Type 0} {p : Past → S → Type 0} {q : Past → T → Type 0} {x : ℕ} {port : Port} {before : S} {after : T} {old new : List Placed} (steer : Bool) (k : Kind) {row : Row} → is_correction k ≡ false → Performs p q row x port before after old new →
+pub Performs_never_left : {S T : Type 0} {p : Past → S → Type 0} {q : Past → T → Type 0} {x : ℕ} {port : Port} {before : S} {after : T} {old new : List Placed}
+    (steer : Bool) (k : Kind) {row : Row} → is_correction k ≡ false → Performs p q row x port before after old new →
     Performs p q (either_by (is_left steer k) nothing row) x port before after old new
 Performs_never_left {x = x} steer k e d = Performs_else_part (is_left steer k) nothing (λ past h. never_left steer k x past e) d
 
 -- nothing is done in either case
-pub Performs_either_way : {S T : Type 0} {p : Past → S → Type 0} {q : Past → T → Type 0} {x : ℕ} {port : Port} {before : S} {after : T} {old new : List Placed} (test : ℕ → Past → Bool) (r s : Row) → Performs p q r x port before after old new → Performs p q s x port before after old new →
+pub Performs_either_way : {S T : Type 0} {p : Past → S → Type 0} {q : Past → T → Type 0} {x : ℕ} {port : Port} {before : S} {after : T} {old new : List Placed}
+    (test : ℕ → Past → Bool) (r s : Row) → Performs p q r x port before after old new → Performs p q s x port before after old new →
     Performs p q (either_by test r s) x port before after old new
 unfolding either_by
 Performs_either_way {q = q} {x = x} {port = port} {after = after} {old = old} {new = new} test r s d e = record {
   acts = λ past h. elim (test x past) as (λ b. new ≡ old ++ placed port (if b then r x past else s x past)) [ true ↦ d.acts past h | false ↦ e.acts past h ];
-  stands = λ past h. elim (test x past) as (λ b. q (grown x past (if b then r x past else s x past)) after) [ true ↦ d.stands past h | false ↦ e.stands past h ];
+  stands = λ past h. elim (test x past) as (λ b. q (grown x past (if b then r x past else s x past)) after) [
+    | true ↦ d.stands past h
+    | false ↦
+        e.stands past h
+  ];
 }
 
 -- whom a port heeds, by who sent it
@@ -89,9 +104,11 @@ not_heard station p e = by_test (hears_by station p) refl e where
   by_test true h e = let bad : ⊥ = cc in absurd bad
   by_test false h e = h
 
-pub Performs_unheard : {r : Received} {x : ℕ} {port : Port} {state : PortValue} {old : List Placed} (from : Place) (row : PeerId → Row) → heard_from state.station from ≡ None → Performs (PortTook r) PortStands (from_peer from row) x port state state old old
+pub Performs_unheard : {r : Received} {x : ℕ} {port : Port} {state : PortValue} {old : List Placed} (from : Place) (row : PeerId → Row) →
+    heard_from state.station from ≡ None → Performs (PortTook r) PortStands (from_peer from row) x port state state old old
 unfolding from_peer
-Performs_unheard {x = x} {state = state} (Peer p) row e = Performs_else_part (is_heard p) (row p) (λ past h. is_heard-at p x past state.station h.stands.station ∙ not_heard state.station p e) Performs_pass
+Performs_unheard {x = x} {state = state} (Peer p) row e = Performs_else_part (is_heard p) (row p) (λ past h. is_heard-at p x past state.station h.stands.station
+    ∙ not_heard state.station p e) Performs_pass
 Performs_unheard Stranger row e = Performs_pass
 
 -- who is heard is handled
@@ -109,18 +126,22 @@ is_hearing station (Peer q) p e = by_test (hears_by station q) refl e where
   by_test false h e = let bad : ⊥ = cc in absurd bad
 is_hearing station Stranger p e = let bad : ⊥ = cc in absurd bad
 
-pub Performs_heard_at : {r : Received} {x : ℕ} {port : Port} {before after : PortValue} {old new : List Placed} (p : PeerId) (row : PeerId → Row) → hears_by before.station p ≡ true →
+pub Performs_heard_at : {r : Received} {x : ℕ} {port : Port} {before after : PortValue} {old new : List Placed} (p : PeerId) (row : PeerId → Row) →
+    hears_by before.station p ≡ true →
     Performs (PortTook r) PortStands (row p) x port before after old new → Performs (PortTook r) PortStands (from_peer (Peer p) row) x port before after old new
 unfolding from_peer
-Performs_heard_at {x = x} {before = before} p row e d = Performs_then_part (is_heard p) nothing (λ past h. is_heard-at p x past before.station h.stands.station ∙ e) d
+Performs_heard_at {x = x} {before = before} p row e d = Performs_then_part (is_heard p) nothing (λ past h. is_heard-at p x past before.station h.stands.station
+    ∙ e) d
 
-pub Performs_heard_by : {r : Received} {x : ℕ} {port : Port} {before after : PortValue} {old new : List Placed} (from : Place) (p : PeerId) (row : PeerId → Row) → heard_from before.station from ≡ Some p →
+pub Performs_heard_by : {r : Received} {x : ℕ} {port : Port} {before after : PortValue} {old new : List Placed} (from : Place) (p : PeerId) (row : PeerId →
+    Row) → heard_from before.station from ≡ Some p →
     Performs (PortTook r) PortStands (row p) x port before after old new → Performs (PortTook r) PortStands (from_peer from row) x port before after old new
 Performs_heard_by {before = before} from p row e d = rw (is_from before.station from p e) (Performs_heard_at p row (is_hearing before.station from p e) d)
 
 -- by the role that the port has
 pub Performs_by_role : {r : Received} {x : ℕ} {port : Port} {before after : PortValue} {old new : List Placed} (rows : Role → Row) →
-    Performs (PortTook r) PortStands (rows before.station.role) x port before after old new → Performs (PortTook r) PortStands (reading role_at rows) x port before after old new
+    Performs (PortTook r) PortStands (rows before.station.role) x port before after old new →
+    Performs (PortTook r) PortStands (reading role_at rows) x port before after old new
 Performs_by_role {before = before} rows d = Performs_reading role_at rows before.station.role (λ past k. sym k.stands.station.role) d
 
 -- an ACK is handled alike by every role that hears
@@ -138,7 +159,8 @@ says_slave p m Master s c l = absurd (l refl)
 says_slave p m _ s c l = refl
 
 -- a master's rows that are its own
-pub master_takes-other : (p : PeerId) (m : MessageValue) (k : Kind) → k ≢ Ack → k ≢ QuitKind → k ≢ MasterUp → k ≢ Conflict → k ≢ MasterAck → master_takes_kind p m k ≡ master_takes_kind_here p m k
+pub master_takes-other : (p : PeerId) (m : MessageValue) (k : Kind) → k ≢ Ack → k ≢ QuitKind → k ≢ MasterUp → k ≢ Conflict → k ≢ MasterAck →
+    master_takes_kind p m k ≡ master_takes_kind_here p m k
 unfolding master_takes_kind master_takes_kind_here
 master_takes-other p m Ack a q u c t = absurd (a refl)
 master_takes-other p m QuitKind a q u c t = absurd (q refl)
@@ -173,23 +195,28 @@ not-correcting number (Some s) e = by_kind s.message.kind e where
   by_kind _ e = absurd (false≢true e)
 
 -- answers to a candidate leave a master alone that doesn't lead
-pub accepted_keeps : (p : PeerId) (number x : ℕ) (past : Past) (m : MasterValue) → MasterStands past m → MasterStands (grown x past (accepted_by p number x past)) m
+pub accepted_keeps : (p : PeerId) (number x : ℕ) (past : Past) (m : MasterValue) → MasterStands past m →
+    MasterStands (grown x past (accepted_by p number x past)) m
 unfolding accepted_by either_by puts nothing ◌followed_by◌
 accepted_keeps p number x past m h = by_test (has_election p number x past) refl where
   by_test : (b : Bool) → has_election p number x past ≡ b → MasterStands (grown x past (if b then Acked p ∷ Backer p ∷ [] else [])) m
-  by_test true e = MasterStands_quiet (Backer p) refl x (grown x past (Acked p ∷ [])) m (MasterStands_unheld p x past m (not-correcting number (open_send p past.seen) e) h)
+  by_test true e = MasterStands_quiet (Backer p) refl x (grown x past (Acked p ∷ [])) m
+      (MasterStands_unheld p x past m (not-correcting number (open_send p past.seen) e) h)
   by_test false e = h
 
-pub refused_keeps : (p : PeerId) (number x : ℕ) (past : Past) (m : MasterValue) → role past.seen ≢ Master → MasterStands past m → MasterStands (grown x past (refused_by p number x past)) m
+pub refused_keeps : (p : PeerId) (number x : ℕ) (past : Past) (m : MasterValue) → role past.seen ≢ Master → MasterStands past m →
+    MasterStands (grown x past (refused_by p number x past)) m
 unfolding refused_by either_by puts nothing ◌followed_by◌
 refused_keeps p number x past m other h = by_test (has_election p number x past) refl where
   by_test : (b : Bool) → has_election p number x past ≡ b → MasterStands (grown x past (if b then Acked p ∷ yields x (grown x past (Acked p ∷ [])) else [])) m
   by_test true e =
-      MasterStands_idle yields (emits_built refl built_yields) x (grown x past (Acked p ∷ [])) m other (MasterStands_unheld p x past m (not-correcting number (open_send p past.seen) e) h)
+      MasterStands_idle yields (emits_built refl built_yields) x (grown x past (Acked p ∷ [])) m other
+      (MasterStands_unheld p x past m (not-correcting number (open_send p past.seen) e) h)
   by_test false e = h
 
 -- what a candidate does leaves a master alone that doesn't lead
-pub candidate_keeps : (p : PeerId) (m : MessageValue) → m.kind ≢ Ack → (x : ℕ) (past : Past) (master : MasterValue) → role past.seen ≢ Master → MasterStands past master → MasterStands (grown x past (candidate_takes p m x past)) master
+pub candidate_keeps : (p : PeerId) (m : MessageValue) → m.kind ≢ Ack → (x : ℕ) (past : Past) (master : MasterValue) → role past.seen ≢ Master →
+    MasterStands past master → MasterStands (grown x past (candidate_takes p m x past)) master
 unfolding candidate_takes candidate_takes_kind
 candidate_keeps p m n x past master other h = by_kind m.kind n where
   by_kind : (k : Kind) → k ≢ Ack → MasterStands (grown x past (candidate_takes_kind p m k x past)) master
@@ -210,7 +237,8 @@ replies_none p reply Master e = absurd (false≢true (sym e))
 replies_none p reply _ e = refl
 
 -- what a role does, as the one that the port has
-pub Performs_role : {t : Received} {x : ℕ} {port : Port} {before after : PortValue} {old new : List Placed} (p : PeerId) (m : MessageValue) (is r : Role) → is ≡ r → Performs (PortTook t) PortStands (says_in p m r) x port before after old new →
+pub Performs_role : {t : Received} {x : ℕ} {port : Port} {before after : PortValue} {old new : List Placed} (p : PeerId) (m : MessageValue) (is r : Role) → is ≡
+    r → Performs (PortTook t) PortStands (says_in p m r) x port before after old new →
     Performs (PortTook t) PortStands (says_in p m is) x port before after old new
 Performs_role p m is r e d = rw e d
 
@@ -240,7 +268,8 @@ handled charge from m _ = refl
 pub audience_node : (charge : Bool) (from : Place) (m : MessageValue) (k : Kind) → audience_of k ≡ OfNode → handles_kind charge from m k ≡ nothing
 audience_node charge from m k e = subst (λ a. Handled a charge from m k) e (handled charge from m k)
 
-pub audience_roles : (charge : Bool) (from : Place) (m : MessageValue) (k : Kind) → audience_of k ≡ OfRoles → handles_kind charge from m k ≡ from_peer from (peer_says m)
+pub audience_roles : (charge : Bool) (from : Place) (m : MessageValue) (k : Kind) → audience_of k ≡ OfRoles → handles_kind charge from m k ≡
+    from_peer from (peer_says m)
 audience_roles charge from m k e = subst (λ a. Handled a charge from m k) e (handled charge from m k)
 
 -- what is known of a kind, by who handles it

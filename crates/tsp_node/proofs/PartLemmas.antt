@@ -7,7 +7,8 @@ use Rattle.tsp_resolve.specs.declared.resolve.Resolve.{Resolve}
 use Rattle.tsp_node.specs.declared.part.Part.{Part}
 
 -- the station, the slaves, the rivals and the dates still have the same peers
-pub still_alike : (part : Part) {slaves dates peers : List PeerId} {marks : ℕ} → slaves ≡ peers_of part.master.slaves → marks ≡ length part.resolve.marks → dates ≡ dated_of part.dates.dated → peers ≡ part.station.peers →
+pub still_alike : (part : Part) {slaves dates peers : List PeerId} {marks : ℕ} → slaves ≡ peers_of part.master.slaves → marks ≡ length part.resolve.marks →
+    dates ≡ dated_of part.dates.dated → peers ≡ part.station.peers →
     record { same : slaves ≡ peers; marks : marks ≡ length peers; dated : dates ≡ peers }
 still_alike part s m d p = record { same = s ∙ part.same ∙ sym p; marks = m ∙ part.marks ∙ ap length (sym p); dated = d ∙ part.dated ∙ sym p }
 

@@ -23,7 +23,8 @@ window_changes x past = by_time (is_in_time Window x past) where
   won true = refl
   won false = refl
 
-  by_time : (b : Bool) → changes (if b then (puts (Ring Window) followed_by either_by has_won lead_row yields) x past else (puts (Late Window) followed_by yields) x past) ≡ true
+  by_time : (b : Bool) → changes (if b then (puts (Ring Window) followed_by either_by has_won lead_row yields) x past else
+      (puts (Late Window) followed_by yields) x past) ≡ true
   by_time true = won (has_won x after)
   by_time false = refl
 
@@ -37,7 +38,8 @@ not-master Master e = absurd (true≢false e)
 not-master _ e = λ f. let bad : ⊥ = cc in bad
 
 -- the rivals are forgotten where a port led and leads no more
-pub ResolveStands_parted : (row : Row) → Emits role_sorts row → (x : ℕ) (past : Past) (old new : Resolve) (before after : Role) → role past.seen ≡ before → role (grown x past (row x past)).seen ≡ after →
+pub ResolveStands_parted : (row : Row) → Emits role_sorts row → (x : ℕ) (past : Past) (old new : Resolve) (before after : Role) → role past.seen ≡ before →
+    role (grown x past (row x past)).seen ≡ after →
     Unmarks (is_master before && not (is_master after)) old new → ResolveStands past old → ResolveStands (grown x past (row x past)) new
 ResolveStands_parted row e x past old new before after was is unmarks h = by_roles (is_master before) (is_master after) refl refl unmarks where
   acts : List Act
@@ -55,7 +57,8 @@ ResolveStands_parted row e x past old new before after was is unmarks h = by_rol
   by_roles false a f g c = rw c (ResolveStands_idle x past acts old all (λ r. not-master before f (sym was ∙ r)) h)
 
 -- a correction on another port
-pub ResolveStands_elsewhere : (did : Did) (past : Past) (r : Resolve) → ResolveStands past r → ResolveStands (record past { seen = Elsewhere did ∷ past.seen }) r
+pub ResolveStands_elsewhere : (did : Did) (past : Past) (r : Resolve) → ResolveStands past r →
+    ResolveStands (record past { seen = Elsewhere did ∷ past.seen }) r
 ResolveStands_elsewhere did past r h = record { many = h.many; rivals = h.rivals; empty = h.empty }
 
 -- it doesn't matter in which step a port is, and a step that begins changes nothing

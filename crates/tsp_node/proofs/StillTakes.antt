@@ -29,9 +29,18 @@ pub took_slave : (r : Received) (past : Past) (v : PortValue) → PortTook r pas
 took_slave r past v h = record { station = h.stands.station; last = h.stands.last; clock = h.stands.clock; took = refl }
 
 -- and its dates
-pub took_dates : (r : Received) (past : Past) (v : PortValue) → PortTook r past v → DateStands past (date_state v.dates v.master v.station v.last v.clock (taken past.seen))
-took_dates r past v h = record { dates = h.stands.dates; master = h.stands.master; station = h.stands.station; last = h.stands.last; clock = h.stands.clock; took = refl }
+pub took_dates : (r : Received) (past : Past) (v : PortValue) → PortTook r past v →
+    DateStands past (date_state v.dates v.master v.station v.last v.clock (taken past.seen))
+took_dates r past v h = record {
+  dates = h.stands.dates;
+  master = h.stands.master;
+  station = h.stands.station;
+  last = h.stands.last;
+  clock = h.stands.clock;
+  took = refl;
+}
 
 -- who sent the message that was taken
-pub took_of : (from : Place) (p : PeerId) (m : MessageValue) (past : Past) (v : PortValue) → from ≡ Peer p → PortTook (record { from = from; taken = Good (Message m) }) past v → IsMessageFrom p m (taken past.seen)
+pub took_of : (from : Place) (p : PeerId) (m : MessageValue) (past : Past) (v : PortValue) → from ≡ Peer p →
+    PortTook (record { from = from; taken = Good (Message m) }) past v → IsMessageFrom p m (taken past.seen)
 took_of from p m past v is h = h.took ∙ ap (λ f. Some (record { from = f; taken = Good (Message m) })) is

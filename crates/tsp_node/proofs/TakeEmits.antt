@@ -3,10 +3,12 @@ use Rattle.std.proofs.Common.{sym, ap, subst, ◌∙◌, ◌≡◌, ℕ, Bool, t
 use Rattle.tsp_rules.specs.Values.{Alarm, CloseAlarm, Taken, Kind, Ack, MasterReq, ResolveKind, SlaveUp, Election, MasterAck, PeerId, Place}
 use Rattle.tsp_rules.specs.Answers.{from_peer, handles_kind, peer_replies, peer_says, rings, takes}
 use Rattle.tsp_rules.{specs.CommonRows.replies, specs.Renames.Naming, proofs.RowCodes.ANumber, proofs.RowCodes.Owed, proofs.RowCodes.Posts}
-use Rattle.tsp_rules.proofs.Emits.{Sort, Acking, Alarming, Asking, Backing, Changing, Closing, Correcting, Counting, Following, Giving, Leading, Moving, Numbering, Passing, Posting, Rivalling, Rounding, Sampling, Tabling, Taking, Tracing, Emits, is_part}
+use Rattle.tsp_rules.proofs.Emits.{Sort, Acking, Alarming, Asking, Backing, Changing, Closing, Correcting, Counting, Following, Giving, Leading, Moving}
+use Rattle.tsp_rules.proofs.Emits.{Numbering, Passing, Posting, Rivalling, Rounding, Sampling, Tabling, Taking, Tracing, Emits, is_part}
 use Rattle.tsp_rules.proofs.{Unchanged.comes_unchanged, Unchanged.place_unchanged, BuiltRoles.built_joins, BuiltRoles.built_sends_away}
 use Rattle.tsp_rules.proofs.Built.{Built, At, Empty, More, Wider}
-use Rattle.tsp_rules.proofs.BuiltAnswers.{built_from_peer, built_handles_kind, built_peer_replies, built_peer_says, built_rings, built_takes, handled_sorts, ring_sorts, says_sorts, date_sorts}
+use Rattle.tsp_rules.proofs.BuiltAnswers.{built_from_peer, built_handles_kind, built_peer_replies, built_peer_says, built_rings, built_takes, handled_sorts}
+use Rattle.tsp_rules.proofs.BuiltAnswers.{ring_sorts, says_sorts, date_sorts}
 use Rattle.tsp_rules.proofs.{BuiltShared.built_replies, BuiltShared.client_sorts, EmitsBuilt.emits_built, EmitsBuilt.nothing_taken}
 use Rattle.tsp_base.specs.Words.{MessageValue, ReplyValue}
 use Rattle.tsp_master.specs.MasterTakes.{master_takes_here, master_takes_kind_here}
@@ -19,7 +21,8 @@ role_sorts = Numbering ∷ Moving ∷ Posting ∷ Following ∷ Changing ∷ Bac
 
 -- all sorts but Boot, Took and Trace
 abbrev pub silent_trace : List Sort
-silent_trace = Asking ∷ Correcting ∷ Passing ∷ Numbering ∷ Posting ∷ Leading ∷ Following ∷ Changing ∷ Backing ∷ Counting ∷ Rounding ∷ Alarming ∷ Tabling ∷ Rivalling ∷ Acking ∷ Giving ∷ Sampling ∷ Closing ∷ Moving ∷ []
+silent_trace = Asking ∷ Correcting ∷ Passing ∷ Numbering ∷ Posting ∷ Leading ∷ Following ∷ Changing ∷ Backing ∷ Counting ∷ Rounding ∷ Alarming ∷ Tabling ∷
+    Rivalling ∷ Acking ∷ Giving ∷ Sampling ∷ Closing ∷ Moving ∷ []
 
 -- all sorts but Boot
 abbrev pub bootless : List Sort
@@ -38,7 +41,8 @@ abbrev pub own_sorts : List Sort
 own_sorts = Posting ∷ Tabling ∷ Correcting ∷ Numbering ∷ []
 
 module _ {m : Naming} {o : Owed} where
-  built-here : (p : PeerId) (msg : MessageValue) (k : Kind) → m.known p → o.of (ANumber msg.number) → Built m o own_sorts 0 2 (master_takes_kind_here p msg k) (master_takes_kind_here (m.names.peer p) msg k)
+  built-here : (p : PeerId) (msg : MessageValue) (k : Kind) → m.known p → o.of (ANumber msg.number) →
+      Built m o own_sorts 0 2 (master_takes_kind_here p msg k) (master_takes_kind_here (m.names.peer p) msg k)
   unfolding master_takes_kind_here
   built-here p msg MasterReq known is = More (At (Posts p MasterAck msg.number known is refl) refl) refl
   built-here p msg ResolveKind known is = More (At (Posts p MasterAck msg.number known is refl) refl) refl
@@ -46,7 +50,8 @@ module _ {m : Naming} {o : Owed} where
   built-here p msg Election known is = More (Wider refl (built_sends_away p known)) refl
   built-here p msg _ known is = Empty
 
-  pub built_master_takes_here : (p : PeerId) (msg : MessageValue) → m.known p → o.of (ANumber msg.number) → Built m o own_sorts 0 2 (master_takes_here p msg) (master_takes_here (m.names.peer p) msg)
+  pub built_master_takes_here : (p : PeerId) (msg : MessageValue) → m.known p → o.of (ANumber msg.number) →
+      Built m o own_sorts 0 2 (master_takes_here p msg) (master_takes_here (m.names.peer p) msg)
   unfolding master_takes_here
   built_master_takes_here p msg known is = built-here p msg msg.kind known is
 
@@ -72,8 +77,10 @@ sorts-are : (k : Kind) → handled_sorts k ≡ sorts_of (audience_of k)
 sorts-are Ack = refl
 sorts-are _ = refl
 
-emits-heard : (charge : Bool) (from : Place) (m : MessageValue) (k : Kind) (who : Audience) → audience_of k ≡ who → is_part (sorts_of who) (sorts_of who) ≡ true → Emits (sorts_of who) (handles_kind charge from m k)
-emits-heard charge from m k who e all = emits_built (subst (λ s. is_part s (sorts_of who) ≡ true) (sym (sorts-are k ∙ ap sorts_of e)) all) (built_handles_kind charge from m (place_unchanged from) tt tt tt k)
+emits-heard : (charge : Bool) (from : Place) (m : MessageValue) (k : Kind) (who : Audience) → audience_of k ≡ who → is_part (sorts_of who) (sorts_of who) ≡
+    true → Emits (sorts_of who) (handles_kind charge from m k)
+emits-heard charge from m k who e all = emits_built (subst (λ s. is_part s (sorts_of who) ≡ true) (sym (sorts-are k ∙ ap sorts_of e)) all)
+    (built_handles_kind charge from m (place_unchanged from) tt tt tt k)
 
 -- dates
 pub emits_dates : (charge : Bool) (from : Place) (m : MessageValue) (k : Kind) → audience_of k ≡ OfDates → Emits date_sorts (handles_kind charge from m k)

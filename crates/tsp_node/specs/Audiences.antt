@@ -1,6 +1,7 @@
 -- Who handles a message of a kind, and whom a port heeds.
 use Rattle.std.specs.Prelude.{◌&&◌, not, Bool, if◌then◌else◌, Option, None, Some}
-use Rattle.tsp_rules.specs.Values.{Kind, Ack, Date, DateAck, DateReq, LoopKind, Msite, MsiteReq, SetDate, SetDateReq, Test, TraceOff, TraceOn, PeerId, Place, Peer, Stranger}
+use Rattle.tsp_rules.specs.Values.{Kind, Ack, Date, DateAck, DateReq, LoopKind, Msite, MsiteReq, SetDate, SetDateReq, Test, TraceOff, TraceOn, PeerId, Place}
+use Rattle.tsp_rules.specs.Values.{Peer, Stranger}
 use Rattle.tsp_base.specs.Words.{is_among}
 use Rattle.tsp_rules.specs.Guards.{is_starting_role}
 use Rattle.tsp_acks.specs.declared.station.Station.{Station}

@@ -15,7 +15,8 @@ pub record IsPartDue (part : Part) (due : Option ℕ) : Type 0 where
 
 -- what a master makes of a due send: of one that was posted again it has the new post; where one was given up, a slave may leave
 abbrev pub IsNoted : Due → ℕ → Port → Master → Master → List Placed → List Placed → Type 0
-IsNoted (Again p m) x port before after old new = (new ≡ old) × ((past : Past) → acting past.seen ≡ false → MasterStands past before → MasterStands (grown x past (Post (Peer p) (Message m) ∷ [])) after)
+IsNoted (Again p m) x port before after old new = (new ≡ old) × ((past : Past) → acting past.seen ≡ false → MasterStands past before →
+    MasterStands (grown x past (Post (Peer p) (Message m) ∷ [])) after)
 IsNoted (Gave p k) x port before after old new = Performs MasterStands MasterStands (leaves_after p k) x port before after old new
 
 -- only what the port remembers as a master may have changed

@@ -51,7 +51,13 @@ port_with part clock = record { station = part.station; last = part.last; master
 
 -- a port's past after a correction on another port of its node, in this step and at this tick
 abbrev pub corrected_elsewhere : Step → ℕ → ℤ → Bool → ℤ → Past → Past
-corrected_elsewhere step x amount stepped shown past = record past { seen = Elsewhere (record { step = step; tick = x; deed = Acts (Correct amount stepped shown) }) ∷ past.seen }
+corrected_elsewhere step x amount stepped shown past = record past {
+  seen = Elsewhere (record {
+    step = step;
+    tick = x;
+    deed = Acts (Correct amount stepped shown);
+  }) ∷ past.seen;
+}
 
 -- a port with its node's clock, and whether the node's trace is on
 pub record TracedValue : Type 0 where

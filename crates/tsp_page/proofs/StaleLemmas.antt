@@ -13,7 +13,8 @@ synchronised e = cc
 holding : Holding ≡ Stale → ⊥
 holding e = cc
 
-stale_with : (s : Status) (h : DaemonHalf) (l : LookHalf) (x : ℕ) → (reading_with s h l x).status ≡ Stale → reading_with s h l x ≡ without_interval Stale (pos 0)
+stale_with : (s : Status) (h : DaemonHalf) (l : LookHalf) (x : ℕ) → (reading_with s h l x).status ≡ Stale → reading_with s h l x ≡
+    without_interval Stale (pos 0)
 stale_with Stale h l x e = refl
 stale_with Waiting h l x e = absurd (waiting e)
 stale_with Synchronised h l x e = absurd (synchronised e)

@@ -9,7 +9,8 @@ use Rattle.tsp_promises.{proofs.EverywhereLemmas.Everywhere-from, specs.Setting.
 use Rattle.tsp_promises.proofs.{ClockProof.clock_target, ClockProof.shown_is, ClockProof.stays_up, ClockProof.post_up, SinceProof.since}
 use Rattle.tsp_promises.proofs.AgreedProof.{agreed_master, agreed_peers, chained_at}
 use Rattle.tsp_promises.proofs.{HistoryPlaces.of-own, HistoryPlaces.Within-of, Printed.after_slew, Printed.shows_target}
-use Rattle.std.proofs.Common.{sym, arith, subst, ◌∙◌, ◌≡◌, ◌≤◌, ◌≤ℤ◌, ℕ, ◌+◌, ◌-◌, ℤ, pos, ◌+ℤ◌, ◌-ℤ◌, nat_abs, true, List, [], ◌∷◌, ap, subst₂, inl, ◌/◌, Bool, false, refl}
+use Rattle.std.proofs.Common.{sym, arith, subst, ◌∙◌, ◌≡◌, ◌≤◌, ◌≤ℤ◌, ℕ, ◌+◌, ◌-◌, ℤ, pos, ◌+ℤ◌, ◌-ℤ◌, nat_abs, true, List, [], ◌∷◌, ap, subst₂, inl, ◌/◌, Bool}
+use Rattle.std.proofs.Common.{false, refl}
 use Rattle.std.proofs.lemmas.Int.{ints}
 use Rattle.tsp_base.specs.Words.{Line, of, dids, time_of, up, Within, Acts, Did, last_correct, last_correct_after, shown, target, tick_of, heard}
 use Rattle.tsp_base.proofs.{PlaceLemmas.Within-through, PlaceLemmas.Within-tail, Views.plain_view}
@@ -19,23 +20,28 @@ use Rattle.tsp_rules.specs.Values.{Correct}
 less : (c d x y b : ℤ) → pos (nat_abs (c -ℤ d)) ≤ℤ b → pos (nat_abs ((c -ℤ x) -ℤ (d -ℤ y))) ≤ℤ ((b +ℤ pos (nat_abs x)) +ℤ pos (nat_abs y))
 less c d x y b h = omega (arith, ints)
 
-shown-within : (setting : Setting) (h : List Line) (t : ℕ) → Fits setting h → (k l : ℕ) (b : ℤ) → up (dids (of k h)) ≡ true → up (dids (of l h)) ≡ true → pos (nat_abs (clock_at setting k h t -ℤ clock_at setting l h t)) ≤ℤ b → ShownWithin setting h t k l b
+shown-within : (setting : Setting) (h : List Line) (t : ℕ) → Fits setting h → (k l : ℕ) (b : ℤ) → up (dids (of k h)) ≡ true → up (dids (of l h)) ≡ true →
+    pos (nat_abs (clock_at setting k h t -ℤ clock_at setting l h t)) ≤ℤ b → ShownWithin setting h t k l b
 shown-within setting h t f k l b ku lu near =
-    rw (shown_is setting k h t f ku, shown_is setting l h t f lu) (less (clock_at setting k h t) (clock_at setting l h t) (left_at setting k h t) (left_at setting l h t) b near)
+    rw (shown_is setting k h t f ku, shown_is setting l h t f lu) (less (clock_at setting k h t) (clock_at setting l h t) (left_at setting k h t)
+    (left_at setting l h t) b near)
 
 -- a clock that has met its target shows it
-shows-clock : (setting : Setting) (n : ℕ) (h : List Line) (t : ℕ) → Fits setting h → up (dids (of n h)) ≡ true → HasMet setting n h t → shown_at setting n h t ≡ clock_at setting n h t
+shows-clock : (setting : Setting) (n : ℕ) (h : List Line) (t : ℕ) → Fits setting h → up (dids (of n h)) ≡ true → HasMet setting n h t → shown_at setting n h t ≡
+    clock_at setting n h t
 shows-clock setting n h t f u met = (meets_by (dids (of n h)) (setting.tick n t)).met met ∙ sym (clock_target setting n h t f u)
 
 -- whoever was corrected has booted
-corrected-up : (setting : Setting) (m : ℕ) (close : Line) (cpast : List Line) (c : Line) (past : List Line) (r : Line) (older : List Line) (e : ℤ) (h : List Line) → Fits setting h → FromRound m close cpast c past r older e → Unchanged (node_of c) (c ∷ past) h → up (dids (of (node_of c) h)) ≡ true
+corrected-up : (setting : Setting) (m : ℕ) (close : Line) (cpast : List Line) (c : Line) (past : List Line) (r : Line) (older : List Line) (e : ℤ)
+    (h : List Line) → Fits setting h → FromRound m close cpast c past r older e → Unchanged (node_of c) (c ∷ past) h → up (dids (of (node_of c) h)) ≡ true
 corrected-up setting m close cpast c past r older e h f x u =
     let k = node_of c in
     let fc = fits_at setting (c ∷ past) h f u.within in
     stays_up k past h (Within-tail c past h u.within) (subst (λ z. Alive setting z c.did (dids (of k past))) x.acts.correct fc.0.alive)
 
 -- and so has whoever corrected it
-master-up : (setting : Setting) (m : ℕ) (close : Line) (cpast : List Line) (c : Line) (past : List Line) (r : Line) (older : List Line) (e : ℤ) (h : List Line) → Fits setting h → FromRound m close cpast c past r older e → Unchanged (node_of c) (c ∷ past) h → up (dids (of m h)) ≡ true
+master-up : (setting : Setting) (m : ℕ) (close : Line) (cpast : List Line) (c : Line) (past : List Line) (r : Line) (older : List Line) (e : ℤ) (h : List Line)
+    → Fits setting h → FromRound m close cpast c past r older e → Unchanged (node_of c) (c ∷ past) h → up (dids (of m h)) ≡ true
 master-up setting m close cpast c past r older e h f x u =
     let b = x.acts.brings in
     let post_h : Within (x.post ∷ x.before) h = Within-through (x.post ∷ x.before) past h b.place (Within-tail c past h u.within) in
@@ -45,7 +51,8 @@ master-up setting m close cpast c past r older e h f x u =
 hop-up : (setting : Setting) (m : ℕ) (x : Hop) (h : List Line) → Fits setting h → Hops m x h → up (dids (of (node_at x) h)) ≡ true
 hop-up setting m x h f a = corrected-up setting m x.close x.cpast x.correct x.past x.reading x.older x.err h f a.from_round a.unchanged
 
-last-up : (setting : Setting) (m : ℕ) (first : Hop) (rest : List Hop) (h : List Line) → Fits setting h → Hops m first h → IsChain first rest h → up (dids (of (node_at (last_hop first rest)) h)) ≡ true
+last-up : (setting : Setting) (m : ℕ) (first : Hop) (rest : List Hop) (h : List Line) → Fits setting h → Hops m first h → IsChain first rest h →
+    up (dids (of (node_at (last_hop first rest)) h)) ≡ true
 last-up setting m first [] h f a c = hop-up setting m first h f a
 last-up setting m first (x ∷ rest) h f a c = hop-up setting (node_at (last_hop first rest)) x h f c.0
 
@@ -98,7 +105,8 @@ waited-for setting h f k l s t d b u r near =
     waits (shown_at setting k s t) (shown_at setting l s t) (shown_at setting l h (t + d)) b d (shown_width setting.drift d) there near
 
 pub waited : (setting : Setting) (world : List Line) → Fits setting world → Waited setting world
-waited setting world f = Everywhere-from (λ (l : Line) (s : List Line). WaitedFor setting (l ∷ s)) world (λ l s w. waited-for setting (l ∷ s) (fits_at setting (l ∷ s) world f w))
+waited setting world f = Everywhere-from (λ (l : Line) (s : List Line). WaitedFor setting (l ∷ s)) world (λ l s w. waited-for setting (l ∷
+    s) (fits_at setting (l ∷ s) world f w))
 
 -- for the theorem
 pub ruleset all_shown = (given, agreed_shown, shown_near)
@@ -107,17 +115,21 @@ pub ruleset all_shown = (given, agreed_shown, shown_near)
 own-lines : (l : Line) (world : List Line) → dids (of (node_of l) (l ∷ world)) ≡ l.did ∷ dids (of (node_of l) world)
 own-lines l world = ap dids (of-own (node_of l) l world refl)
 
-slewed-shows : (d : Did) (b : List Did) (amount printed : ℤ) (stepped : Bool) → d.deed ≡ Acts (Correct amount stepped printed) → stepped ≡ false → shown (d ∷ b) d.tick ≡ shown b d.tick
+slewed-shows : (d : Did) (b : List Did) (amount printed : ℤ) (stepped : Bool) → d.deed ≡ Acts (Correct amount stepped printed) → stepped ≡ false →
+    shown (d ∷ b) d.tick ≡ shown b d.tick
 slewed-shows d b amount printed stepped is slewed =
     let deed : d.deed ≡ Acts (Correct amount false printed) = is ∙ ap (λ s. Acts (Correct amount s printed)) slewed in
     subst (λ k. shown (record { step = d.step; tick = d.tick; deed = k } ∷ b) d.tick ≡ shown b d.tick) (sym deed) (after_slew d.step d.tick b amount printed)
 
-stepped-shows : (d : Did) (b : List Did) (amount printed : ℤ) (stepped : Bool) → d.deed ≡ Acts (Correct amount stepped printed) → stepped ≡ true → shown (d ∷ b) d.tick ≡ target (d ∷ b) d.tick
+stepped-shows : (d : Did) (b : List Did) (amount printed : ℤ) (stepped : Bool) → d.deed ≡ Acts (Correct amount stepped printed) → stepped ≡ true →
+    shown (d ∷ b) d.tick ≡ target (d ∷ b) d.tick
 stepped-shows d b amount printed stepped is jumps =
     let deed : d.deed ≡ Acts (Correct amount true printed) = is ∙ ap (λ s. Acts (Correct amount s printed)) jumps in
-    subst (λ k. shown (record { step = d.step; tick = d.tick; deed = k } ∷ b) d.tick ≡ target (record { step = d.step; tick = d.tick; deed = k } ∷ b) d.tick) (sym deed) (shows_target d.step d.tick b amount printed)
+    subst (λ k. shown (record { step = d.step; tick = d.tick; deed = k } ∷ b) d.tick ≡ target (record { step = d.step; tick = d.tick; deed = k } ∷ b) d.tick)
+    (sym deed) (shows_target d.step d.tick b amount printed)
 
-prints : (setting : Setting) (l : Line) (world : List Line) → Fits setting (l ∷ world) → (amount : ℤ) (stepped : Bool) (printed : ℤ) → l.did.deed ≡ Acts (Correct amount stepped printed) → Prints l world amount stepped printed
+prints : (setting : Setting) (l : Line) (world : List Line) → Fits setting (l ∷ world) → (amount : ℤ) (stepped : Bool) (printed : ℤ) → l.did.deed ≡
+    Acts (Correct amount stepped printed) → Prints l world amount stepped printed
 prints setting l world f amount stepped printed is =
     let fits = deed_fits setting l world (Acts (Correct amount stepped printed)) is f.0 in
     let seen = plain_view l.port (of (node_of l) world) in
@@ -147,7 +159,8 @@ apart setting l world f early past a b stepped later x y is_early is_late node w
     let n = node_of l in
     let g = fits_at setting (early ∷ past) world f.1 w in
     let place : dids (of n (early ∷ past)) ≡ early.did ∷ dids (of n past) = ap dids (of-own n early past node) in
-    let first : x ≡ shown (dids (of n (early ∷ past))) early.did.tick = subst (λ k. x ≡ shown (dids (of k (early ∷ past))) early.did.tick) node (prints setting early past g a stepped x is_early).value in
+    let first : x ≡ shown (dids (of n (early ∷ past))) early.did.tick = subst (λ k. x ≡ shown (dids (of k (early ∷ past))) early.did.tick) node
+    (prints setting early past g a stepped x is_early).value in
     let second = (prints setting l world f b later y is_late).value in
     let tick : tick_of (dids (of n (early ∷ past))) ≡ early.did.tick = ap tick_of place in
     let start : last_correct (dids (of n (early ∷ past))) ≡ early.did.tick =
@@ -155,8 +168,10 @@ apart setting l world f early past a b stepped later x y is_early is_late node w
     let next = subst (λ k. NextFrom n k (early ∷ past) (l ∷ world)) tick (next-from setting n (early ∷ past) (l ∷ world) f) in
     let last : tick_of (dids (of n (l ∷ world))) ≡ l.did.tick = ap tick_of (own-lines l world) in
     let order : early.did.tick ≤ l.did.tick = next l world (inl refl) w refl in
-    let near = steadily_by setting 0 n (l ∷ world) (early ∷ past) early.did.tick l.did.tick f u.within (λ z k. stretch_from (dids (of n (early ∷ past))) early.did.tick z start k) u.lives u.none next (omega (arith, last)) order in
+    let near = steadily_by setting 0 n (l ∷ world) (early ∷ past) early.did.tick l.did.tick f u.within (λ z k. stretch_from (dids (of n (early ∷ past)))
+    early.did.tick z start k) u.lives u.none next (omega (arith, last)) order in
     in-two-hundred x y early.did.tick l.did.tick (subst₂ (λ v w. Near 0 v w early.did.tick l.did.tick) (sym first) (sym second) near)
 
 pub shows : (setting : Setting) (world : List Line) → Fits setting world → Shows world
-shows setting world f = Everywhere-from ShowsAt world (λ l s w. let g = fits_at setting (l ∷ s) world f w in record { prints = prints setting l s g; apart = apart setting l s g })
+shows setting world f = Everywhere-from ShowsAt world (λ l s w. let g = fits_at setting (l ∷ s) world f w in
+    record { prints = prints setting l s g; apart = apart setting l s g })

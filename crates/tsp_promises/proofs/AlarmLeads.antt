@@ -18,16 +18,20 @@ abbrev pub Due : Alarm → ℕ → Past → Type 0
 Due alarm x past = Open x past × (is_due alarm x past ≡ true)
 
 -- an alarm's turn
-pub rings_lead : {P Q : ℕ → Past → Type 0} (own wait : Bool) (alarm : Alarm) → Leads (λ x past. P x past × (is_due alarm x past ≡ true)) (alarm_rings own wait alarm) Q → ((x : ℕ) (past : Past) → P x past → is_due alarm x past ≡ false → Q x past) → Leads P (rings own wait alarm) Q
+pub rings_lead : {P Q : ℕ → Past → Type 0} (own wait : Bool) (alarm : Alarm) → Leads (λ x past. P x past ×
+    (is_due alarm x past ≡ true)) (alarm_rings own wait alarm) Q → ((x : ℕ) (past : Past) → P x past → is_due alarm x past ≡ false → Q x past) →
+    Leads P (rings own wait alarm) Q
 unfolding rings
-rings_lead own wait alarm k idle = Leads_either (is_due alarm) (alarm_rings own wait alarm) nothing k (Leads_from (λ x past h. idle x past h.0 h.1) Leads_nothing)
+rings_lead own wait alarm k idle = Leads_either (is_due alarm) (alarm_rings own wait alarm) nothing k
+    (Leads_from (λ x past h. idle x past h.0 h.1) Leads_nothing)
 
 pub stays : (alarm : Alarm) (x : ℕ) (past : Past) → Open x past → is_due alarm x past ≡ false → Open x past
 stays alarm x past h e = h
 
 -- the quiet time is over for a port whose alarm is due, unless that is Quiet
 alarm_rested : (x : ℕ) (past : Past) (o : Option ℕ) → Open x past → is_over o x ≡ true →
-    (Sleeps (role past.seen) (armed past.seen).search (armed past.seen).elect (armed past.seen).resolve (λ p. open_to p past.seen) → o ≡ None) → boot_tick (plain past.seen) + QUIET ≤ x
+    (Sleeps (role past.seen) (armed past.seen).search (armed past.seen).elect (armed past.seen).resolve (λ p. open_to p past.seen) → o ≡ None) →
+    boot_tick (plain past.seen) + QUIET ≤ x
 alarm_rested x past o h over off = let due = due_is o x over in elim h.knows.quiet.rested [ inl z ↦ none-some due.at (sym (off z) ∙ due.is) | inr r ↦ r ]
 
 -- a master's quiet time is over
@@ -66,11 +70,15 @@ loosens_leads = Leads_either follows_at (puts (Become Loose)) nothing
 pub elect_leads : (own wait : Bool) → Leads Open (rings own wait Elect) Open
 unfolding alarm_rings elect_rings
 elect_leads own wait = rings_lead own wait Elect
-    (Leads_either (is_in_time Elect) (puts (Ring Elect) followed_by either_by may_stand_at candidature_row (loosens followed_by searches)) (puts (Late Elect) followed_by arms_elect)
+    (Leads_either (is_in_time Elect) (puts (Ring Elect) followed_by either_by may_stand_at candidature_row (loosens followed_by searches))
+    (puts (Late Elect) followed_by arms_elect)
     (Leads_then {Q = Free Untaken} (puts (Ring Elect)) (either_by may_stand_at candidature_row (loosens followed_by searches))
     (Leads_puts (Ring Elect) (λ x past h. ring Elect refl (alarm_rested x past (armed past.seen).elect h.0.0 h.0.1 (λ z. z.unelected)) h.0.0))
     (Leads_either may_stand_at candidature_row (loosens followed_by searches)
-    (Leads_from (λ x past h. record { free = h.0; may = stand_is (held past.seen) x past.own (and_parts past.may (may_stand (held past.seen) x past.own) h.1).1 })
+    (Leads_from (λ x past h. record {
+      free = h.0;
+      may = stand_is (held past.seen) x past.own (and_parts past.may (may_stand (held past.seen) x past.own) h.1).1;
+    })
     (Leads_to (λ x past h. open_of h.free) candidature_leads))
     (Leads_from (λ x past h. h.0) (Leads_to (λ x past h. open_of h) (Leads_then loosens searches loosens_leads searches_during)))))
     (Leads_to (λ x past h. open_of h) (Leads_then {Q = Free Untaken} (puts (Late Elect)) arms_elect

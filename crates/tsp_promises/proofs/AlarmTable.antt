@@ -50,7 +50,8 @@ are_probed probed [] = true
 are_probed probed (a ∷ rest) = (not (moves_by a) || probed) && are_probed (is_probe a) rest
 
 -- then what is known before an alarm's turn is what it needs
-pub before_turn : (probed : Bool) (a : Alarm) (rest : List Alarm) → are_probed probed (a ∷ rest) ≡ true → (x : ℕ) (past : Past) → Around probed x past → Around (moves_by a) x past
+pub before_turn : (probed : Bool) (a : Alarm) (rest : List Alarm) → are_probed probed (a ∷ rest) ≡ true → (x : ℕ) (past : Past) → Around probed x past →
+    Around (moves_by a) x past
 before_turn probed a rest e = by_need (moves_by a) probed (and_parts (not (moves_by a) || probed) (are_probed (is_probe a) rest) e).0 where
   by_need : (needs has : Bool) → (not needs || has) ≡ true → (x : ℕ) (past : Past) → Around has x past → Around needs x past
   by_need true true e x past h = h
@@ -66,7 +67,8 @@ each-lead probed [] e = Leads_from (around_open probed) Leads_nothing
 each-lead probed (a ∷ []) e = Leads_from (before_turn probed a [] e) (Leads_to (around_open (is_probe a)) (alarm_leads true false a))
 each-lead probed (a ∷ next ∷ rest) e =
     Leads_from (before_turn probed a (next ∷ rest) e)
-    (Leads_then (rings_alone a) (rings_each (next ∷ rest)) (alarm_leads true false a) (each-lead (is_probe a) (next ∷ rest) (after_turn probed a (next ∷ rest) e)))
+    (Leads_then (rings_alone a) (rings_each (next ∷ rest)) (alarm_leads true false a) (each-lead (is_probe a) (next ∷
+    rest) (after_turn probed a (next ∷ rest) e)))
 
 -- every due alarm
 pub due_alarms_lead : Leads Open due_alarms Open

@@ -1,15 +1,22 @@
 -- A node with one port and that port alone, row by row.
-use Rattle.std.proofs.Common.{sym, subst, ap, ◌∙◌, arith, inl, inr, true≢false, append-nil, ◌≡◌, ℕ, ◌==◌, nat_lt, ◌&&◌, ◌||◌, not, Bool, true, false, if◌then◌else◌, List, [], ◌∷◌, ◌++◌, length, filter, Option, None, Some, is_some, refl}
+use Rattle.std.proofs.Common.{sym, subst, ap, ◌∙◌, arith, inl, inr, true≢false, append-nil, ◌≡◌, ℕ, ◌==◌, nat_lt, ◌&&◌, ◌||◌, not, Bool, true, false}
+use Rattle.std.proofs.Common.{if◌then◌else◌, List, [], ◌∷◌, ◌++◌, length, filter, Option, None, Some, is_some, refl}
 use Rattle.std.proofs.{lemmas.Bool.and_right, Math.Bool.and-true, Math.Bool.or-false}
-use Rattle.tsp_rules.specs.Values.{Act, Boot, Took, Become, Abandon, Placed, Alarm, Quiet, Round, Probe, CloseAlarm, Message, Stamp, Taken, Good, Bad, Kind, LoopKind, Place, Port, Role, Starting, Master, ALL, QUIET}
+use Rattle.tsp_rules.specs.Values.{Act, Boot, Took, Become, Abandon, Placed, Alarm, Quiet, Round, Probe, CloseAlarm, Message, Stamp, Taken, Good, Bad, Kind}
+use Rattle.tsp_rules.specs.Values.{LoopKind, Place, Port, Role, Starting, Master, ALL, QUIET}
 use Rattle.tsp_rules.specs.Answers.{answers, due_alarms, input_row, rings, rings_alone, rings_each, alarm_rings, takes, handles, handles_kind, is_left}
 use Rattle.tsp_rules.specs.CommonRows.{boots}
 use Rattle.tsp_rules.{specs.SendRows.due_sends, proofs.CalmAlarms.moves_by, proofs.CalmSteps.is_message, proofs.NodeRowLemmas.on_own}
-use Rattle.tsp_rules.specs.GateRows.{NodeGiven, NodeTurn, GotOn, is_probe, alarm_on, each_on, alarms_on, all_ports, answers_all, any_port, begins_round_on, boots_all, boots_on, closes_on, ends_probes, follows_on, goes_on, has_rung, hears_on, heeds_loop, in_charge, input_all, is_last_probe, judge, judges, leads_clock, leads_on, loops_after, lower_ports, other_ports, ports_from, probes_on, steers, stirred_ports, takes_kind, takes_loop, takes_loop_step, takes_message, takes_on, turns_on}
-use Rattle.tsp_rules.specs.NodeRows.{NodePast, NodeRow, PortSetup, abandons_on, for_ports, nothing_at_all, on, on_port, ◌and_then◌, reading_all, spread, stirring}
+use Rattle.tsp_rules.specs.GateRows.{NodeGiven, NodeTurn, GotOn, is_probe, alarm_on, each_on, alarms_on, all_ports, answers_all, any_port, begins_round_on}
+use Rattle.tsp_rules.specs.GateRows.{boots_all, boots_on, closes_on, ends_probes, follows_on, goes_on, has_rung, hears_on, heeds_loop, in_charge, input_all}
+use Rattle.tsp_rules.specs.GateRows.{is_last_probe, judge, judges, leads_clock, leads_on, loops_after, lower_ports, other_ports, ports_from, probes_on, steers}
+use Rattle.tsp_rules.specs.GateRows.{stirred_ports, takes_kind, takes_loop, takes_loop_step, takes_message, takes_on, turns_on}
+use Rattle.tsp_rules.specs.NodeRows.{NodePast, NodeRow, PortSetup, abandons_on, for_ports, nothing_at_all, on, on_port, ◌and_then◌, reading_all, spread}
+use Rattle.tsp_rules.specs.NodeRows.{stirring}
 use Rattle.tsp_rules.specs.RoundRows.{abandons, abandons_going, close_rings, corrects, upsetting}
 use Rattle.tsp_rules.specs.Guards.{is_due, is_follow, is_going_at, is_over, is_own}
-use Rattle.tsp_base.specs.Words.{Past, view, first_port, Leads, MessageValue, armed, role, is_going, Row, grown, arms, placed, nothing, puts, ◌followed_by◌, either_by, is_correction, sets_date}
+use Rattle.tsp_base.specs.Words.{Past, view, first_port, Leads, MessageValue, armed, role, is_going, Row, grown, arms, placed, nothing, puts, ◌followed_by◌}
+use Rattle.tsp_base.specs.Words.{either_by, is_correction, sets_date}
 use Rattle.tsp_base.proofs.{LeadsLemmas.Leads_from, LeadsLemmas.Leads_then, RowLemmas.then_assoc}
 use Rattle.tsp_promises.proofs.AlarmTable.{Around, after_turn, alarm_leads, are_probed, around_open, before_turn, due_alarms_lead}
 use Rattle.tsp_promises.{proofs.AnswerLeads.takes_upsets, specs.Alone.given_alone, specs.NodeRuns.NodeAnswers, specs.NodeRuns.IsGivenOn}
@@ -29,7 +36,8 @@ placed-append [] ys = refl
 placed-append (a ∷ xs) ys = ap (λ (ps : List Placed). record { port = first_port; act = a } ∷ ps) (placed-append xs ys)
 
 -- one row after the other
-same-then : {C D : ℕ → Past → Type 0} (row more : NodeRow) (r s : Row) → Same C row r → Leads C r D → Same D more s → Same C (row and_then more) (r followed_by s)
+same-then : {C D : ℕ → Past → Type 0} (row more : NodeRow) (r s : Row) → Same C row r → Leads C r D → Same D more s →
+    Same C (row and_then more) (r followed_by s)
 unfolding ◌and_then◌ ◌followed_by◌
 same-then {D = D} row more r s a l b = record {
   run = λ x past setup one c.
@@ -73,10 +81,11 @@ steers-alone x past s one =
     ap (λ ps. follows_on past first_port && not (any_port (follows_on past) ps)) (none-lower past s one) ∙ and-true (follows_on past first_port)
 
 charge-alone : (x : ℕ) (past : NodePast) (s : PortSetup) → past.ports ≡ s ∷ [] → in_charge first_port x past ≡ true
-charge-alone x past s one = ap (λ b. b || leads_clock first_port x past) (steers-alone x past s one) ∙ ap (λ b. follows_on past first_port || b) (leads-alone x past s one) ∙ excluded (follows_on past first_port) where
-  excluded : (b : Bool) → (b || not b) ≡ true
-  excluded true = refl
-  excluded false = refl
+charge-alone x past s one = ap (λ b. b || leads_clock first_port x past) (steers-alone x past s one) ∙
+    ap (λ b. follows_on past first_port || b) (leads-alone x past s one) ∙ excluded (follows_on past first_port) where
+      excluded : (b : Bool) → (b || not b) ≡ true
+      excluded true = refl
+      excluded false = refl
 
 -- no port's round is given up where there is none
 given-up-none : (b : Bool) (x : ℕ) (past : NodePast) → (if b then for_ports abandons_on [] x past else []) ≡ []
@@ -91,7 +100,8 @@ same-probe = record {
   run = λ x past s one c.
       let acts = rings true false Probe x (alone past) in
       let after = on_port first_port (spread x past (placed first_port acts)) in
-      let few : ends_probes acts after past.ports ≡ false = ap (λ ps. ends_probes acts after ps) one ∙ ap (λ b. has_rung acts && b) (and_right (is_last_probe after) false refl) ∙ and_right (has_rung acts) false refl in
+      let few : ends_probes acts after past.ports ≡ false = ap (λ ps. ends_probes acts after ps) one ∙
+      ap (λ b. has_rung acts && b) (and_right (is_last_probe after) false refl) ∙ and_right (has_rung acts) false refl in
       rw few (append-nil (placed first_port acts));
 }
 
@@ -102,10 +112,12 @@ leads-round x past h due = by_close (armed past.seen).close refl due where
   by_close None e over = absurd (true≢false (sym over))
   by_close (Some at) e over = (h.knows.round.closes refl at e).leads
 
-closes-alone : (x : ℕ) (past : Past) (own : Bool) → Open x past → own ≡ not (is_follow (role past.seen)) → rings own false CloseAlarm x past ≡ rings true false CloseAlarm x past
+closes-alone : (x : ℕ) (past : Past) (own : Bool) → Open x past → own ≡ not (is_follow (role past.seen)) → rings own false CloseAlarm x past ≡
+    rings true false CloseAlarm x past
 unfolding rings either_by alarm_rings
 closes-alone x past own h e = by_due (is_due CloseAlarm x past) refl where
-  by_due : (b : Bool) → is_due CloseAlarm x past ≡ b → (if b then close_rings own x past else nothing x past) ≡ (if b then close_rings true x past else nothing x past)
+  by_due : (b : Bool) → is_due CloseAlarm x past ≡ b → (if b then close_rings own x past else nothing x past) ≡
+      (if b then close_rings true x past else nothing x past)
   by_due true due = ap (λ own. close_rings own x past) (e ∙ ap (λ (r : Role). not (is_follow r)) (leads-round x past h due))
   by_due false due = refl
 
@@ -143,7 +155,8 @@ same-each probed [] e = record { run = λ x past s one c. refl }
 same-each probed (a ∷ []) e = same-from (alarm_on first_port a) (rings_alone a) (before_turn probed a [] e) (same-alarm a)
 same-each probed (a ∷ next ∷ rest) e =
     same-from (each_on first_port (a ∷ next ∷ rest)) (rings_each (a ∷ next ∷ rest)) (before_turn probed a (next ∷ rest) e)
-    (same-then (alarm_on first_port a) (each_on first_port (next ∷ rest)) (rings_alone a) (rings_each (next ∷ rest)) (same-alarm a) (alarm_leads true false a) (same-each (is_probe a) (next ∷ rest) (after_turn probed a (next ∷ rest) e)))
+    (same-then (alarm_on first_port a) (each_on first_port (next ∷ rest)) (rings_alone a) (rings_each (next ∷ rest)) (same-alarm a) (alarm_leads true false a)
+    (same-each (is_probe a) (next ∷ rest) (after_turn probed a (next ∷ rest) e)))
 
 same-alarms : Same Open (alarms_on first_port) due_alarms
 unfolding alarms_on due_alarms
@@ -151,7 +164,8 @@ same-alarms = same-each false ALL refl
 
 same-turns : Same Fresh (turns_on first_port) (due_sends followed_by due_alarms)
 unfolding turns_on
-same-turns = same-then (on first_port due_sends) (alarms_on first_port) due_sends due_alarms (same-on due_sends) due_sends_lead (same-from (alarms_on first_port) due_alarms (λ x past h. open_of h) same-alarms)
+same-turns = same-then (on first_port due_sends) (alarms_on first_port) due_sends due_alarms (same-on due_sends) due_sends_lead
+    (same-from (alarms_on first_port) due_alarms (λ x past h. open_of h) same-alarms)
 
 -- what goes through all ports goes through the only one
 each-alone : {C : ℕ → Past → Type 0} (rows : Port → NodeRow) (r : Row) → Same C (rows first_port) r → Same C (reading_all all_ports (for_ports rows)) r
@@ -169,8 +183,10 @@ takes-alone : (from : Place) (m : MessageValue) (steer charge : Bool) (x : ℕ) 
 unfolding takes handles either_by ◌followed_by◌ puts
 takes-alone from m steer charge x past s c =
     let next = grown x past (Took from (Good (Message m)) ∷ []) in
-    let acts : Bool → Bool → List Act = λ left ch. (Took from (Good (Message m)) ∷ []) ++ (if is_own from x next then nothing x next else (if left then nothing x next else handles_kind ch from m m.kind x next)) in
-    let left : is_left steer m.kind x next ≡ false = ap (λ b. not b && (is_correction m.kind && is_follow (role past.seen))) s ∙ never-left (is_follow (role past.seen)) (is_correction m.kind) in
+    let acts : Bool → Bool → List Act = λ left ch. (Took from (Good (Message m)) ∷ []) ++
+    (if is_own from x next then nothing x next else (if left then nothing x next else handles_kind ch from m m.kind x next)) in
+    let left : is_left steer m.kind x next ≡ false = ap (λ b. not b && (is_correction m.kind && is_follow (role past.seen))) s ∙
+    never-left (is_follow (role past.seen)) (is_correction m.kind) in
     ap (λ b. acts b charge) left ∙ ap (λ b. acts false b) c
 
 -- a round that goes on is given up alike
@@ -195,13 +211,23 @@ module _ (from : Place) (m : MessageValue) where
   unfolding abandons_going either_by nothing
   none-going x past h e d =
       let acts = takes true true from (Good (Message m)) x past in
-      let follows : is_follow (role (grown x past acts).seen) ≡ true = elim ((steady_takes from m d).run x past tt) [ inl still ↦ absurd (true≢false (sym e ∙ still)) | inr f ↦ f ] in
-      let rests : Rests x (grown x past acts) = elim ((takes_upsets true true from (Good (Message m))).run x past h) [ inl r ↦ r | inr s ↦ absurd (true≢false (sym s.0 ∙ d)) ] in
+      let follows : is_follow (role (grown x past acts).seen) ≡ true = elim ((steady_takes from m d).run x past tt) [
+        | inl still ↦
+            absurd (true≢false (sym e ∙ still))
+        | inr f ↦ f
+      ] in
+      let rests : Rests x (grown x past acts) = elim ((takes_upsets true true from (Good (Message m))).run x past h) [
+        | inl r ↦ r
+        | inr s ↦
+            absurd (true≢false (sym s.0 ∙ d))
+      ] in
       let idle : is_going_at x (grown x past acts) ≡ false = no-round x (grown x past acts) rests follows in
       ap (λ b. if b then abandons x (grown x past acts) else []) idle
 
-  ends-alike : (x : ℕ) (past : NodePast) (s : PortSetup) → past.ports ≡ s ∷ [] → Open x (alone past) → corrects (takes true true from (Good (Message m)) x (alone past)) ≡ true → (d : Bool) → sets_date m.kind ≡ d →
-      for_ports abandons_on (if d then ports_from 0 past.ports else other_ports first_port past) x (spread x past (placed first_port (takes true true from (Good (Message m)) x (alone past))))
+  ends-alike : (x : ℕ) (past : NodePast) (s : PortSetup) → past.ports ≡ s ∷ [] → Open x (alone past) →
+      corrects (takes true true from (Good (Message m)) x (alone past)) ≡ true → (d : Bool) → sets_date m.kind ≡ d →
+      for_ports abandons_on (if d then ports_from 0 past.ports else other_ports first_port past) x
+      (spread x past (placed first_port (takes true true from (Good (Message m)) x (alone past))))
       ≡ placed first_port (abandons_going x (grown x (alone past) (takes true true from (Good (Message m)) x (alone past))))
   unfolding for_ports ◌and_then◌ nothing_at_all
   ends-alike x past s one h e true d =
@@ -222,13 +248,17 @@ module _ (from : Place) (m : MessageValue) where
     run = λ x past s one c.
         let acts = takes true true from (Good (Message m)) x (alone past) in
         let after = abandons_going x (grown x (alone past) acts) in
-        let same = takes-alone from m (steers first_port x past) (in_charge first_port x past) x (alone past) (steers-alone x past s one) (charge-alone x past s one) in
-        ap (λ zs. placed first_port zs ++ (if corrects zs then for_ports abandons_on (stirred_ports first_port m.kind past) x (spread x past (placed first_port zs)) else [])) same
+        let same = takes-alone from m (steers first_port x past) (in_charge first_port x past) x (alone past) (steers-alone x past s one)
+        (charge-alone x past s one) in
+        ap (λ zs. placed first_port zs ++ (if corrects zs then for_ports abandons_on (stirred_ports first_port m.kind past) x
+        (spread x past (placed first_port zs)) else [])) same
         ∙ ap (λ ps. placed first_port acts ++ ps) (by_moved x past s one c (corrects acts) refl)
         ∙ sym (placed-append acts (if corrects acts then after else []));
   } where
-    by_moved : (x : ℕ) (past : NodePast) (s : PortSetup) → past.ports ≡ s ∷ [] → Open x (alone past) → (b : Bool) → corrects (takes true true from (Good (Message m)) x (alone past)) ≡ b →
-        (if b then for_ports abandons_on (stirred_ports first_port m.kind past) x (spread x past (placed first_port (takes true true from (Good (Message m)) x (alone past)))) else [])
+    by_moved : (x : ℕ) (past : NodePast) (s : PortSetup) → past.ports ≡ s ∷ [] → Open x (alone past) → (b : Bool) →
+        corrects (takes true true from (Good (Message m)) x (alone past)) ≡ b →
+        (if b then for_ports abandons_on (stirred_ports first_port m.kind past) x
+        (spread x past (placed first_port (takes true true from (Good (Message m)) x (alone past)))) else [])
         ≡ placed first_port (if b then abandons_going x (grown x (alone past) (takes true true from (Good (Message m)) x (alone past))) else [])
     by_moved x past s one h true e = ends-alike x past s one h e (sets_date m.kind) refl
     by_moved x past s one h false e = refl
@@ -247,7 +277,8 @@ module _ (from : Place) (m : MessageValue) where
   unfolding takes either_by ◌followed_by◌ puts nothing
   loop-acts x past e =
       let next = grown x past (Took from (Good (Message m)) ∷ []) in
-      let none : (if is_own from x next then [] else handles true true from (Good (Message m)) x next) ≡ [] = ap (λ zs. if is_own from x next then [] else zs) (handles-none x next e) ∙ either (is_own from x next) in
+      let none : (if is_own from x next then [] else handles true true from (Good (Message m)) x next) ≡ [] =
+      ap (λ zs. if is_own from x next then [] else zs) (handles-none x next e) ∙ either (is_own from x next) in
       ap (λ zs. (Took from (Good (Message m)) ∷ []) ++ zs) none
     where
       no_acts : List Act
@@ -279,7 +310,8 @@ same-still from t e = record {
   run = λ x past s one c.
       let acts = takes true true from t x (alone past) in
       let after = abandons_going x (grown x (alone past) acts) in
-      sym (ap (λ b. placed first_port (acts ++ (if b then after else []))) ((still_takes from t e).run x (alone past)) ∙ ap (λ zs. placed first_port zs) (append-nil acts));
+      sym (ap (λ b. placed first_port (acts ++ (if b then after else []))) ((still_takes from t e).run x (alone past)) ∙
+      ap (λ zs. placed first_port zs) (append-nil acts));
 }
 
 same-taken : (from : Place) (t : Taken) → Same Open (takes_on first_port from t) (upsetting (takes true true from t))

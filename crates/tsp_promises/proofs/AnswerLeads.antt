@@ -1,5 +1,6 @@
 -- What a port does with what it takes, and a whole step, keeps what is known of it.
-use Rattle.std.proofs.Common.{sym, subst, inl, inr, ap, true≢false, eq-eqb, ◌∙◌, ◌≡◌, ℕ, not, Bool, true, false, List, [], ◌∷◌, refl, eqb-true, ◌==◌, ℤ, if◌then◌else◌, Option, None, Some, is_some}
+use Rattle.std.proofs.Common.{sym, subst, inl, inr, ap, true≢false, eq-eqb, ◌∙◌, ◌≡◌, ℕ, not, Bool, true, false, List, [], ◌∷◌, refl, eqb-true, ◌==◌, ℤ}
+use Rattle.std.proofs.Common.{if◌then◌else◌, Option, None, Some, is_some}
 use Rattle.std.proofs.lemmas.Bool.{and_parts, not-true}
 use Rattle.tsp_promises.proofs.Known.{OpenIn, Open, Fresh, Early, Rests}
 use Rattle.tsp_promises.specs.{AckFits.Answers, DeedFits.asks_name, DeedFits.is_answered_early, MeasureFits.SampleFits}
@@ -9,10 +10,12 @@ use Rattle.tsp_promises.proofs.DateLeads.{date_upsets, date_request_upsets, date
 use Rattle.tsp_promises.proofs.{Leaves.none-among, Leaves.none-some, Leaves.some-same, Leaves.sample, AlarmTable.due_alarms_lead}
 use Rattle.tsp_promises.proofs.{RoleLeads.slave_leads, RoleLeads.candidate_leads, RoleLeads.master_leads, CorrectionLeads.due_sends_lead}
 use Rattle.tsp_promises.proofs.Elsewheres.{Upsets, upsets_of, upsets_from, upsets_either, upsetting_lead}
-use Rattle.tsp_promises.proofs.TakenLeads.{Heard, HeardIn, Unanswered, rests_of, took_awake, names_master_leads, says_master_leads, traces_leads, tests_leads, replies_lead, quits_lead}
+use Rattle.tsp_promises.proofs.TakenLeads.{Heard, HeardIn, Unanswered, rests_of, took_awake, names_master_leads, says_master_leads, traces_leads, tests_leads}
+use Rattle.tsp_promises.proofs.TakenLeads.{replies_lead, quits_lead}
 use Rattle.tsp_rules.specs.Values.{Took, Message, Stamp, Taken, Good, Bad, Kind, Date, DateAck, DateReq, LoopKind, Msite, MsiteReq, SetDate, SetDateReq, Test}
 use Rattle.tsp_rules.specs.Values.{TraceOff, TraceOn, PeerId, Place, Peer, Stranger, Role, Starting, Loose, Follow, Candidate, Master, Request, Reply}
-use Rattle.tsp_rules.specs.Answers.{due_alarms, says_in, peer_says, replies_in, peer_replies, from_peer, handles_kind, is_left, handles, takes, Given, Turn, Got, input_row, answers}
+use Rattle.tsp_rules.specs.Answers.{due_alarms, says_in, peer_says, replies_in, peer_replies, from_peer, handles_kind, is_left, handles, takes, Given, Turn}
+use Rattle.tsp_rules.specs.Answers.{Got, input_row, answers}
 use Rattle.tsp_rules.specs.{CandidateRows.candidate_takes, DateRows.date_request_of, DateRows.date_acked, MasterRows.master_takes}
 use Rattle.tsp_rules.{proofs.GuardFacts.awake_is, specs.SendRows.due_sends, proofs.Asides.now}
 use Rattle.tsp_rules.specs.Guards.{role_at, is_own, is_heard, is_starting_role, target_at}
@@ -32,14 +35,16 @@ pub record Placed (p : PeerId) (counter : ℕ) (seen : List Seen) (q : OpenReque
   pub word_is : q.word ≡ word_asked (s ∷ older)
   pub target_is : q.target ≡ target_there (s ∷ older)
 
-placed-cases : (p : PeerId) (counter : ℕ) (seen : List Seen) (q : OpenRequest) (place : List Seen) → exchange p counter seen ≡ place → request_at_place place ≡ Some q → Placed p counter seen q
+placed-cases : (p : PeerId) (counter : ℕ) (seen : List Seen) (q : OpenRequest) (place : List Seen) → exchange p counter seen ≡ place → request_at_place place ≡
+    Some q → Placed p counter seen q
 placed-cases p counter seen q [] is e = none-some q e
 placed-cases p counter seen q (s ∷ older) is e =
     let same : record { word = word_asked (s ∷ older); target = target_there (s ∷ older) } ≡ q = some-same _ q e in
     record { s = s; older = older; is = is; word_is = sym (ap (λ (r : OpenRequest). r.word) same); target_is = sym (ap (λ (r : OpenRequest). r.target) same) }
 
 module _ {p : PeerId} {r : ReplyValue} where
-  sample_fits : (x : ℕ) (past : Past) (q : OpenRequest) (d : ℤ) → Heard p (Good (Stamp (Reply r))) x past → request_at p r.counter x past ≡ Some q → (q.word == r.word) ≡ true → target_at x past ≡ d →
+  sample_fits : (x : ℕ) (past : Past) (q : OpenRequest) (d : ℤ) → Heard p (Good (Stamp (Reply r))) x past → request_at p r.counter x past ≡ Some q →
+      (q.word == r.word) ≡ true → target_at x past ≡ d →
       SampleFits (now x past (sample_of p r q.target d)) past.seen p r.counter (sample_diff q.target r.reading d) (sample_err q.target d) r.ticket
   sample_fits x past q d h found same now_is =
       let free = h.just.free in
@@ -65,14 +70,16 @@ module _ {p : PeerId} {r : ReplyValue} where
         err_is = ap (λ a. sample_err a d) there ∙ ap (λ t. sample_err (target (plain placed.older) asked.post.tick) t) (sym now_is);
       }
 
-  samples_request_leads : (o : Option OpenRequest) → Leads (λ x past. Heard p (Good (Stamp (Reply r))) x past × (request_at p r.counter x past ≡ o)) (samples_request p r o) Rests
+  samples_request_leads : (o : Option OpenRequest) → Leads (λ x past. Heard p (Good (Stamp (Reply r))) x past × (request_at p r.counter x past ≡ o))
+      (samples_request p r o) Rests
   unfolding samples_request
   samples_request_leads None = idle_heard (λ x past h. h.0)
   samples_request_leads (Some q) = by_case (q.word == r.word) refl where
     by_case : (b : Bool) → (q.word == r.word) ≡ b → Leads (λ x past. Heard p (Good (Stamp (Reply r))) x past × (request_at p r.counter x past ≡ Some q))
         (if b then reading target_at (λ d. puts (sample_of p r q.target d)) else nothing) Rests
     by_case true same = Leads_reading target_at (λ d. puts (sample_of p r q.target d)) (λ d. Leads_puts (sample_of p r q.target d) (λ x past h.
-        rests_of (sample p r.counter (sample_diff q.target r.reading d) (sample_err q.target d) r.ticket (sample_fits x past q d h.0.0 h.0.1 same h.1) h.0.0.just.free)))
+        rests_of (sample p r.counter (sample_diff q.target r.reading d) (sample_err q.target d) r.ticket (sample_fits x past q d h.0.0 h.0.1 same h.1)
+        h.0.0.just.free)))
     by_case false same = idle_heard (λ x past h. h.0)
 
   pub samples_lead : Leads (Heard p (Good (Stamp (Reply r)))) (samples p r) Rests
@@ -124,16 +131,20 @@ hears p t x past h e =
     }
 
 -- what only a peer may say
-pub from_peer_upsets : {dates : Bool} (from : Place) (t : Taken) (row : PeerId → Row) → ((p : PeerId) → from ≡ Peer p → Upsets dates (Heard p t) (row p)) → Upsets dates (Foreign from t) (from_peer from row)
+pub from_peer_upsets : {dates : Bool} (from : Place) (t : Taken) (row : PeerId → Row) → ((p : PeerId) → from ≡ Peer p → Upsets dates (Heard p t) (row p)) →
+    Upsets dates (Foreign from t) (from_peer from row)
 unfolding from_peer
-from_peer_upsets (Peer p) t row k = upsets_either (is_heard p) (row p) nothing (upsets_from (λ x past h. hears p t x past h.0 h.1) (k p refl)) (upsets_of (passes_over (λ x past h. h.0.just)))
+from_peer_upsets (Peer p) t row k = upsets_either (is_heard p) (row p) nothing (upsets_from (λ x past h. hears p t x past h.0 h.1) (k p refl))
+    (upsets_of (passes_over (λ x past h. h.0.just)))
 from_peer_upsets Stranger t row k = upsets_of (passes_over (λ x past h. h.just))
 
-answers_any : (from : Place) (m : MessageValue) (k : Kind) → m.kind ≡ k → ((seen : List Seen) → Answers k from seen m.number) → (seen : List Seen) → Answers m.kind from seen m.number
+answers_any : (from : Place) (m : MessageValue) (k : Kind) → m.kind ≡ k → ((seen : List Seen) → Answers k from seen m.number) → (seen : List Seen) →
+    Answers m.kind from seen m.number
 answers_any from m k e a seen = subst (λ i. Answers i from seen m.number) (sym e) (a seen)
 
 module _ {from : Place} {m : MessageValue} where
-  pub freely : {dates : Bool} {row : Row} → Leads (Unanswered (Early (Is from (Good (Message m))))) row Rests → Upsets dates (Foreign from (Good (Message m))) row
+  pub freely : {dates : Bool} {row : Row} → Leads (Unanswered (Early (Is from (Good (Message m))))) row Rests →
+      Upsets dates (Foreign from (Good (Message m))) row
   freely k = upsets_of (Leads_from (λ x past h. record { was = h.just.free; none = h.just.unanswered }) k)
 
   -- by the kind of the message
@@ -146,8 +157,10 @@ module _ {from : Place} {m : MessageValue} where
   handles_kind_upsets charge Test e = freely (tests_leads m (ap asks_name e) (answers_any from m Test e (λ seen. tt)))
   handles_kind_upsets charge Date e = upsets_from (λ x past h. h.just) (date_upsets charge (inl e))
   handles_kind_upsets charge SetDate e = upsets_from (λ x past h. h.just) (date_upsets charge (inr e))
-  handles_kind_upsets charge DateReq e = from_peer_upsets from (Good (Message m)) (date_request_of charge m) (λ p i. date_request_upsets charge (ap is_date_request e))
-  handles_kind_upsets charge SetDateReq e = from_peer_upsets from (Good (Message m)) (date_request_of charge m) (λ p i. date_request_upsets charge (ap is_date_request e))
+  handles_kind_upsets charge DateReq e = from_peer_upsets from (Good (Message m)) (date_request_of charge m)
+      (λ p i. date_request_upsets charge (ap is_date_request e))
+  handles_kind_upsets charge SetDateReq e = from_peer_upsets from (Good (Message m)) (date_request_of charge m)
+      (λ p i. date_request_upsets charge (ap is_date_request e))
   handles_kind_upsets charge DateAck e = from_peer_upsets from (Good (Message m)) (date_acked m) (λ p i. upsets_of (date_acked_leads e))
   handles_kind_upsets charge LoopKind e = upsets_of (passes_over (λ x past h. h.just))
   handles_kind_upsets charge _ e = from_peer_upsets from (Good (Message m)) (peer_says m) (λ p i. upsets_of peer_says_leads)
@@ -163,7 +176,8 @@ unfolding handles
 handles_upsets steer charge from (Bad fault) = upsets_of (passes_over (λ x past h. h.just))
 handles_upsets steer charge from (Good (Message m)) = upsets_either (is_left steer m.kind) nothing (handles_kind charge from m m.kind)
     (upsets_of (passes_over (λ x past h. h.0.just))) (upsets_from (λ x past h. h.0) (handles_kind_upsets charge m.kind refl))
-handles_upsets steer charge from (Good (Stamp (Request word counter))) = upsets_of (Leads_from (λ x past h. record { was = h.just.free; none = h.just.unanswered }) (replies_lead from word counter))
+handles_upsets steer charge from (Good (Stamp (Request word counter))) = upsets_of
+    (Leads_from (λ x past h. record { was = h.just.free; none = h.just.unanswered }) (replies_lead from word counter))
 handles_upsets steer charge from (Good (Stamp (Reply r))) = from_peer_upsets from (Good (Stamp (Reply r))) (peer_replies r) (λ p i. upsets_of peer_replies_lead)
 
 -- a datagram is taken

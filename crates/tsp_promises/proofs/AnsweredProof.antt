@@ -18,10 +18,12 @@ none-some : {A B : Type 0} (o : Option A) (a : A) → o ≡ None → o ≡ Some 
 none-some o a e f = let bad : ⊥ = (let k = sym e ∙ f in cc) in absurd bad
 
 -- a node that has taken nothing in this step has no Quit in it
-quit-deed : (setup : Setup) (d : Did) (q : Port) (t : List Line) (deed : Deed) → DeedFits setup deed d (view q t) → (heard (dids t) ≡ None → has_quit (dids t) ≡ false) → taken_after deed (heard (dids t)) ≡ None → has_quit_after deed (has_quit (dids t)) ≡ false
+quit-deed : (setup : Setup) (d : Did) (q : Port) (t : List Line) (deed : Deed) → DeedFits setup deed d (view q t) →
+    (heard (dids t) ≡ None → has_quit (dids t) ≡ false) → taken_after deed (heard (dids t)) ≡ None → has_quit_after deed (has_quit (dids t)) ≡ false
 quit-deed setup d q t Begins f o e = refl
 quit-deed setup d q t (Acts (Took from x)) f o e = let bad : ⊥ = cc in absurd bad
-quit-deed setup d q t (Acts (Quit p)) f o e = none-some (heard (dids t)) _ e (ap heard (sym (plain_view q t)) ∙ heard_now (Peer p) f.message f.took f.past (view q t) f.is f.deed)
+quit-deed setup d q t (Acts (Quit p)) f o e = none-some (heard (dids t)) _ e (ap heard (sym (plain_view q t)) ∙
+    heard_now (Peer p) f.message f.took f.past (view q t) f.is f.deed)
 quit-deed setup d q t _ f o e = o e
 
 no-quit : (setting : Setting) (own : List Line) → OwnFits setting own → heard (dids own) ≡ None → has_quit (dids own) ≡ false
@@ -30,7 +32,8 @@ no-quit setting (l ∷ t) f e =
     quit-deed (setup_of setting (node_of l) l.port) l.did l.port t l.did.deed (own_deed setting l t l.did.deed refl f.0) (no-quit setting t f.1) e
 
 -- the line that a port sees at the head as a Took on it
-took-line : (x : Line) (q : Port) (took : Did) (from : Place) (t : Taken) (b : Bool) (vs past : List Seen) → ((x.port.0 == q.0) || is_shared x.did.deed) ≡ b → seen_as b x.did ∷ vs ≡ Here took ∷ past → took.deed ≡ Acts (Took from t) →
+took-line : (x : Line) (q : Port) (took : Did) (from : Place) (t : Taken) (b : Bool) (vs past : List Seen) → ((x.port.0 == q.0) || is_shared x.did.deed) ≡ b →
+    seen_as b x.did ∷ vs ≡ Here took ∷ past → took.deed ≡ Acts (Took from t) →
     (x.did.deed ≡ Acts (Took from t)) × (x.port ≡ q)
 took-line x q took from t true vs past sees e deed =
     let same : x.did ≡ took = cc in
@@ -39,10 +42,12 @@ took-line x q took from t true vs past sees e deed =
     (is, port-same x.port q (or-false (x.port.0 == q.0) (is_shared x.did.deed) sees own))
 took-line x q took from t false vs past sees e deed = let bad : ⊥ = cc in absurd bad
 
-quits-of : (setting : Setting) (l : Line) (world : List Line) (p : PeerId) (own : List Line) → OwnFits setting own → of (node_of l) world ≡ own → QuitFits (view l.port own) p → HeedsQuit l world p
+quits-of : (setting : Setting) (l : Line) (world : List Line) (p : PeerId) (own : List Line) → OwnFits setting own → of (node_of l) world ≡ own →
+    QuitFits (view l.port own) p → HeedsQuit l world p
 quits-of setting l world p [] f is q = let bad : ⊥ = (let k = q.is in cc) in absurd bad
 quits-of setting l world p (x ∷ older) f is q =
-    let at = took-line x l.port q.took (Peer p) (Good (Message q.message)) ((x.port.0 == l.port.0) || is_shared x.did.deed) (view l.port older) q.past refl q.is q.deed in
+    let at = took-line x l.port q.took (Peer p) (Good (Message q.message)) ((x.port.0 == l.port.0) || is_shared x.did.deed) (view l.port older) q.past refl q.is
+    q.deed in
     let none = unheard setting x older (Peer p) (Good (Message q.message)) f.0 at.0 in
     record {
       took = x;
@@ -110,7 +115,8 @@ none-answered setting q r (l ∷ t) f took none = elim (took_split q r l t took)
 strangers_at : (setting : Setting) (l : Line) (world : List Line) → Fits setting (l ∷ world) → StrangersAt setting l world
 strangers_at setting l world f datagram is =
     let own = of (node_of l) world in
-    let a = answering (setup_of setting (node_of l) l.port) datagram l.did (view l.port own) (deed_fits setting l world (Acts (Post Stranger datagram)) is f.0).fits in
+    let a = answering (setup_of setting (node_of l) l.port) datagram l.did (view l.port own) (deed_fits setting l world (Acts (Post Stranger datagram)) is
+    f.0).fits in
     record {
       asked = a.asked;
       took = a.took;
@@ -153,11 +159,13 @@ one-pending Stranger true = omega arith
 one-pending (Peer p) b = omega arith
 
 -- what may still be posted to strangers is accounted for
-counted : (setting : Setting) (w : List Line) → Fits setting w → to_strangers (dids w) + pending (heard (dids w)) (has_answered (dids w)) ≤ from_strangers (dids w)
+counted : (setting : Setting) (w : List Line) → Fits setting w → to_strangers (dids w) + pending (heard (dids w)) (has_answered (dids w)) ≤ from_strangers
+    (dids w)
 counted setting [] f = omega arith
 counted setting (l ∷ t) f = by-deed l.did.deed refl (counted setting t f.1) where
   by-deed : (deed : Deed) → deed ≡ l.did.deed → to_strangers (dids t) + pending (heard (dids t)) (has_answered (dids t)) ≤ from_strangers (dids t) →
-      to_strangers_after deed (to_strangers (dids t)) + pending (taken_after deed (heard (dids t))) (has_answered_after deed (has_answered (dids t))) ≤ from_strangers_after deed (from_strangers (dids t))
+      to_strangers_after deed (to_strangers (dids t)) + pending (taken_after deed (heard (dids t))) (has_answered_after deed (has_answered (dids t))) ≤
+      from_strangers_after deed (from_strangers (dids t))
   by-deed Begins is o = omega (arith, o)
   by-deed (Acts (Post Stranger datagram)) is o =
       let a = strangers_at setting l t f datagram (sym is) in

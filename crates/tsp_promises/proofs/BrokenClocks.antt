@@ -1,6 +1,8 @@
 -- Small histories that break the promises of clocks, of chains and of single corrections.
-use Rattle.std.proofs.Common.{sym, ap, arith, subst, inl, inr, true≢false, ◌∙◌, ◌≡◌, ◌≤ℤ◌, Bool, true, false, ℕ, ℤ, pos, negsuc, ◌-ℤ◌, nat_abs, List, [], ◌∷◌, refl}
-use Rattle.tsp_rules.specs.Values.{Boot, Took, Post, Arm, Ring, Close, Correct, Sample, CloseAlarm, Message, Stamp, Good, AdjTime, SetTime, TimeBody, PeerId, Peer, Request, Reply}
+use Rattle.std.proofs.Common.{sym, ap, arith, subst, inl, inr, true≢false, ◌∙◌, ◌≡◌, ◌≤ℤ◌, Bool, true, false, ℕ, ℤ, pos, negsuc, ◌-ℤ◌, nat_abs, List, [], ◌∷◌}
+use Rattle.std.proofs.Common.{refl}
+use Rattle.tsp_rules.specs.Values.{Boot, Took, Post, Arm, Ring, Close, Correct, Sample, CloseAlarm, Message, Stamp, Good, AdjTime, SetTime, TimeBody, PeerId}
+use Rattle.tsp_rules.specs.Values.{Peer, Request, Reply}
 use Rattle.tsp_base.specs.Words.{Booted, Came, Turned, Line, of, view, MessageValue, Within, peer_of}
 use Rattle.tsp_promises.proofs.Histories.{begins, does, line, msg, skip, skipped, step_at, still}
 use Rattle.tsp_promises.proofs.Spots.{too-far, Computed, Corrects, but_for, close_begins, corrects-at, estimate-at, sample_of, spot, untouched}

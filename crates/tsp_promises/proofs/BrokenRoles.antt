@@ -1,6 +1,9 @@
 -- Small histories that break the promises of roles and of answers.
-use Rattle.std.proofs.Common.{ap, arith, inl, inr, sym, true≢false, ◌≡◌, ◌≤◌, ◌<◌, ℕ, true, false, ◌+◌, pos, List, [], ◌∷◌, Option, Some, None, refl, subst, ◌∙◌}
-use Rattle.tsp_rules.specs.Values.{Boot, Took, Post, Become, Ring, Back, Close, Correct, Quit, ResolveAlarm, Message, Stamp, Good, Accept, Ack, AdjTime, Election, MasterReq, Msite, QuitKind, Nothing, TimeBody, PeerId, Peer, Stranger, Follow, Candidate, Master, Reply, ELECT_MIN, Datagram, Taken, Test, Place, Loose, Request}
+use Rattle.std.proofs.Common.{ap, arith, inl, inr, sym, true≢false, ◌≡◌, ◌≤◌, ◌<◌, ℕ, true, false, ◌+◌, pos, List, [], ◌∷◌, Option, Some, None, refl, subst}
+use Rattle.std.proofs.Common.{◌∙◌}
+use Rattle.tsp_rules.specs.Values.{Boot, Took, Post, Become, Ring, Back, Close, Correct, Quit, ResolveAlarm, Message, Stamp, Good, Accept, Ack, AdjTime}
+use Rattle.tsp_rules.specs.Values.{Election, MasterReq, Msite, QuitKind, Nothing, TimeBody, PeerId, Peer, Stranger, Follow, Candidate, Master, Reply, ELECT_MIN}
+use Rattle.tsp_rules.specs.Values.{Datagram, Taken, Test, Place, Loose, Request}
 use Rattle.tsp_base.specs.Words.{Booted, Came, Handed, Turned, Line, of, view, MessageValue, Received, message_in, ReplyValue, peer_of}
 use Rattle.tsp_promises.proofs.Spots.{too-many}
 use Rattle.tsp_promises.proofs.Histories.{begins, does, line, msg, step_at, still}

@@ -111,7 +111,8 @@ rounds_break = record {
 
 -- a Correct that is slewed, and later ones of 0 at a late tick and back at the first
 abbrev again : ℤ → List Line
-again amount = does 0 0 Turned (Correct (pos 0) false (pos 0)) ∷ (does 100000 0 Turned (Correct (pos 0) false (pos 0)) ∷ (does 0 0 Turned (Correct amount false (pos 0)) ∷ []))
+again amount = does 0 0 Turned (Correct (pos 0) false (pos 0)) ∷ (does 100000 0 Turned (Correct (pos 0) false (pos 0)) ∷
+    (does 0 0 Turned (Correct amount false (pos 0)) ∷ []))
 
 abbrev corrects : ℤ → Bool → ℤ → List Line
 corrects amount stepped shown = does 0 0 Turned (Correct amount stepped shown) ∷ []
@@ -138,4 +139,13 @@ readings_break = record {
 
 -- each promise is broken by some history
 pub all_break : AllBreak
-all_break = record { setting = still false; roles = roles_break; sends = sends_break; clocks = clocks_break; readings = readings_break; chains = chains_break; rounds = rounds_break; answers = answers_break }
+all_break = record {
+  setting = still false;
+  roles = roles_break;
+  sends = sends_break;
+  clocks = clocks_break;
+  readings = readings_break;
+  chains = chains_break;
+  rounds = rounds_break;
+  answers = answers_break;
+}

@@ -1,7 +1,8 @@
 -- Small histories that break the promises of sends, of the network's date and of LOOPs.
 use Rattle.std.proofs.Common.{ap, arith, inl, inr, ◌≡◌, ◌≤◌, false, true, ℕ, ◌+◌, pos, List, [], ◌∷◌, is_some, refl, ℤ, sym, subst, true≢false, ◌∙◌}
 use Rattle.std.proofs.lemmas.Int.{ints}
-use Rattle.tsp_rules.specs.Values.{Boot, Took, Post, Become, Ring, Correct, Acked, Elect, Round, Message, Good, AdjTime, Election, SetDateReq, SetTime, Nothing, TimeBody, Peer, Follow, GAP, Date, Stranger, Master, Hops, Loose}
+use Rattle.tsp_rules.specs.Values.{Boot, Took, Post, Become, Ring, Correct, Acked, Elect, Round, Message, Good, AdjTime, Election, SetDateReq, SetTime, Nothing}
+use Rattle.tsp_rules.specs.Values.{TimeBody, Peer, Follow, GAP, Date, Stranger, Master, Hops, Loose}
 use Rattle.tsp_base.specs.Words.{Acts, Booted, Came, Handed, Turned, Line, dids, of, plain, view, MessageValue, tick_of, Within, heard, peer_of, posted}
 use Rattle.tsp_promises.proofs.Histories.{begins, does, line, msg, step_at, still}
 use Rattle.tsp_promises.specs.{Broken.breaks, Broken.SendsBreak, Broken.DatesBreak, Broken.LoopsBreak, Looped.IsLoopChain, Looped.LoopPost}
@@ -13,10 +14,18 @@ abbrev moves : ℕ → ℕ → Line
 moves at k = does at 0 (Came k) (Correct (pos 1) false (pos 0))
 
 -- a Correct that takes a post
-abbrev acts : (l : Line) (world : List Line) (post : Line) (older : List Line) (m : MessageValue) → l.did.deed ≡ Acts (Correct (pos 1) false (pos 0)) → Within (post ∷ older) world → l.did.step.cause ≡ Came (posted (dids older)) →
+abbrev acts : (l : Line) (world : List Line) (post : Line) (older : List Line) (m : MessageValue) → l.did.deed ≡ Acts (Correct (pos 1) false (pos 0)) →
+    Within (post ∷ older) world → l.did.step.cause ≡ Came (posted (dids older)) →
     post.did.deed ≡ Acts (Post (Peer (peer_of (node_of l))) (Message m)) → is_some (heard (dids (of
     (node_of l) world))) ≡ true → ActsOn l world post older
-acts l world post older m correct place cause deed took = record { amount = pos 1; stepped = false; shown = pos 0; correct = correct; brings = record { place = place; cause = cause; message = m; deed = deed }; took = took }
+acts l world post older m correct place cause deed took = record {
+  amount = pos 1;
+  stepped = false;
+  shown = pos 0;
+  correct = correct;
+  brings = record { place = place; cause = cause; message = m; deed = deed };
+  took = took;
+}
 
 abbrev adjusts : MessageValue
 adjusts = msg AdjTime 5 (TimeBody (pos 1))
@@ -62,7 +71,8 @@ abbrev dated_once : List Line
 dated_once = does 20 0 (Came 0) (Took (Peer (peer_of 1)) (Good (Message dates))) ∷ (date ∷ ring)
 
 abbrev forged : List Line
-forged = does 25 0 Handed (Correct (pos 1) false (pos 0)) ∷ (does 25 0 Handed (Took (Peer (peer_of 1)) (Good (Message (msg SetDateReq 100 (TimeBody (pos 1)))))) ∷ (moves 20 0 ∷ dated_once))
+forged = does 25 0 Handed (Correct (pos 1) false (pos 0)) ∷ (does 25 0 Handed (Took (Peer (peer_of 1)) (Good (Message (msg SetDateReq 100 (TimeBody (pos 1))))))
+    ∷ (moves 20 0 ∷ dated_once))
 
 abbrev dated_twice : List Line
 dated_twice = does 30 0 (Came 0) (Took (Peer (peer_of 1)) (Good (Message dates))) ∷ forged
@@ -161,7 +171,8 @@ hops-in last n deed =
     let same : Hops n ≡ Hops last.hops = ap (λ (z : MessageValue). z.body) m ∙ last.hops_is in
     cc
 
-no-chain : (last : LoopPost) (rest : List LoopPost) → last.post.did.deed ≡ Acts (Post (Peer (peer_of 2)) (Message (loop_with 3))) → last.older ≡ [] → IsLoopChain (last ∷ rest) → ⊥
+no-chain : (last : LoopPost) (rest : List LoopPost) → last.post.did.deed ≡ Acts (Post (Peer (peer_of 2)) (Message (loop_with 3))) → last.older ≡ [] →
+    IsLoopChain (last ∷ rest) → ⊥
 no-chain last [] deed older c = (let k = hops-in last 3 deed in omega (arith, k, c))
 no-chain last (early ∷ others) deed older c = true≢false (sym (subst (λ h. is_some (heard (dids (of (node_of last.post) h))) ≡ true) older
     c.0.took))

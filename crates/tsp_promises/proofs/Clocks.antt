@@ -21,13 +21,15 @@ pub tick-mono : (setting : Setting) (n s t : ℕ) → s ≤ t → setting.tick n
 tick-mono setting n s t h = let m = near setting n s t h in m.mono
 
 -- the ticks between two true times
-pub ticks_over : (setting : Setting) (n a b : ℕ) → a ≤ b → (setting.tick n b ≤ setting.tick n a + (b - a) + width setting.drift (b - a)) × (setting.tick n a + (b - a) ≤ setting.tick n b + width setting.drift (b - a))
+pub ticks_over : (setting : Setting) (n a b : ℕ) → a ≤ b → (setting.tick n b ≤ setting.tick n a + (b - a) + width setting.drift (b - a)) ×
+    (setting.tick n a + (b - a) ≤ setting.tick n b + width setting.drift (b - a))
 ticks_over setting n a b o =
     let k = setting.ticks n in
     let e : a + (b - a) ≡ b = omega arith in
     let f = k.fast a (b - a) in
     let g = k.slow a (b - a) in
-    subst (λ w. (setting.tick n w ≤ setting.tick n a + (b - a) + width setting.drift (b - a)) × (setting.tick n a + (b - a) ≤ setting.tick n w + width setting.drift (b - a))) e
+    subst (λ w. (setting.tick n w ≤ setting.tick n a + (b - a) + width setting.drift (b - a)) ×
+    (setting.tick n a + (b - a) ≤ setting.tick n w + width setting.drift (b - a))) e
     (omega (arith, f), omega (arith, g))
 
 -- what one clock gains on another

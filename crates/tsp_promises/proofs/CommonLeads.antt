@@ -6,7 +6,8 @@ use Rattle.tsp_rules.specs.CommonRows.{arms_elect, searches, tells_ticket, follo
 use Rattle.tsp_rules.specs.SendRows.{next_number, begins, others_at, begins_to_others}
 use Rattle.tsp_rules.{specs.Guards.delay_at, specs.Guards.ticket_at, proofs.GuardFacts.MayStand, proofs.GuardFacts.back_is}
 use Rattle.tsp_rules.proofs.Asides.{now}
-use Rattle.tsp_base.specs.Words.{Did, Past, plain, Leads, boot_tick, ticket, MessageValue, Received, role, held, armed, stood, backers, grown, puts, ◌followed_by◌, for_each, arms, bare, post_of, posts, posts_to_others}
+use Rattle.tsp_base.specs.Words.{Did, Past, plain, Leads, boot_tick, ticket, MessageValue, Received, role, held, armed, stood, backers, grown, puts}
+use Rattle.tsp_base.specs.Words.{◌followed_by◌, for_each, arms, bare, post_of, posts, posts_to_others}
 use Rattle.tsp_base.proofs.LeadsLemmas.{Leads_then, Leads_reading, Leads_puts, Leads_each, Leads_from, Leads_to}
 use Rattle.tsp_promises.specs.{DeedFits.NumberedFits, HoldFits.BackFits}
 use Rattle.tsp_promises.proofs.{Known.Candidature, Known.During, Known.Free, Leaves.arm_search, Leaves.arm_elect, Leaves.arm_window}
@@ -18,7 +19,8 @@ module _ {P : ℕ → Past → Type 0} where
   unfolding arms_elect
   arms_elect_keeps k = Leads_reading delay_at (arms Elect) (λ long. Leads_arms Elect long (λ x past h. k x past (x + long) h.0))
 
-  pub tells_ticket_keeps : (p : PeerId) → ((x : ℕ) (past : Past) (n : ℕ) → n ≡ ticket (plain past.seen) → P x past → P x (grown x past (post_of SlaveUp n past.name p ∷ []))) → Leads P (tells_ticket p) P
+  pub tells_ticket_keeps : (p : PeerId) → ((x : ℕ) (past : Past) (n : ℕ) → n ≡ ticket (plain past.seen) → P x past →
+      P x (grown x past (post_of SlaveUp n past.name p ∷ []))) → Leads P (tells_ticket p) P
   unfolding tells_ticket
   tells_ticket_keeps p k = Leads_reading ticket_at (posts p SlaveUp) (λ n. Leads_posts p SlaveUp n (λ x past h. k x past n (sym h.1) h.0))
 
@@ -36,7 +38,8 @@ module _ {stirred owing acts : Bool} {follow : List PeerId} {T : Option Received
       (Leads_others MasterReq 0 (λ x past p h. post_message p (bare MasterReq 0 past.name) refl tt h))
 
 -- the port follows p
-pub follow_leads : {follow : List PeerId} {T : Option Received → Option Received → Type 0} (p : PeerId) → Leads (Quitting None follow T) (follow_row p) (FreeIn follow T (Follow p))
+pub follow_leads : {follow : List PeerId} {T : Option Received → Option Received → Type 0} (p : PeerId) →
+    Leads (Quitting None follow T) (follow_row p) (FreeIn follow T (Follow p))
 unfolding follow_row
 follow_leads p = Leads_then (puts (Become (Follow p))) (arms_elect followed_by tells_ticket p)
     (Leads_puts (Become (Follow p)) (λ x past h. become_follow p h))
@@ -44,7 +47,8 @@ follow_leads p = Leads_then (puts (Become (Follow p))) (arms_elect followed_by t
     (tells_ticket_keeps p (λ x past n e h. record { free = post_message p (bare SlaveUp n past.name) refl e h.free; role_is = h.role_is })))
 
 -- the port's next own number is no ticket
-pub own_number : {follow : List PeerId} {T : Option Received → Option Received → Type 0} (x : ℕ) (past : Past) (p : PeerId) (d : Did) (m : MessageValue) → During false true false follow true T x past → next_number x past ≡ m.number → NumberedFits d past.seen p m
+pub own_number : {follow : List PeerId} {T : Option Received → Option Received → Type 0} (x : ℕ) (past : Past) (p : PeerId) (d : Did) (m : MessageValue) →
+    During false true false follow true T x past → next_number x past ≡ m.number → NumberedFits d past.seen p m
 own_number x past p d m h e = record { number = omega (arith, e); next = λ begins. sym e; repeats = λ idle. absurd (true≢false (sym h.acting_is ∙ idle)) }
 
 module _ {T : Option Received → Option Received → Type 0} where
@@ -84,14 +88,18 @@ module _ {T : Option Received → Option Received → Type 0} where
       let h = c.0 in
       let m = bare Election n past.name in
       record {
-        free = post_election p m h.unbacked (record { numbered = own_number x past p (now x past (Post (Peer p) (Message m))) m h.free c.1; backs = h.free.backs }) h.free;
+        free = post_election p m h.unbacked (record {
+          numbered = own_number x past p (now x past (Post (Peer p) (Message m))) m h.free c.1;
+          backs = h.free.backs;
+        }) h.free;
         candidature = h.candidature;
         unbacked = h.unbacked;
       }))
 
   pub candidature_leads : Leads (Eligible T) candidature_row (FreeIn [] T Candidate)
   unfolding candidature_row backs_own begins_to_others
-  candidature_leads = Leads_then {Q = BackingItself T} (puts (Become Candidate)) (backs_own followed_by (arms Window WINDOW followed_by begins_to_others Election))
+  candidature_leads = Leads_then {Q = BackingItself T} (puts (Become Candidate)) (backs_own followed_by (arms Window WINDOW followed_by begins_to_others
+      Election))
       (Leads_puts (Become Candidate) (λ x past h.
       let long : boot_tick (plain past.seen) + ELECT_MIN ≤ x = let b = h.may.boot in let e = h.free.knows.times.boot_is in omega (arith, b, e) in
       record {
@@ -107,5 +115,10 @@ module _ {T : Option Received → Option Received → Type 0} where
       subst (λ a. Electing T x (grown x past (Back a ∷ []))) h.1
       (record { free = back_own b.shut b.back b.during; candidature = b.candidature; unbacked = b.unbacked }))))
       (Leads_then {Q = Electing T} (arms Window WINDOW) (begins_to_others Election)
-      (Leads_arms Window WINDOW (λ x past h. record { free = arm_window (x + WINDOW) h.candidature h.free; candidature = h.candidature; unbacked = h.unbacked }))
-      (Leads_reading others_at (for_each (begins Election)) (λ ps. Leads_from (λ x past h. h.0) (Leads_to (λ x past h. record { free = h.free; role_is = h.candidature.stands }) (Leads_each (begins Election) ps begins_election))))))
+      (Leads_arms Window WINDOW (λ x past h. record {
+        free = arm_window (x + WINDOW) h.candidature h.free;
+        candidature = h.candidature;
+        unbacked = h.unbacked;
+      }))
+      (Leads_reading others_at (for_each (begins Election)) (λ ps. Leads_from (λ x past h. h.0)
+      (Leads_to (λ x past h. record { free = h.free; role_is = h.candidature.stands }) (Leads_each (begins Election) ps begins_election))))))

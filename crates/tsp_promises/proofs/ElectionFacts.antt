@@ -1,8 +1,11 @@
 -- What a port has seen of its candidatures: when they began, who backed them, and which sends asked for votes.
-use Rattle.std.proofs.Common.{sym, ap, arith, subst, subst₂, inl, inr, eqb-true, true≢false, ◌∙◌, ◌≡◌, ◌⊎◌, ◌≤◌, ℕ, ◌+◌, ◌==◌, ◌&&◌, ◌||◌, cond, Bool, true, false, List, [], ◌∷◌, Option, None, Some, refl}
+use Rattle.std.proofs.Common.{sym, ap, arith, subst, subst₂, inl, inr, eqb-true, true≢false, ◌∙◌, ◌≡◌, ◌⊎◌, ◌≤◌, ℕ, ◌+◌, ◌==◌, ◌&&◌, ◌||◌, cond, Bool, true}
+use Rattle.std.proofs.Common.{false, List, [], ◌∷◌, Option, None, Some, refl}
 use Rattle.std.proofs.lemmas.Bool.{or_parts}
 use Rattle.tsp_rules.specs.Values.{Boot, Post, Become, Back, Backer, Acked, Gave, Message, Election, PeerId, Peer, Port}
-use Rattle.tsp_base.specs.Words.{Deed, Begins, Acts, Did, Line, Seen, Here, Elsewhere, of, dids, view, seen_as, did_of, is_shared, MessageValue, lives, lives_after, Within, held, held_after, acting, stood, stood_after, backers, backers_after, has_own_number, is_numbered, open_to, open_to_after, begun, begun_after, peer_of, Setup}
+use Rattle.tsp_base.specs.Words.{Deed, Begins, Acts, Did, Line, Seen, Here, Elsewhere, of, dids, view, seen_as, did_of, is_shared, MessageValue, lives}
+use Rattle.tsp_base.specs.Words.{lives_after, Within, held, held_after, acting, stood, stood_after, backers, backers_after, has_own_number, is_numbered}
+use Rattle.tsp_base.specs.Words.{open_to, open_to_after, begun, begun_after, peer_of, Setup}
 use Rattle.tsp_promises.specs.{Fits.node_of, HoldFits.BackerFits, Setting.Setting, Setting.setup_of}
 use Rattle.tsp_base.proofs.{PlaceLemmas.Within-comparable, ViewPlaces.port-same}
 use Rattle.tsp_promises.proofs.Elections.{In, in_among, not_among, ElectFits, Elects}
@@ -21,7 +24,8 @@ not-boot _ n e = refl
 pub boots_view : (q : Port) (own : List Line) → boots (view q own) ≡ lives (dids own)
 boots_view q [] = refl
 boots_view q (l ∷ own) = by-case ((l.port.0 == q.0) || is_shared l.did.deed) refl (boots_view q own) where
-  by-case : (b : Bool) → ((l.port.0 == q.0) || is_shared l.did.deed) ≡ b → boots (view q own) ≡ lives (dids own) → boots (seen_as b l.did ∷ view q own) ≡ lives_after l.did.deed (lives (dids own))
+  by-case : (b : Bool) → ((l.port.0 == q.0) || is_shared l.did.deed) ≡ b → boots (view q own) ≡ lives (dids own) → boots (seen_as b l.did ∷ view q own) ≡
+      lives_after l.did.deed (lives (dids own))
   by-case true e h = ap (lives_after l.did.deed) h
   by-case false e h = h ∙ sym (not-boot l.did.deed (lives (dids own)) ((or_parts (l.port.0 == q.0) (is_shared l.did.deed) e).1))
 
@@ -33,7 +37,8 @@ boots_mono s (Elsewhere d ∷ t) (inl e) = subst (λ w. boots w ≤ boots (Elsew
 boots_mono s (Elsewhere d ∷ t) (inr w) = boots_mono s t w
 
 -- the last change of the role
-stood-deed : (d : Did) (before : List Seen) (s : Seen) (i : List Seen) (deed : Deed) → deed ≡ d.deed → stood_after deed (Here d ∷ before) (stood before) ≡ s ∷ i →
+stood-deed : (d : Did) (before : List Seen) (s : Seen) (i : List Seen) (deed : Deed) → deed ≡ d.deed → stood_after deed (Here d ∷ before) (stood before) ≡ s ∷
+    i →
     ((Here d ∷ before ≡ s ∷ i) × (is_shared d.deed ≡ false)) ⊎ ((stood before ≡ s ∷ i) × (lives_after deed (boots before) ≡ boots before))
 stood-deed d before s i (Acts Boot) is e = nil-cons s i e
 stood-deed d before s i (Acts (Become r)) is e = inl (e, ap is_shared (sym is))
@@ -49,7 +54,12 @@ pub stood_at : (seen : List Seen) (s : Seen) (i : List Seen) → stood seen ≡ 
 stood_at [] s i e = nil-cons s i e
 stood_at (Elsewhere d ∷ before) s i e = let o = stood_at before s i e in record { place = inr o.place; life = o.life; own = o.own }
 stood_at (Here d ∷ before) s i e = elim (stood-deed d before s i d.deed refl e) [
-  | inl h ↦ record { place = inl (sym h.0); life = ap boots (sym h.0); own = (let k = h.0 in let head : Here d ≡ s = cc in subst (λ z. is_shared (did_of z).deed ≡ false) head h.1) }
+  | inl h ↦ record {
+    place = inl (sym h.0);
+    life = ap boots (sym h.0);
+    own = (let k = h.0 in let head : Here d ≡ s = cc in
+        subst (λ z. is_shared (did_of z).deed ≡ false) head h.1);
+  }
   | inr h ↦ let o = stood_at before s i h.0 in record { place = inr o.place; life = o.life ∙ sym h.1; own = o.own }
 ]
 
@@ -103,8 +113,10 @@ shared-elects who d before Begins e = tt
 shared-elects who d before (Acts Boot) e = tt
 shared-elects who d before _ e = absurd (true≢false (sym e))
 
-own-elects : (setting : Setting) (n : ℕ) (q : Port) (l : Line) (world : List Line) → node_of l ≡ n → (a : Bool) → (l.port.0 == q.0) ≡ a → (a || is_shared l.did.deed) ≡ true →
-    ElectFits (setup_of setting (node_of l) l.port) l.did.deed l.did (view l.port (of (node_of l) world)) → ElectFits (setup_of setting n q) l.did.deed l.did (view q (of n world))
+own-elects : (setting : Setting) (n : ℕ) (q : Port) (l : Line) (world : List Line) → node_of l ≡ n → (a : Bool) → (l.port.0 == q.0) ≡ a →
+    (a || is_shared l.did.deed) ≡ true →
+    ElectFits (setup_of setting (node_of l) l.port) l.did.deed l.did (view l.port (of (node_of l) world)) →
+    ElectFits (setup_of setting n q) l.did.deed l.did (view q (of n world))
 own-elects setting n q l world node true port e f =
     let same : l.port ≡ q = port-same l.port q port in
     subst₂ (λ m r. ElectFits (setup_of setting m r) l.did.deed l.did (view r (of m world))) node same f
@@ -113,11 +125,13 @@ own-elects setting n q l world node false port e f = shared-elects (setup_of set
 pub port_elects : (setting : Setting) (n : ℕ) (q : Port) (world : List Line) → Elects setting world → PortElects n (setup_of setting n q) (view q (of n world))
 port_elects setting n q [] f = tt
 port_elects setting n q (l ∷ world) f = by-node (node_of l == n) refl (port_elects setting n q world f.1) where
-  by-port : (c : Bool) → ((l.port.0 == q.0) || is_shared l.did.deed) ≡ c → node_of l ≡ n → PortElects n (setup_of setting n q) (view q (of n world)) → PortElects n (setup_of setting n q) (seen_as c l.did ∷ view q (of n world))
+  by-port : (c : Bool) → ((l.port.0 == q.0) || is_shared l.did.deed) ≡ c → node_of l ≡ n → PortElects n (setup_of setting n q) (view q (of n world)) →
+      PortElects n (setup_of setting n q) (seen_as c l.did ∷ view q (of n world))
   by-port true e node h = ((node, own-elects setting n q l world node (l.port.0 == q.0) refl e f.0), h)
   by-port false e node h = h
 
-  by-node : (b : Bool) → (node_of l == n) ≡ b → PortElects n (setup_of setting n q) (view q (of n world)) → PortElects n (setup_of setting n q) (view q (of n (l ∷ world)))
+  by-node : (b : Bool) → (node_of l == n) ≡ b → PortElects n (setup_of setting n q) (view q (of n world)) →
+      PortElects n (setup_of setting n q) (view q (of n (l ∷ world)))
   by-node true e h = rw e (by-port ((l.port.0 == q.0) || is_shared l.did.deed) refl (eqb-true (node_of l) n e) h)
   by-node false e h = rw e h
 
@@ -131,10 +145,21 @@ pub record BackerAt (n : ℕ) (who : Setup) (p : PeerId) (seen : List Seen) : Ty
   pub fits : BackerFits who did before p
   pub same : stood before ≡ stood seen
 
-later-backer : (n : ℕ) (who : Setup) (p : PeerId) (d : Did) (seen : List Seen) → stood_after d.deed (Here d ∷ seen) (stood seen) ≡ stood seen → BackerAt n who p seen → BackerAt n who p (Here d ∷ seen)
-later-backer n who p d seen role h = record { did = h.did; before = h.before; place = inr h.place; deed = h.deed; node = h.node; fits = h.fits; same = h.same ∙ sym role }
+later-backer : (n : ℕ) (who : Setup) (p : PeerId) (d : Did) (seen : List Seen) → stood_after d.deed (Here d ∷ seen) (stood seen) ≡ stood seen →
+    BackerAt n who p seen → BackerAt n who p (Here d ∷ seen)
+later-backer n who p d seen role h = record {
+  did = h.did;
+  before = h.before;
+  place = inr h.place;
+  deed = h.deed;
+  node = h.node;
+  fits = h.fits;
+  same = h.same ∙
+      sym role;
+}
 
-backer-deed : (n : ℕ) (who : Setup) (p : PeerId) (d : Did) (seen : List Seen) (deed : Deed) → deed ≡ d.deed → d.step.node ≡ n → ElectFits who deed d seen → In p (backers_after deed (backers seen)) → (In p (backers seen) → BackerAt n who p seen) → BackerAt n who p (Here d ∷ seen)
+backer-deed : (n : ℕ) (who : Setup) (p : PeerId) (d : Did) (seen : List Seen) (deed : Deed) → deed ≡ d.deed → d.step.node ≡ n → ElectFits who deed d seen →
+    In p (backers_after deed (backers seen)) → (In p (backers seen) → BackerAt n who p seen) → BackerAt n who p (Here d ∷ seen)
 backer-deed n who p d seen (Acts Boot) is node f i h = absurd i
 backer-deed n who p d seen (Acts (Become r)) is node f i h = absurd i
 backer-deed n who p d seen (Acts (Backer r)) is node f (inl e) h = record {
@@ -146,12 +171,21 @@ backer-deed n who p d seen (Acts (Backer r)) is node f (inl e) h = record {
   fits = subst (λ z. BackerFits who d seen z) e f;
   same = ap (λ k. stood_after k (Here d ∷ seen) (stood seen)) is;
 }
-backer-deed n who p d seen (Acts (Backer r)) is node f (inr i) h = later-backer n who p d seen (ap (λ k. stood_after k (Here d ∷ seen) (stood seen)) (sym is)) (h i)
+backer-deed n who p d seen (Acts (Backer r)) is node f (inr i) h = later-backer n who p d seen (ap (λ k. stood_after k (Here d ∷ seen) (stood seen)) (sym is))
+    (h i)
 backer-deed n who p d seen _ is node f i h = later-backer n who p d seen (ap (λ k. stood_after k (Here d ∷ seen) (stood seen)) (sym is)) (h i)
 
 pub backer_at : (n : ℕ) (who : Setup) (p : PeerId) (seen : List Seen) → PortElects n who seen → In p (backers seen) → BackerAt n who p seen
 backer_at n who p [] f i = absurd i
-backer_at n who p (Elsewhere d ∷ seen) f i = let h = backer_at n who p seen f i in record { did = h.did; before = h.before; place = inr h.place; deed = h.deed; node = h.node; fits = h.fits; same = h.same }
+backer_at n who p (Elsewhere d ∷ seen) f i = let h = backer_at n who p seen f i in record {
+  did = h.did;
+  before = h.before;
+  place = inr h.place;
+  deed = h.deed;
+  node = h.node;
+  fits = h.fits;
+  same = h.same;
+}
 backer_at n who p (Here d ∷ seen) f i = backer-deed n who p d seen d.deed refl f.0.0 f.0.1 i (λ k. backer_at n who p seen f.1 k)
 
 -- the backers are different peers, and none is the node itself
@@ -160,7 +194,8 @@ pub record Voters (n : ℕ) (who : Setup) (ps : List PeerId) : Type 0 where
   pub peers : AllIn ps who.peers
   pub others : In (peer_of n) ps → ⊥
 
-voters-deed : (n : ℕ) (who : Setup) (d : Did) (seen : List Seen) (deed : Deed) → d.step.node ≡ n → ElectFits who deed d seen → Voters n who (backers seen) → Voters n who (backers_after deed (backers seen))
+voters-deed : (n : ℕ) (who : Setup) (d : Did) (seen : List Seen) (deed : Deed) → d.step.node ≡ n → ElectFits who deed d seen → Voters n who (backers seen) →
+    Voters n who (backers_after deed (backers seen))
 voters-deed n who d seen (Acts Boot) node f h = record { distinct = tt; peers = tt; others = λ i. i }
 voters-deed n who d seen (Acts (Become r)) node f h = record { distinct = tt; peers = tt; others = λ i. i }
 voters-deed n who d seen (Acts (Backer r)) node f h = record {
@@ -194,7 +229,8 @@ abbrev pub peer-in : Option (ℕ × PeerId) → PeerId
 peer-in None = peer_of 0
 peer-in (Some o) = o.1
 
-held-deed : (t : ℕ) (p : PeerId) (d : Did) (seen : List Seen) (deed : Deed) → deed ≡ d.deed → (held_after deed d.tick (held seen)).back ≡ Some (t, p) → ((held seen).back ≡ Some (t, p) → HeldAt t p seen) → HeldAt t p (Here d ∷ seen)
+held-deed : (t : ℕ) (p : PeerId) (d : Did) (seen : List Seen) (deed : Deed) → deed ≡ d.deed → (held_after deed d.tick (held seen)).back ≡ Some (t, p) →
+    ((held seen).back ≡ Some (t, p) → HeldAt t p seen) → HeldAt t p (Here d ∷ seen)
 held-deed t p d seen (Acts Boot) is e h = let bad : ⊥ = cc in absurd bad
 held-deed t p d seen (Acts (Back r)) is e h = record {
   did = d;
@@ -248,7 +284,8 @@ pub asks_life : (p : PeerId) (f : Did) (o : List Seen) → Asks p f o → boots 
 asks_life p f o a = rw a.deed refl
 
 -- in one life two ELECTIONs that begin after as many sends are one
-pub one_asking : (p : PeerId) (g f : Did) (go fo seen : List Seen) → Asks p g go → Asks p f fo → Within (Here g ∷ go) seen → Within (Here f ∷ fo) seen → boots (Here g ∷ go) ≡ boots (Here f ∷ fo) → begun go ≡ begun fo → Here g ∷ go ≡ Here f ∷ fo
+pub one_asking : (p : PeerId) (g f : Did) (go fo seen : List Seen) → Asks p g go → Asks p f fo → Within (Here g ∷ go) seen → Within (Here f ∷ fo) seen →
+    boots (Here g ∷ go) ≡ boots (Here f ∷ fo) → begun go ≡ begun fo → Here g ∷ go ≡ Here f ∷ fo
 one_asking p g f go fo seen a b v w life same = elim (Within-comparable (Here g ∷ go) (Here f ∷ fo) seen v w) [
   | inl (inl e) ↦ e
   | inl (inr i) ↦ absurd (let k = begun_mono (Here g ∷ go) fo i (life ∙ asks_life p f fo b) in let n = begun_asks p g go a in omega (arith, k, n, same))

@@ -1,6 +1,7 @@
 -- What a deed owes to elections, and why two lists of different peers that are longer together than the list of all
 -- have one in common.
-use Rattle.std.proofs.Common.{sym, inl, inr, true≢false, eq-eqb, ◌∙◌, ◌≡◌, ◌⊎◌, ℕ, ◌+◌, ◌%◌, ◌==◌, true, false, List, [], ◌∷◌, refl, ap, arith, ◌≤◌, ◌<◌, Bool, ◌||◌, if◌then◌else◌, length}
+use Rattle.std.proofs.Common.{sym, inl, inr, true≢false, eq-eqb, ◌∙◌, ◌≡◌, ◌⊎◌, ℕ, ◌+◌, ◌%◌, ◌==◌, true, false, List, [], ◌∷◌, refl, ap, arith, ◌≤◌, ◌<◌, Bool}
+use Rattle.std.proofs.Common.{◌||◌, if◌then◌else◌, length}
 use Rattle.std.proofs.{Math.Bool.or-true, lemmas.Bool.or_cases}
 use Rattle.tsp_rules.specs.Values.{Post, Become, Backer, Message, Kind, Accept, Election, PeerId, Peer, Master}
 use Rattle.tsp_rules.proofs.GuardFacts.{same_peer}
@@ -45,7 +46,8 @@ ElectFits who (Acts (Backer p)) here before = BackerFits who here before p
 ElectFits who (Acts (Become Master)) here before = LeadFits who here before
 ElectFits who _ here before = Unit {0}
 
-vote-fits : (who : Setup) (k : Kind) (here : Did) (before : List Seen) (p : PeerId) (m : MessageValue) → MessageFits who k here before p m → VoteFits k before p m
+vote-fits : (who : Setup) (k : Kind) (here : Did) (before : List Seen) (p : PeerId) (m : MessageValue) → MessageFits who k here before p m →
+    VoteFits k before p m
 vote-fits who Election here before p m f = record { next = f.numbered.next }
 vote-fits who Accept here before p m f = f
 vote-fits who _ here before p m f = tt
@@ -65,7 +67,11 @@ Elects setting = Everywhere (ElectsAt setting)
 
 pub elects : (setting : Setting) (world : List Line) → Fits setting world → Elects setting world
 elects setting [] f = tt
-elects setting (l ∷ world) f = (elect-fits (setup_of setting (node_of l) l.port) l.did.deed l.did (view l.port (of (node_of l) world)) (deed_fits setting l world l.did.deed refl f.0), elects setting world f.1)
+elects setting (l ∷ world) f = (
+  elect-fits (setup_of setting (node_of l) l.port) l.did.deed l.did (view l.port (of (node_of l) world))
+      (deed_fits setting l world l.did.deed refl f.0),
+  elects setting world f.1,
+)
 
 -- no peer stands twice
 abbrev pub Distinct : List PeerId → Type 0
@@ -141,7 +147,8 @@ shared-or-few xs ys (z ∷ all) = elim (shared-or-few xs ys all) [
   | inr h ↦ by-case (among xs z) (among ys z) refl refl h
 ] where
   by-case : (a b : Bool) → among xs z ≡ a → among ys z ≡ b → counted (among xs) all + counted (among ys) all ≤ length all →
-      Shared xs ys ⊎ ((if a then counted (among xs) all + 1 else counted (among xs) all) + (if b then counted (among ys) all + 1 else counted (among ys) all) ≤ length (z ∷ all))
+      Shared xs ys ⊎ ((if a then counted (among xs) all + 1 else counted (among xs) all) + (if b then counted (among ys) all + 1 else counted (among ys) all) ≤
+      length (z ∷ all))
   by-case true true a b h = inl (record { peer = z; one = found-in xs z a; two = found-in ys z b })
   by-case true false a b h = inr (omega (arith, h))
   by-case false true a b h = inr (omega (arith, h))

@@ -1,5 +1,6 @@
 -- What is known of a port while another port of its node acts.
-use Rattle.std.proofs.Common.{sym, subst, arith, true≢false, ◌≡◌, ℕ, Bool, true, false, List, [], ◌∷◌, Option, None, refl, inl, inr, ◌⊎◌, if◌then◌else◌, append-nil, ◌∙◌, ◌++◌, Some, is_some}
+use Rattle.std.proofs.Common.{sym, subst, arith, true≢false, ◌≡◌, ℕ, Bool, true, false, List, [], ◌∷◌, Option, None, refl, inl, inr, ◌⊎◌, if◌then◌else◌}
+use Rattle.std.proofs.Common.{append-nil, ◌∙◌, ◌++◌, Some, is_some}
 use Rattle.std.proofs.lemmas.Bool.{or_parts, and_parts}
 use Rattle.tsp_rules.specs.Values.{Act, Boot, Took, Post, Abandon, Correct, Stranger}
 use Rattle.tsp_rules.specs.RoundRows.{is_correct, corrects, abandons, abandons_going, upsetting}
@@ -50,7 +51,17 @@ fresh-aside : {stirred : Bool} (x : ℕ) (past : Past) (a : Act) → is_still a 
 fresh-aside x past Boot e h = absurd (true≢false (sym e))
 fresh-aside x past (Took from t) e h = absurd (true≢false (sym e))
 fresh-aside x past (Correct amount stepped shown) e h = absurd (true≢false (sym e))
-fresh-aside x past _ e h = record { own = h.own; fits = h.fits; knows = h.knows; rested = h.rested; backs = h.backs; owed = h.owed; paid = h.paid; acting_is = h.acting_is; took = h.took }
+fresh-aside x past _ e h = record {
+  own = h.own;
+  fits = h.fits;
+  knows = h.knows;
+  rested = h.rested;
+  backs = h.backs;
+  owed = h.owed;
+  paid = h.paid;
+  acting_is = h.acting_is;
+  took = h.took;
+}
 
 fresh-moved : (x : ℕ) (past : Past) (a : Act) → is_correct a ≡ true → FreshIn true x past → FreshIn true x (aside x past a)
 fresh-moved x past (Correct amount stepped shown) e h = record {
@@ -71,19 +82,49 @@ pub fresh_family : Family FreshIn
 fresh_family = record {
   still = fresh-aside;
   moved = fresh-moved;
-  weaken = λ x past h. record { own = h.own; fits = h.fits; knows = stirring x past h.knows; rested = h.rested; backs = h.backs; owed = h.owed; paid = h.paid; acting_is = h.acting_is; took = h.took };
+  weaken = λ x past h. record {
+    own = h.own;
+    fits = h.fits;
+    knows = stirring x past h.knows;
+    rested = h.rested;
+    backs = h.backs;
+    owed = h.owed;
+    paid = h.paid;
+    acting_is = h.acting_is;
+    took = h.took;
+  };
   abandons = λ x past h. abandon h;
-  shut = λ x past e h. record { own = h.own; fits = h.fits; knows = calmed x past.own past.seen e h.knows; rested = h.rested; backs = h.backs; owed = h.owed; paid = h.paid; acting_is = h.acting_is; took = h.took };
+  shut = λ x past e h. record {
+    own = h.own;
+    fits = h.fits;
+    knows = calmed x past.own past.seen e h.knows;
+    rested = h.rested;
+    backs = h.backs;
+    owed = h.owed;
+    paid = h.paid;
+    acting_is = h.acting_is;
+    took = h.took;
+  };
 }
 
-open-aside : {stirred : Bool} {T : Option Received → Option Received → Type 0} (x : ℕ) (past : Past) (a : Act) → is_still a ≡ true → OpenIn stirred T x past → OpenIn stirred T x (aside x past a)
+open-aside : {stirred : Bool} {T : Option Received → Option Received → Type 0} (x : ℕ) (past : Past) (a : Act) → is_still a ≡ true → OpenIn stirred T x past →
+    OpenIn stirred T x (aside x past a)
 open-aside x past Boot e h = absurd (true≢false (sym e))
 open-aside x past (Took from t) e h = absurd (true≢false (sym e))
 open-aside x past (Correct amount stepped shown) e h = absurd (true≢false (sym e))
 open-aside x past _ e h = record { own = h.own; fits = h.fits; knows = h.knows; backs = h.backs; owed = h.owed; paid = h.paid; took = h.took }
 
-open-moved : {T : Option Received → Option Received → Type 0} (x : ℕ) (past : Past) (a : Act) → is_correct a ≡ true → OpenIn true T x past → OpenIn true T x (aside x past a)
-open-moved x past (Correct amount stepped shown) e h = record { own = h.own; fits = h.fits; knows = knows-moved x past (Correct amount stepped shown) e h.knows; backs = h.backs; owed = h.owed; paid = h.paid; took = h.took }
+open-moved : {T : Option Received → Option Received → Type 0} (x : ℕ) (past : Past) (a : Act) → is_correct a ≡ true → OpenIn true T x past →
+    OpenIn true T x (aside x past a)
+open-moved x past (Correct amount stepped shown) e h = record {
+  own = h.own;
+  fits = h.fits;
+  knows = knows-moved x past (Correct amount stepped shown) e h.knows;
+  backs = h.backs;
+  owed = h.owed;
+  paid = h.paid;
+  took = h.took;
+}
 open-moved x past _ e h = absurd (true≢false (sym e))
 
 -- after its turn
@@ -92,8 +133,24 @@ open_family = record {
   still = open-aside;
   moved = open-moved;
   weaken = λ x past h. record { own = h.own; fits = h.fits; knows = stirring x past h.knows; backs = h.backs; owed = h.owed; paid = h.paid; took = h.took };
-  abandons = λ x past h. record { own = h.own; fits = (tt, h.fits); knows = abandoned x past h.knows; backs = h.backs; owed = h.owed; paid = h.paid; took = h.took };
-  shut = λ x past e h. record { own = h.own; fits = h.fits; knows = calmed x past.own past.seen e h.knows; backs = h.backs; owed = h.owed; paid = h.paid; took = h.took };
+  abandons = λ x past h. record {
+    own = h.own;
+    fits = (tt, h.fits);
+    knows = abandoned x past h.knows;
+    backs = h.backs;
+    owed = h.owed;
+    paid = h.paid;
+    took = h.took;
+  };
+  shut = λ x past e h. record {
+    own = h.own;
+    fits = h.fits;
+    knows = calmed x past.own past.seen e h.knows;
+    backs = h.backs;
+    owed = h.owed;
+    paid = h.paid;
+    took = h.took;
+  };
 }
 
 pub rests_aside : {stirred : Bool} (x : ℕ) (past : Past) (a : Act) → is_apart a ≡ true → RestsIn stirred x past → RestsIn stirred x (aside x past a)
@@ -102,7 +159,13 @@ rests_aside x past (Correct amount stepped shown) e h = absurd (true≢false (sy
 rests_aside x past _ e h = record { fits = h.fits; knows = h.knows; backs = h.backs; follows = h.follows; paid = h.paid }
 
 rests-moved : (x : ℕ) (past : Past) (a : Act) → is_correct a ≡ true → RestsIn true x past → RestsIn true x (aside x past a)
-rests-moved x past (Correct amount stepped shown) e h = record { fits = h.fits; knows = knows-moved x past (Correct amount stepped shown) e h.knows; backs = h.backs; follows = h.follows; paid = h.paid }
+rests-moved x past (Correct amount stepped shown) e h = record {
+  fits = h.fits;
+  knows = knows-moved x past (Correct amount stepped shown) e h.knows;
+  backs = h.backs;
+  follows = h.follows;
+  paid = h.paid;
+}
 rests-moved x past _ e h = absurd (true≢false (sym e))
 
 -- at the end of the step; a taking elsewhere changes nothing then
@@ -148,18 +211,21 @@ calm_still strange (a ∷ rest) e n =
 
 module _ {S : Bool → ℕ → Past → Type 0} (family : Family S) where
   -- calm acts elsewhere that don't move the clock
-  pub kept_aside : (strange : Bool) {stirred : Bool} (x : ℕ) (past : Past) (acts : List Act) → is_calm strange false acts ≡ true → S stirred x past → S stirred x (all_aside x past acts)
+  pub kept_aside : (strange : Bool) {stirred : Bool} (x : ℕ) (past : Past) (acts : List Act) → is_calm strange false acts ≡ true → S stirred x past →
+      S stirred x (all_aside x past acts)
   kept_aside strange x past [] e h = h
   kept_aside strange x past (a ∷ rest) e h =
       let both = and_parts (is_calm_act strange false a) (is_calm strange false rest) e in
       kept_aside strange x (aside x past a) rest both.1 (family.still x past a (calm-apart strange false a both.0 (calm-correct strange a both.0)) h)
 
-  step-moved : (strange : Bool) (x : ℕ) (past : Past) (a : Act) → is_calm_act strange true a ≡ true → (b : Bool) → is_correct a ≡ b → S true x past → S true x (aside x past a)
+  step-moved : (strange : Bool) (x : ℕ) (past : Past) (a : Act) → is_calm_act strange true a ≡ true → (b : Bool) → is_correct a ≡ b → S true x past →
+      S true x (aside x past a)
   step-moved strange x past a e true c h = family.moved x past a c h
   step-moved strange x past a e false c h = family.still x past a (calm-apart strange true a e c) h
 
   -- calm acts elsewhere, of which some may move it
-  pub moved_aside : (strange : Bool) (x : ℕ) (past : Past) (acts : List Act) → is_calm strange true acts ≡ true → S true x past → S true x (all_aside x past acts)
+  pub moved_aside : (strange : Bool) (x : ℕ) (past : Past) (acts : List Act) → is_calm strange true acts ≡ true → S true x past →
+      S true x (all_aside x past acts)
   moved_aside strange x past [] e h = h
   moved_aside strange x past (a ∷ rest) e h =
       let both = and_parts (is_calm_act strange true a) (is_calm strange true rest) e in
@@ -181,7 +247,8 @@ upsets_of l = record { run = λ x past h. inl (l.run x past h) }
 pub upsets_from : {dates : Bool} {P Q : ℕ → Past → Type 0} {row : Row} → ((x : ℕ) (past : Past) → P x past → Q x past) → Upsets dates Q row → Upsets dates P row
 upsets_from k u = record { run = λ x past h. u.run x past (k x past h) }
 
-pub upsets_either : {dates : Bool} {P : ℕ → Past → Type 0} (test : ℕ → Past → Bool) (r s : Row) → Upsets dates (λ x past. P x past × (test x past ≡ true)) r → Upsets dates (λ x past. P x past × (test x past ≡ false)) s → Upsets dates P (either_by test r s)
+pub upsets_either : {dates : Bool} {P : ℕ → Past → Type 0} (test : ℕ → Past → Bool) (r s : Row) → Upsets dates (λ x past. P x past × (test x past ≡ true)) r →
+    Upsets dates (λ x past. P x past × (test x past ≡ false)) s → Upsets dates P (either_by test r s)
 unfolding either_by
 upsets_either test r s u v = record { run = λ x past h. by_case r s x past (test x past) (λ e. u.run x past (h, e)) (λ e. v.run x past (h, e)) } where
   by_case : {dates : Bool} (r s : Row) (x : ℕ) (past : Past) (b : Bool) → (b ≡ true → Upset dates x past (r x past)) →
@@ -190,7 +257,8 @@ upsets_either test r s u v = record { run = λ x past h. by_case r s x past (tes
   by_case r s x past true f g = f refl
   by_case r s x past false f g = g refl
 
-pub upsets_reading : {dates : Bool} {A : Type 0} {P : ℕ → Past → Type 0} (fact : ℕ → Past → A) (rows : A → Row) → ((a : A) → Upsets dates (λ x past. P x past × (fact x past ≡ a)) (rows a)) → Upsets dates P (reading fact rows)
+pub upsets_reading : {dates : Bool} {A : Type 0} {P : ℕ → Past → Type 0} (fact : ℕ → Past → A) (rows : A → Row) →
+    ((a : A) → Upsets dates (λ x past. P x past × (fact x past ≡ a)) (rows a)) → Upsets dates P (reading fact rows)
 unfolding reading
 upsets_reading fact rows k = record { run = λ x past h. (k (fact x past)).run x past (h, refl) }
 
@@ -214,7 +282,13 @@ unfolding abandons_going either_by abandons puts nothing
 rests_abandon x past h = by_case (is_going past.seen) refl where
   by_case : (b : Bool) → is_going past.seen ≡ b → Rests x (grown x past (if b then Abandon ∷ [] else []))
   by_case true e = record { fits = (tt, h.fits); knows = abandoned x past h.knows; backs = h.backs; follows = h.follows; paid = h.paid }
-  by_case false e = record { fits = h.fits; knows = calmed x past.own past.seen (shut_of (armed past.seen).close e) h.knows; backs = h.backs; follows = h.follows; paid = h.paid }
+  by_case false e = record {
+    fits = h.fits;
+    knows = calmed x past.own past.seen (shut_of (armed past.seen).close e) h.knows;
+    backs = h.backs;
+    follows = h.follows;
+    paid = h.paid;
+  }
 
 -- a row after which the port's own round is given up, where it has corrected the clock
 pub upsetting_lead : {dates : Bool} {P : ℕ → Past → Type 0} (row : Row) → Upsets dates P row → Leads P (upsetting row) Rests

@@ -1,5 +1,6 @@
 -- How far a clock is behind its master's after a SETTIME.
-use Rattle.std.proofs.Common.{sym, ap, arith, subst, subst₂, mul-le-mul_left, ◌∙◌, ◌≡◌, ◌≤◌, ◌≤ℤ◌, ℕ, ◌+◌, ◌-◌, ◌*◌, ℤ, pos, ◌+ℤ◌, ◌-ℤ◌, nat_abs, true, List, ◌∷◌, refl}
+use Rattle.std.proofs.Common.{sym, ap, arith, subst, subst₂, mul-le-mul_left, ◌∙◌, ◌≡◌, ◌≤◌, ◌≤ℤ◌, ℕ, ◌+◌, ◌-◌, ◌*◌, ℤ, pos, ◌+ℤ◌, ◌-ℤ◌, nat_abs, true, List}
+use Rattle.std.proofs.Common.{◌∷◌, refl}
 use Rattle.std.proofs.lemmas.Int.{ints}
 use Rattle.tsp_rules.specs.Values.{Message, Peer, LAST, LIFE}
 use Rattle.tsp_base.specs.Words.{Did, Line, of, dids, plain, view, target, up, Within, Undisturbed, peer_of, time_in, width}
@@ -8,7 +9,8 @@ use Rattle.tsp_promises.specs.FirstSet.{BehindAtOnce, BehindBy, FirstSet, FirstS
 use Rattle.tsp_base.proofs.{PlaceLemmas.Within-through, PlaceLemmas.Within-tail, Views.plain_view}
 use Rattle.tsp_promises.proofs.{ClockProof.post_up, Clocks.tick-mono, Clocks.ticks_over, TakingProof.begun_facts}
 use Rattle.tsp_promises.{proofs.EverywhereLemmas.Everywhere-from, proofs.EverywhereLemmas.Everywhere-within, specs.Setting.Setting}
-use Rattle.tsp_promises.proofs.{OwnFitsProof.fits_in, HistoryPlaces.line_on, OwnFitsProof.tick_in, ClockProof.offset, MasterMoved.offset_corrected, MasterMoved.offset_kept}
+use Rattle.tsp_promises.proofs.{OwnFitsProof.fits_in, HistoryPlaces.line_on, OwnFitsProof.tick_in, ClockProof.offset, MasterMoved.offset_corrected}
+use Rattle.tsp_promises.proofs.{MasterMoved.offset_kept}
 use Rattle.tsp_promises.proofs.{OwnFitsProof.fits_at, OwnFitsProof.place-time, ClockProof.clock_target, ClockProof.stays_up}
 
 -- what the clock is behind by, in ticks of both nodes
@@ -18,7 +20,8 @@ core master time before after amount tf tm tc tk e f g = omega (arith, ints)
 
 -- where a SETTIME and its Correct stand, and what the clock is behind by then
 record Set (setting : Setting) (m : ℕ) (c : Line) (past h : List Line) (s : SetBy m c past h) : Type 0 where
-  pub gap : (t : ℕ) → behind setting m c h t ≡ (pos (setting.tick m t) -ℤ pos (setting.tick m s.taking.first.step.at)) -ℤ (pos (setting.tick (node_of c) t) -ℤ pos (setting.tick (node_of c) c.did.step.at))
+  pub gap : (t : ℕ) → behind setting m c h t ≡ (pos (setting.tick m t) -ℤ pos (setting.tick m s.taking.first.step.at)) -ℤ
+      (pos (setting.tick (node_of c) t) -ℤ pos (setting.tick (node_of c) c.did.step.at))
   pub order : s.taking.first.step.at ≤ s.taking.post.did.step.at
   pub after : s.taking.post.did.step.at ≤ c.did.step.at
   pub ticks : setting.tick m s.taking.post.did.step.at ≤ setting.tick m s.taking.first.step.at + LAST
@@ -40,12 +43,14 @@ set setting m c past h f s =
     let node : d.begins.first.step.node ≡ m = d.begins.node ∙ t.node in
     let begun : plain t.begun ≡ dids (of m fw) = ap plain (sym d.begun_is) ∙ plain_view q (of m fw) in
     -- the master
-    let m_up : up (dids (of m fw)) ≡ true = subst (λ n. up (dids (of n fw)) ≡ true) node (post_up setting line fw (Peer (peer_of k)) (Message t.acts.brings.message) (fits_in setting line fw h f line_h) d.begins.sends.deed) in
+    let m_up : up (dids (of m fw)) ≡ true = subst (λ n. up (dids (of n fw)) ≡ true) node
+    (post_up setting line fw (Peer (peer_of k)) (Message t.acts.brings.message) (fits_in setting line fw h f line_h) d.begins.sends.deed) in
     let m_now : up (dids (of m h)) ≡ true = stays_up m fw h fw_h m_up in
     let m_left : Undisturbed (dids (of m fw)) (dids (of m h)) = subst (λ b. Undisturbed b (dids (of m h))) begun s.unchanged_master in
     let m_same = offset_kept setting m fw h f fw_h m_left in
     let f_at : d.begins.first.step.at ≡ t.first.step.at = ap (λ (z : Did). z.step.at) d.first_is in
-    let f_tick : t.first.tick ≡ setting.tick m t.first.step.at = subst (λ (z : Did). z.tick ≡ setting.tick m z.step.at) d.first_is (tick_in setting m line fw h f node line_h) in
+    let f_tick : t.first.tick ≡ setting.tick m t.first.step.at = subst (λ (z : Did). z.tick ≡ setting.tick m z.step.at) d.first_is
+    (tick_in setting m line fw h f node line_h) in
     let time : time_in t.acts.brings.message.body ≡ offset setting m h +ℤ pos (setting.tick m t.first.step.at) =
     ((d.fits.sets s.sets).time ∙ subst₂ (λ b x. target (plain t.begun) t.first.tick ≡ target b x) begun f_tick refl)
     ∙ (sym (clock_target setting m fw t.first.step.at (fits_at setting fw h f fw_h) m_up) ∙ ap (λ z. z +ℤ pos (setting.tick m t.first.step.at)) m_same) in
@@ -54,9 +59,11 @@ set setting m c past h f s =
     let seen : plain (view c.port (of k past)) ≡ dids (of k past) = plain_view c.port (of k past) in
     let amount : t.acts.amount ≡ time_in t.acts.brings.message.body -ℤ (offset setting k past +ℤ pos (setting.tick k c.did.step.at)) =
     d.acting.takes.amount_is ∙ (ap (λ z. amount_of z (time_in t.acts.brings.message.body) (target (plain (view c.port (of k past))) c.did.tick)) s.sets
-    ∙ ap (λ z. time_in t.acts.brings.message.body -ℤ z) (subst₂ (λ b x. target (plain (view c.port (of k past))) c.did.tick ≡ target b x) seen fc.0.tick refl ∙ sym (clock_target setting k past c.did.step.at fc.1 k_up))) in
+    ∙ ap (λ z. time_in t.acts.brings.message.body -ℤ z) (subst₂ (λ b x. target (plain (view c.port (of k past))) c.did.tick ≡ target b x) seen fc.0.tick refl ∙
+    sym (clock_target setting k past c.did.step.at fc.1 k_up))) in
     let k_now : offset setting k h ≡ offset setting k past +ℤ t.acts.amount =
-    sym (offset_kept setting k (c ∷ past) h f s.unchanged.within s.unchanged.since) ∙ offset_corrected setting c past t.acts.amount t.acts.stepped t.acts.shown t.acts.correct in
+    sym (offset_kept setting k (c ∷ past) h f s.unchanged.within s.unchanged.since) ∙
+    offset_corrected setting c past t.acts.amount t.acts.stepped t.acts.shown t.acts.correct in
     let post_tick : t.post.did.tick ≡ setting.tick m t.post.did.step.at = tick_in setting m t.post t.before past fc.1 t.node post_in in
     let after = place-time setting (t.post ∷ t.before) past fc.1 post_in in
     record {
@@ -67,10 +74,12 @@ set setting m c past h f s =
       ticks = (let o = d.begins.ticks in let e = ap (λ (z : Did). z.tick) d.first_is in omega (arith, e, f_tick, post_tick));
     }
 
-low-sum : (b : ℤ) (tm tf tk tc t f c v w : ℕ) → b ≡ (pos tm -ℤ pos tf) -ℤ (pos tk -ℤ pos tc) → f ≤ c → c ≤ t → tf + (t - f) ≤ tm + v → tk ≤ tc + (t - c) + w → (pos (c - f) -ℤ pos (v + w)) ≤ℤ b
+low-sum : (b : ℤ) (tm tf tk tc t f c v w : ℕ) → b ≡ (pos tm -ℤ pos tf) -ℤ (pos tk -ℤ pos tc) → f ≤ c → c ≤ t → tf + (t - f) ≤ tm + v → tk ≤ tc + (t - c) + w →
+    (pos (c - f) -ℤ pos (v + w)) ≤ℤ b
 low-sum b tm tf tk tc t f c v w e o p x y = rw e (omega (arith, ints))
 
-high-sum : (b : ℤ) (tm tf tk tc t f c v w : ℕ) → b ≡ (pos tm -ℤ pos tf) -ℤ (pos tk -ℤ pos tc) → f ≤ c → c ≤ t → tm ≤ tf + (t - f) + v → tc + (t - c) ≤ tk + w → b ≤ℤ pos (c - f + (v + w))
+high-sum : (b : ℤ) (tm tf tk tc t f c v w : ℕ) → b ≡ (pos tm -ℤ pos tf) -ℤ (pos tk -ℤ pos tc) → f ≤ c → c ≤ t → tm ≤ tf + (t - f) + v → tc + (t - c) ≤ tk + w →
+    b ≤ℤ pos (c - f + (v + w))
 high-sum b tm tf tk tc t f c v w e o p x y = rw e (omega (arith, ints))
 
 both-sides : (b : ℤ) (n w : ℕ) → (pos n -ℤ pos w) ≤ℤ b → b ≤ℤ pos (n + w) → pos (nat_abs (b -ℤ pos n)) ≤ℤ pos w
@@ -82,7 +91,8 @@ not-ahead b tm tf tk e x = rw e (omega (arith, ints))
 at-most : (b : ℤ) (tm tf tk n : ℕ) → b ≡ (pos tm -ℤ pos tf) -ℤ (pos tk -ℤ pos tk) → tm ≤ tf + n → b ≤ℤ pos n
 at-most b tm tf tk n e x = rw e (omega (arith, ints))
 
-later : (setting : Setting) (m : ℕ) (c : Line) (past h : List Line) → Fits setting h → (s : SetBy m c past h) (t : ℕ) → c.did.step.at ≤ t → BehindBy setting m c past h s t
+later : (setting : Setting) (m : ℕ) (c : Line) (past h : List Line) → Fits setting h → (s : SetBy m c past h) (t : ℕ) → c.did.step.at ≤ t →
+    BehindBy setting m c past h s t
 later setting m c past h f s t by =
     let k = node_of c in
     let d = set setting m c past h f s in
@@ -122,7 +132,8 @@ first_set setting world f = Everywhere-from (λ (l : Line) (before : List Line).
 width-mono : (drift a b : ℕ) → a ≤ b → width drift a ≤ width drift b
 width-mono drift a b h = let m : drift * a ≤ drift * b = mul-le-mul_left drift h in omega arith
 
-soon : (setting : Setting) (m : ℕ) (c : Line) (past h : List Line) → Fits setting h → Life h → (s : SetBy m c past h) → behind setting m c h c.did.step.at ≤ℤ pos (LAST + LIFE + width setting.drift LIFE)
+soon : (setting : Setting) (m : ℕ) (c : Line) (past h : List Line) → Fits setting h → Life h → (s : SetBy m c past h) →
+    behind setting m c h c.did.step.at ≤ℤ pos (LAST + LIFE + width setting.drift LIFE)
 soon setting m c past h f life s =
     let d = set setting m c past h f s in
     let t = s.taking in
@@ -130,12 +141,16 @@ soon setting m c past h f life s =
     let p = t.post.did.step.at in
     let b = c.did.step.at in
     let brings = t.acts.brings in
-    let lived : b ≤ p + LIFE = (Everywhere-within (TakenWithinAt LIFE) (c ∷ past) h life s.unchanged.within).0 t.post t.before (Peer (peer_of (node_of c))) (Message brings.message) brings.place brings.deed brings.cause in
+    let lived : b ≤ p + LIFE = (Everywhere-within (TakenWithinAt LIFE) (c ∷ past) h life s.unchanged.within).0 t.post t.before (Peer (peer_of (node_of c)))
+    (Message brings.message) brings.place brings.deed brings.cause in
     let one = ticks_over setting m p b d.after in
     let wide = width-mono setting.drift (b - p) LIFE (omega arith) in
     let rm = setting.tick m in
-    at-most (behind setting m c h b) (rm b) (rm a) (setting.tick (node_of c) b) (LAST + LIFE + width setting.drift LIFE) (d.gap b) (let q = d.ticks in omega (arith, one.0))
+    at-most (behind setting m c h b) (rm b) (rm a) (setting.tick (node_of c) b) (LAST + LIFE + width setting.drift LIFE) (d.gap b) (let q = d.ticks in
+    omega (arith, one.0))
 
 pub first_set_soon : (setting : Setting) (world : List Line) → Fits setting world → Life world → FirstSetSoon setting world
-first_set_soon setting world f life = Everywhere-from (λ (l : Line) (before : List Line). (m : ℕ) (c : Line) (past : List Line) (s : SetBy m c past (l ∷ before)) → behind setting m c (l ∷ before) c.did.step.at ≤ℤ pos (LAST + LIFE + width setting.drift LIFE)) world
-    (λ l before w m c past s. soon setting m c past (l ∷ before) (fits_at setting (l ∷ before) world f w) (Everywhere-within (TakenWithinAt LIFE) (l ∷ before) world life w) s)
+first_set_soon setting world f life = Everywhere-from (λ (l : Line) (before : List Line). (m : ℕ) (c : Line) (past : List Line) (s : SetBy m c past (l ∷
+    before)) → behind setting m c (l ∷ before) c.did.step.at ≤ℤ pos (LAST + LIFE + width setting.drift LIFE)) world
+    (λ l before w m c past s. soon setting m c past (l ∷ before) (fits_at setting (l ∷ before) world f w) (Everywhere-within (TakenWithinAt LIFE) (l ∷
+    before) world life w) s)

@@ -1,5 +1,6 @@
 -- A port's row, and what it stirs, over all ports of a node.
-use Rattle.std.proofs.Common.{sym, subst, append-nil, ◌≡◌, ◌<◌, ℕ, ◌==◌, ◌||◌, Bool, true, false, if◌then◌else◌, List, [], ◌∷◌, ◌++◌, length, None, refl, true≢false, eq-eqb, ◌∙◌}
+use Rattle.std.proofs.Common.{sym, subst, append-nil, ◌≡◌, ◌<◌, ℕ, ◌==◌, ◌||◌, Bool, true, false, if◌then◌else◌, List, [], ◌∷◌, ◌++◌, length, None, refl}
+use Rattle.std.proofs.Common.{true≢false, eq-eqb, ◌∙◌}
 use Rattle.tsp_base.specs.Words.{Past, view, Leads, armed, is_going, Row, grown, placed}
 use Rattle.tsp_base.proofs.ViewPlaces.{port-same}
 use Rattle.tsp_rules.specs.NodeRows.{NodePast, on_port, spread, nothing_at_all, on, ◌and_then◌, for_ports, abandons_on, stirring, NodeRow, reading_all}
@@ -20,9 +21,13 @@ pub record LeadsAll (P : ℕ → NodePast → Type 0) (row : NodeRow) (Q : ℕ �
 
 pub All_after : {P Q R : ℕ → NodePast → Type 0} (r s : NodeRow) → LeadsAll P r Q → LeadsAll Q s R → LeadsAll P (r and_then s) R
 unfolding ◌and_then◌
-All_after {R = R} r s p q = record { run = λ x past h. subst (λ z. R x z) (sym (spread_append x past (r x past) (s x (spread x past (r x past))))) (q.run x (spread x past (r x past)) (p.run x past h)) }
+All_after {R = R} r s p q = record {
+  run = λ x past h. subst (λ z. R x z) (sym (spread_append x past (r x past) (s x (spread x past (r x past)))))
+      (q.run x (spread x past (r x past)) (p.run x past h));
+}
 
-pub All_reading : {A : Type 0} {P Q : ℕ → NodePast → Type 0} (fact : ℕ → NodePast → A) (rows : A → NodeRow) → ((a : A) → LeadsAll P (rows a) Q) → LeadsAll P (reading_all fact rows) Q
+pub All_reading : {A : Type 0} {P Q : ℕ → NodePast → Type 0} (fact : ℕ → NodePast → A) (rows : A → NodeRow) → ((a : A) → LeadsAll P (rows a) Q) →
+    LeadsAll P (reading_all fact rows) Q
 unfolding reading_all
 All_reading fact rows k = record { run = λ x past h. (k (fact x past)).run x past h }
 
@@ -33,8 +38,10 @@ pub All_to : {P Q R : ℕ → NodePast → Type 0} {r : NodeRow} → ((x : ℕ) 
 All_to {r = r} k p = record { run = λ x past h. k x (spread x past (r x past)) (p.run x past h) }
 
 -- what acts on port q make of each port
-pub placed_all : (q : Port) (x : ℕ) (past : NodePast) (acts : List Act) (S R : Port → ℕ → Past → Type 0) → Bootless acts → R q x (grown x (on_port q past) acts) →
-    ((r : Port) → (q.0 == r.0) ≡ false → r.0 < length past.ports → S r x (on_port r past) → R r x (all_aside x (on_port r past) acts)) → AllPorts S x past → AllPorts R x (spread x past (placed q acts))
+pub placed_all : (q : Port) (x : ℕ) (past : NodePast) (acts : List Act) (S R : Port → ℕ → Past → Type 0) → Bootless acts →
+    R q x (grown x (on_port q past) acts) →
+    ((r : Port) → (q.0 == r.0) ≡ false → r.0 < length past.ports → S r x (on_port r past) → R r x (all_aside x (on_port r past) acts)) → AllPorts S x past →
+    AllPorts R x (spread x past (placed q acts))
 placed_all q x past acts S R bootless own others all r has = by_case (q.0 == r.0) refl where
   by_case : (b : Bool) → (q.0 == r.0) ≡ b → R r x (on_port r (spread x past (placed q acts)))
   by_case true e = subst (λ p. R p x (on_port p (spread x past (placed q acts)))) (port-same q r e) (subst (λ z. R q x z) (sym (on_own q x past acts)) own)
@@ -64,27 +71,35 @@ pub own_of : {P : ℕ → Past → Type 0} {F : Port → ℕ → Past → Type 0
 own_of q x past h = (h.all q h.has).yes (same_port q)
 
 -- what is known of port q is known otherwise
-pub at_to : {P Q : ℕ → Past → Type 0} {F : Port → ℕ → Past → Type 0} (q : Port) → ((x : ℕ) (past : Past) → P x past → Q x past) → (x : ℕ) (past : NodePast) → AtPort q P F x past → AtPort q Q F x past
+pub at_to : {P Q : ℕ → Past → Type 0} {F : Port → ℕ → Past → Type 0} (q : Port) → ((x : ℕ) (past : Past) → P x past → Q x past) → (x : ℕ) (past : NodePast) →
+    AtPort q P F x past → AtPort q Q F x past
 at_to q k x past h = record { has = h.has; all = λ r has. let p = h.all r has in record { yes = λ e. k x (on_port r past) (p.yes e); no = p.no } }
 
 module _ (F : Port → Bool → ℕ → Past → Type 0) (family : (r : Port) → Family (F r)) where
   -- a row of port q that doesn't move the clock
-  pub on_run : {P Q : ℕ → Past → Type 0} (strange : Bool) (q : Port) (row : Row) (x : ℕ) (past : NodePast) → is_calm strange false (row x (on_port q past)) ≡ true → Q x (grown x (on_port q past) (row x (on_port q past))) →
+  pub on_run : {P Q : ℕ → Past → Type 0} (strange : Bool) (q : Port) (row : Row) (x : ℕ) (past : NodePast) → is_calm strange false (row x (on_port q past)) ≡
+      true → Q x (grown x (on_port q past) (row x (on_port q past))) →
       AtPort q P (λ r. F r false) x past → AtPort q Q (λ r. F r false) x (spread x past (on q row x past))
   unfolding on
   on_run {P} {Q} strange q row x past calm own h =
       let acts = row x (on_port q past) in
       record {
         has = h.has;
-        all = placed_all q x past acts (λ r. Pick (q.0 == r.0) P (F r false)) (λ r. Pick (q.0 == r.0) Q (F r false)) (calm_bootless strange false acts calm) (picks (same_port q) own)
+        all = placed_all q x past acts (λ r. Pick (q.0 == r.0) P (F r false)) (λ r. Pick (q.0 == r.0) Q (F r false)) (calm_bootless strange false acts calm)
+            (picks (same_port q) own)
             (λ r n has p. passes n (kept_aside (family r) strange x (on_port r past) acts calm (p.no n))) h.all;
       }
 
-  pub on_leads : {P Q : ℕ → Past → Type 0} (strange : Bool) (q : Port) (row : Row) → ((x : ℕ) (past : Past) → is_calm strange false (row x past) ≡ true) → Leads P row Q → LeadsAll (AtPort q P (λ r. F r false)) (on q row) (AtPort q Q (λ r. F r false))
-  on_leads strange q row calm k = record { run = λ x past h. on_run strange q row x past (calm x (on_port q past)) (k.run x (on_port q past) (own_of q x past h)) h }
+  pub on_leads : {P Q : ℕ → Past → Type 0} (strange : Bool) (q : Port) (row : Row) → ((x : ℕ) (past : Past) → is_calm strange false (row x past) ≡ true) →
+      Leads P row Q → LeadsAll (AtPort q P (λ r. F r false)) (on q row) (AtPort q Q (λ r. F r false))
+  on_leads strange q row calm k = record {
+    run = λ x past h. on_run strange q row x past (calm x (on_port q past))
+        (k.run x (on_port q past) (own_of q x past h)) h;
+  }
 
   -- port by port a round is given up, of those that are stirred
-  abandons-one : (q : Port) (rest : List Port) (x : ℕ) (past : NodePast) → q.0 < length past.ports → AllPorts (λ r. Pick (listed r (q ∷ rest)) (F r true) (F r false)) x past →
+  abandons-one : (q : Port) (rest : List Port) (x : ℕ) (past : NodePast) → q.0 < length past.ports →
+      AllPorts (λ r. Pick (listed r (q ∷ rest)) (F r true) (F r false)) x past →
       AllPorts (λ r. Pick (listed r rest) (F r true) (F r false)) x (spread x past (abandons_on q x past))
   unfolding abandons_on
   abandons-one q rest x past has all = by_case (is_going (view q past.lines)) refl where
@@ -95,18 +110,31 @@ module _ (F : Port → Bool → ℕ → Past → Type 0) (family : (r : Port) �
     or-more r e true = refl
     or-more r e false = e
 
-    shut : (armed (on_port q past).seen).close ≡ None → (r : Port) (h : r.0 < length past.ports) → (b : Bool) → (q.0 == r.0) ≡ b → listed r rest ≡ false → F r false x (on_port r past)
+    shut : (armed (on_port q past).seen).close ≡ None → (r : Port) (h : r.0 < length past.ports) → (b : Bool) → (q.0 == r.0) ≡ b → listed r rest ≡ false →
+        F r false x (on_port r past)
     shut none r h true e n = subst (λ p. F p false x (on_port p past)) (port-same q r e) ((family q).shut x (on_port q past) none stirred)
     shut none r h false e n = (all r h).no (rw e n)
 
-    by_case : (b : Bool) → is_going (view q past.lines) ≡ b → AllPorts (λ r. Pick (listed r rest) (F r true) (F r false)) x (spread x past (if b then record { port = q; act = Abandon } ∷ [] else []))
-    by_case true e = placed_all q x past (Abandon ∷ []) (λ r. Pick (listed r (q ∷ rest)) (F r true) (F r false)) (λ r. Pick (listed r rest) (F r true) (F r false)) ((λ is. let bad : ⊥ = cc in bad), tt)
-        (let calm = (family q).abandons x (on_port q past) stirred in record { yes = λ t. (family q).weaken x (grown x (on_port q past) (Abandon ∷ [])) calm; no = λ t. calm })
-        (λ r n h p. record { yes = λ t. (family r).still x (on_port r past) Abandon refl (p.yes (or-more r t (q.0 == r.0))); no = λ t. (family r).still x (on_port r past) Abandon refl (p.no (rw n t)) })
+    by_case : (b : Bool) → is_going (view q past.lines) ≡ b → AllPorts (λ r. Pick (listed r rest) (F r true) (F r false)) x
+        (spread x past (if b then record { port = q; act = Abandon } ∷ [] else []))
+    by_case true e = placed_all q x past (Abandon ∷ []) (λ r. Pick (listed r (q ∷ rest)) (F r true) (F r false))
+        (λ r. Pick (listed r rest) (F r true) (F r false)) ((λ is. let bad : ⊥ = cc in bad), tt)
+        (let calm = (family q).abandons x (on_port q past) stirred in record {
+          yes = λ t. (family q).weaken x (grown x (on_port q past) (Abandon ∷ [])) calm;
+          no = λ t. calm;
+        })
+        (λ r n h p. record {
+          yes = λ t. (family r).still x (on_port r past) Abandon refl (p.yes (or-more r t (q.0 == r.0)));
+          no = λ t. (family r).still x (on_port r past) Abandon refl (p.no (rw n t));
+        })
         all
-    by_case false e = λ r h. record { yes = λ t. (all r h).yes (or-more r t (q.0 == r.0)); no = λ t. shut (shut_of (armed (view q past.lines)).close e) r h (q.0 == r.0) refl t }
+    by_case false e = λ r h. record {
+      yes = λ t. (all r h).yes (or-more r t (q.0 == r.0));
+      no = λ t. shut (shut_of (armed (view q past.lines)).close e) r h (q.0 == r.0) refl t;
+    }
 
-  pub abandons_all : (ports : List Port) (x : ℕ) (past : NodePast) → Ranged (length past.ports) ports → AllPorts (λ r. Pick (listed r ports) (F r true) (F r false)) x past → AllPorts (λ r. F r false) x (spread x past (for_ports abandons_on ports x past))
+  pub abandons_all : (ports : List Port) (x : ℕ) (past : NodePast) → Ranged (length past.ports) ports →
+      AllPorts (λ r. Pick (listed r ports) (F r true) (F r false)) x past → AllPorts (λ r. F r false) x (spread x past (for_ports abandons_on ports x past))
   unfolding for_ports nothing_at_all ◌and_then◌
   abandons_all [] x past ranged all = λ r has. (all r has).no refl
   abandons_all (q ∷ rest) x past ranged all =
@@ -115,16 +143,21 @@ module _ (F : Port → Bool → ℕ → Past → Type 0) (family : (r : Port) �
       (abandons_all rest x (spread x past first) ranged.1 (abandons-one q rest x past ranged.0 all))
 
   -- a row of port q, and what it stirs
-  pub stirring_all : (q : Port) (ports : List Port) (row : Row) (x : ℕ) (past : NodePast) (S : Port → ℕ → Past → Type 0) → Bootless (row x (on_port q past)) → Ranged (length past.ports) ports → AllPorts S x past →
+  pub stirring_all : (q : Port) (ports : List Port) (row : Row) (x : ℕ) (past : NodePast) (S : Port → ℕ → Past → Type 0) → Bootless (row x (on_port q past)) →
+      Ranged (length past.ports) ports → AllPorts S x past →
       (corrects (row x (on_port q past)) ≡ false → F q false x (grown x (on_port q past) (row x (on_port q past)))) →
       (corrects (row x (on_port q past)) ≡ true → Pick (listed q ports) (F q true) (F q false) x (grown x (on_port q past) (row x (on_port q past)))) →
-      (corrects (row x (on_port q past)) ≡ false → (r : Port) → (q.0 == r.0) ≡ false → r.0 < length past.ports → S r x (on_port r past) → F r false x (all_aside x (on_port r past) (row x (on_port q past)))) →
-      ((r : Port) → (q.0 == r.0) ≡ false → r.0 < length past.ports → S r x (on_port r past) → F r true x (all_aside x (on_port r past) (row x (on_port q past)))) →
-      ((r : Port) → (q.0 == r.0) ≡ false → r.0 < length past.ports → listed r ports ≡ true) → AllPorts (λ r. F r false) x (spread x past (stirring q ports row x past))
+      (corrects (row x (on_port q past)) ≡ false → (r : Port) → (q.0 == r.0) ≡ false → r.0 < length past.ports → S r x (on_port r past) →
+      F r false x (all_aside x (on_port r past) (row x (on_port q past)))) →
+      ((r : Port) → (q.0 == r.0) ≡ false → r.0 < length past.ports → S r x (on_port r past) →
+      F r true x (all_aside x (on_port r past) (row x (on_port q past)))) →
+      ((r : Port) → (q.0 == r.0) ≡ false → r.0 < length past.ports → listed r ports ≡ true) →
+      AllPorts (λ r. F r false) x (spread x past (stirring q ports row x past))
   unfolding stirring on
   stirring_all q ports row x past S bootless ranged all own-still own-moved still moved others = by_case (corrects (row x (on_port q past))) refl where
     by_case : (b : Bool) → corrects (row x (on_port q past)) ≡ b →
-        AllPorts (λ r. F r false) x (spread x past (placed q (row x (on_port q past)) ++ (if b then for_ports abandons_on ports x (spread x past (placed q (row x (on_port q past)))) else [])))
+        AllPorts (λ r. F r false) x (spread x past (placed q (row x (on_port q past)) ++
+        (if b then for_ports abandons_on ports x (spread x past (placed q (row x (on_port q past)))) else [])))
     by_case false e =
         let acts = row x (on_port q past) in
         subst (λ z. AllPorts (λ r. F r false) x (spread x past z)) (sym (append-nil (placed q acts)))
@@ -133,4 +166,5 @@ module _ (F : Port → Bool → ℕ → Past → Type 0) (family : (r : Port) �
         let acts = row x (on_port q past) in
         subst (λ z. AllPorts (λ r. F r false) x z) (sym (spread_append x past (placed q acts) (for_ports abandons_on ports x (spread x past (placed q acts)))))
         (abandons_all ports x (spread x past (placed q acts)) ranged
-        (placed_all q x past acts S (λ r. Pick (listed r ports) (F r true) (F r false)) bootless (own-moved e) (λ r n has s. picks (others r n has) (moved r n has s)) all))
+        (placed_all q x past acts S (λ r. Pick (listed r ports) (F r true) (F r false)) bootless (own-moved e)
+        (λ r n has s. picks (others r n has) (moved r n has s)) all))

@@ -1,7 +1,9 @@
 -- Small histories, step by step, and what shows that they fit.
-use Rattle.std.proofs.Common.{sym, ap, arith, subst, subst₂, inr, eq-eqb, ◌∙◌, ◌≡◌, ◌==◌, Bool, true, false, ℕ, zero, suc, pos, ◌+ℤ◌, if◌then◌else◌, List, [], ◌∷◌, None, refl}
+use Rattle.std.proofs.Common.{sym, ap, arith, subst, subst₂, inr, eq-eqb, ◌∙◌, ◌≡◌, ◌==◌, Bool, true, false, ℕ, zero, suc, pos, ◌+ℤ◌, if◌then◌else◌, List, []}
+use Rattle.std.proofs.Common.{◌∷◌, None, refl}
 use Rattle.tsp_rules.specs.Values.{Act, Boot, Took, Post, Placed, Taken, Kind, Body, PeerId, Place, Port}
-use Rattle.tsp_base.specs.Words.{Cause, Booted, Step, Begins, Acts, Deed, Line, of, dids, plain, view, first_port, line_of, stepped, MessageValue, up, is_among, Within, heard, peer_of, posted}
+use Rattle.tsp_base.specs.Words.{Cause, Booted, Step, Begins, Acts, Deed, Line, of, dids, plain, view, first_port, line_of, stepped, MessageValue, up, is_among}
+use Rattle.tsp_base.specs.Words.{Within, heard, peer_of, posted}
 use Rattle.tsp_promises.specs.{DeedFits.ActFits, DeedFits.DeedFits, Fits.Alive, Fits.Sees, Fits.TookFits}
 use Rattle.tsp_promises.specs.Setting.{Network, Named, Alone, Setting, setup_of}
 use Rattle.tsp_base.proofs.{PlaceLemmas.Within-all, ViewPlaces.port-same, ViewPlaces.or-false}
@@ -124,29 +126,36 @@ begins at node cause = line_of (step_at at node cause) at first_port Begins
 abbrev pub ActOk : Bool → Step → Port → Act → List Line → Type 0
 ActOk strict step port Boot h = (word : ℕ) × (step.cause ≡ Booted word (pos 0 +ℤ pos step.at))
 ActOk strict step port (Took from taken) h =
-    (up (dids (of step.node h)) ≡ true) × ((heard (plain (view port (of step.node h))) ≡ None) × TookFits step.cause (still strict) (line_of step step.at port (Acts (Took from taken))) h from taken)
-ActOk strict step port a h = (up (dids (of step.node h)) ≡ true) × ActFits (setup_of (still strict) step.node port) a (line_of step step.at port (Acts a)).did (view port (of step.node h))
+    (up (dids (of step.node h)) ≡ true) × ((heard (plain (view port (of step.node h))) ≡ None) ×
+    TookFits step.cause (still strict) (line_of step step.at port (Acts (Took from taken))) h from taken)
+ActOk strict step port a h = (up (dids (of step.node h)) ≡ true) × ActFits (setup_of (still strict) step.node port) a (line_of step step.at port (Acts a)).did
+    (view port (of step.node h))
 
 abbrev pub ActsOk : Bool → Step → List Placed → List Line → Type 0
 ActsOk strict step [] h = Unit {0}
 ActsOk strict step (p ∷ rest) h = ActOk strict step p.port p.act h × ActsOk strict step rest (line_of step step.at p.port (Acts p.act) ∷ h)
 
-pub alive-of : (strict : Bool) (step : Step) (port : Port) (a : Act) (h : List Line) → ActOk strict step port a h → Alive (still strict) (Acts a) (line_of step step.at port (Acts a)).did (dids (of step.node h))
+pub alive-of : (strict : Bool) (step : Step) (port : Port) (a : Act) (h : List Line) → ActOk strict step port a h →
+    Alive (still strict) (Acts a) (line_of step step.at port (Acts a)).did (dids (of step.node h))
 alive-of strict step port Boot h ok = ok
 alive-of strict step port _ h ok = ok.0
 
 same-took : (f g : Place) (t u : Taken) → Acts (Took f t) ≡ Acts (Took g u) → (f ≡ g) × (t ≡ u)
 same-took f g t u e = (cc, cc)
 
-pub took-of : (strict : Bool) (step : Step) (port : Port) (a : Act) (h : List Line) → ActOk strict step port a h → (from : Place) (taken : Taken) → Acts a ≡ Acts (Took from taken) → TookFits step.cause (still strict) (line_of step step.at port (Acts a)) h from taken
+pub took-of : (strict : Bool) (step : Step) (port : Port) (a : Act) (h : List Line) → ActOk strict step port a h → (from : Place) (taken : Taken) → Acts a ≡
+    Acts (Took from taken) → TookFits step.cause (still strict) (line_of step step.at port (Acts a)) h from taken
 took-of strict step port (Took f t) h ok from taken e =
     let s = same-took f from t taken e in
     subst₂ (λ x y. TookFits step.cause (still strict) (line_of step step.at port (Acts (Took f t))) h x y) s.0 s.1 ok.1.1
 took-of strict step port _ h ok from taken e = let bad : ⊥ = cc in absurd bad
 
-pub deeds-of : (strict : Bool) (step : Step) (port : Port) (a : Act) (h : List Line) → ActOk strict step port a h → (q : Port) → Sees q (line_of step step.at port (Acts a)) →
+pub deeds-of : (strict : Bool) (step : Step) (port : Port) (a : Act) (h : List Line) → ActOk strict step port a h → (q : Port) →
+    Sees q (line_of step step.at port (Acts a)) →
     DeedFits (setup_of (still strict) step.node q) (Acts a) (line_of step step.at port (Acts a)).did (view q (of step.node h))
 deeds-of strict step port Boot h ok q sees = tt
-deeds-of strict step port (Took from taken) h ok q sees = subst (λ p. heard (plain (view p (of step.node h))) ≡ None) (port-same port q (or-false (port.0 == q.0) false sees refl)) ok.1.0
+deeds-of strict step port (Took from taken) h ok q sees = subst (λ p. heard (plain (view p (of step.node h))) ≡
+    None) (port-same port q (or-false (port.0 == q.0) false sees refl)) ok.1.0
 deeds-of strict step port a h ok q sees =
-    subst (λ p. ActFits (setup_of (still strict) step.node p) a (line_of step step.at port (Acts a)).did (view p (of step.node h))) (port-same port q (or-false (port.0 == q.0) false sees refl)) ok.1
+    subst (λ p. ActFits (setup_of (still strict) step.node p) a (line_of step step.at port (Acts a)).did (view p (of step.node h)))
+    (port-same port q (or-false (port.0 == q.0) false sees refl)) ok.1

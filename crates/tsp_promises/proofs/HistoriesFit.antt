@@ -1,9 +1,12 @@
 -- Small histories fit, step by step. Small histories as lists of steps, and what shows that they fit.
-use Rattle.std.proofs.Common.{sym, ap, arith, subst, inl, inr, eqb-true, ◌∙◌, ◌≡◌, ◌==◌, ◌&&◌, cond, ◌≤◌, ◌<◌, nat_lt, nat_le, Bool, true, false, ℕ, zero, suc, ◌+◌, List, [], ◌∷◌, length, refl}
+use Rattle.std.proofs.Common.{sym, ap, arith, subst, inl, inr, eqb-true, ◌∙◌, ◌≡◌, ◌==◌, ◌&&◌, cond, ◌≤◌, ◌<◌, nat_lt, nat_le, Bool, true, false, ℕ, zero, suc}
+use Rattle.std.proofs.Common.{◌+◌, List, [], ◌∷◌, length, refl}
 use Rattle.std.specs.Prelude.{ℤ, pos, map}
 use Rattle.std.proofs.lemmas.Bool.{ltb-true, leb-true, and_parts}
-use Rattle.tsp_rules.specs.Values.{Act, Post, Placed, Datagram, Taken, Good, PeerId, Place, Peer, Port, Boot, Took, Become, Ring, Back, Correct, Sample, Acked, Window, Elect, Message, Stamp, Ack, SetTime, SlaveUp, Nothing, TimeBody, Follow, Candidate, Master, Request, Reply}
-use Rattle.tsp_base.specs.Words.{Step, Begins, Acts, Deed, Line, of, dids, view, first_port, joined, line_of, time_of, Within, peer_of, posted, posted_after, Cause, Booted, Came, Handed, Turned, MessageValue, ReplyValue}
+use Rattle.tsp_rules.specs.Values.{Act, Post, Placed, Datagram, Taken, Good, PeerId, Place, Peer, Port, Boot, Took, Become, Ring, Back, Correct, Sample, Acked}
+use Rattle.tsp_rules.specs.Values.{Window, Elect, Message, Stamp, Ack, SetTime, SlaveUp, Nothing, TimeBody, Follow, Candidate, Master, Request, Reply}
+use Rattle.tsp_base.specs.Words.{Step, Begins, Acts, Deed, Line, of, dids, view, first_port, joined, line_of, time_of, Within, peer_of, posted, posted_after}
+use Rattle.tsp_base.specs.Words.{Cause, Booted, Came, Handed, Turned, MessageValue, ReplyValue}
 use Rattle.tsp_promises.proofs.Histories.{ActsOk, ActOk, alive-of, deeds-of, post_at, post_here, still, then_step, took-of, msg, on, skip, step_at}
 use Rattle.tsp_promises.specs.{Fits.Finished, Fits.Fits, Fits.LineFits, Fits.Posted, Fits.node_of, Setting.setup_of, StepFacts.StepEnds}
 use Rattle.tsp_promises.proofs.StepChecks.{settled, settled-ends}
@@ -15,7 +18,8 @@ posted-few (l ∷ h) = by-deed l.did.deed (posted-few h) where
   by-deed (Acts (Post to datagram)) e = omega arith
   by-deed _ e = omega arith
 
-act-fits : (strict : Bool) (step : Step) (p : Placed) (x : Line) (h : List Line) → x.did.step ≡ step → length (x ∷ h) < 1000 → ActOk strict step p.port p.act (x ∷ h) → LineFits (still strict) (line_of step step.at p.port (Acts p.act)) (x ∷ h)
+act-fits : (strict : Bool) (step : Step) (p : Placed) (x : Line) (h : List Line) → x.did.step ≡ step → length (x ∷ h) < 1000 →
+    ActOk strict step p.port p.act (x ∷ h) → LineFits (still strict) (line_of step step.at p.port (Acts p.act)) (x ∷ h)
 act-fits strict step p x h same few ok = record {
   order = (let e = ap (λ (s : Step). s.at) same in omega arith);
   tick = omega arith;
@@ -26,7 +30,8 @@ act-fits strict step p x h same few ok = record {
   deeds = deeds-of strict step p.port p.act (x ∷ h) ok;
 }
 
-acts-fit : (strict : Bool) (step : Step) (acts : List Placed) (x : Line) (h : List Line) → x.did.step ≡ step → length (x ∷ h) + length acts < 1000 → Fits (still strict) (x ∷ h) → ActsOk strict step acts (x ∷ h) → Fits (still strict) (joined step step.at acts (x ∷ h))
+acts-fit : (strict : Bool) (step : Step) (acts : List Placed) (x : Line) (h : List Line) → x.did.step ≡ step → length (x ∷ h) + length acts < 1000 →
+    Fits (still strict) (x ∷ h) → ActsOk strict step acts (x ∷ h) → Fits (still strict) (joined step step.at acts (x ∷ h))
 acts-fit strict step [] x h same few f ok = f
 acts-fit strict step (p ∷ rest) x h same few f ok =
     acts-fit strict step rest (line_of step step.at p.port (Acts p.act)) (x ∷ h) refl (omega arith) (act-fits strict step p x h same (omega arith) ok.0, f) ok.1
@@ -39,7 +44,8 @@ peers_at n q = (setup_of (still false) n q).peers
 abbrev pub may_begin : Step → List Placed → List Line → Bool
 may_begin step acts h = nat_le (time_of (dids h)) step.at && (settled (peers_at step.node) (of step.node h) && nat_lt (length h + (length acts + 1)) 1000)
 
-mark-fits : (strict : Bool) (step : Step) (h : List Line) → time_of (dids h) ≤ step.at → length h < 1000 → ((q : Port) → StepEnds (setup_of (still strict) step.node q) (view q (of step.node h))) → LineFits (still strict) (line_of step step.at first_port Begins) h
+mark-fits : (strict : Bool) (step : Step) (h : List Line) → time_of (dids h) ≤ step.at → length h < 1000 →
+    ((q : Port) → StepEnds (setup_of (still strict) step.node q) (view q (of step.node h))) → LineFits (still strict) (line_of step step.at first_port Begins) h
 mark-fits strict step h order few ends = record {
   order = order;
   tick = omega arith;
@@ -53,13 +59,15 @@ mark-fits strict step h order few ends = record {
   no-act e = let bad : ⊥ = cc in absurd bad
 
 -- a step more fits
-pub step-fits : (strict : Bool) (step : Step) (acts : List Placed) (h : List Line) → Fits (still strict) h → may_begin step acts h ≡ true → ActsOk strict step acts (line_of step step.at first_port Begins ∷ h) → Fits (still strict) (then_step step acts h)
+pub step-fits : (strict : Bool) (step : Step) (acts : List Placed) (h : List Line) → Fits (still strict) h → may_begin step acts h ≡ true →
+    ActsOk strict step acts (line_of step step.at first_port Begins ∷ h) → Fits (still strict) (then_step step acts h)
 step-fits strict step acts h f e ok =
     let a = and_parts (nat_le (time_of (dids h)) step.at) (settled (peers_at step.node) (of step.node h) && nat_lt (length h + (length acts + 1)) 1000) e in
     let b = and_parts (settled (peers_at step.node) (of step.node h)) (nat_lt (length h + (length acts + 1)) 1000) a.1 in
     let order = leb-true (time_of (dids h)) step.at a.0 in
     let few = ltb-true (length h + (length acts + 1)) 1000 b.1 in
-    acts-fit strict step acts (line_of step step.at first_port Begins) h refl (omega arith) (mark-fits strict step h order (omega arith) (settled-ends (setup_of (still strict) step.node) (of step.node h) b.0), f) ok
+    acts-fit strict step acts (line_of step step.at first_port Begins) h refl (omega arith)
+    (mark-fits strict step h order (omega arith) (settled-ends (setup_of (still strict) step.node) (of step.node h) b.0), f) ok
 
 abbrev below_four : List Line → Bool
 below_four [] = true
@@ -67,7 +75,8 @@ below_four (l ∷ t) = nat_lt (node_of l) 4 && below_four t
 
 -- whether all of the four nodes have ended their last steps
 abbrev pub all_settled : List Line → Bool
-all_settled h = below_four h && ((settled (peers_at 0) (of 0 h) && settled (peers_at 1) (of 1 h)) && (settled (peers_at 2) (of 2 h) && settled (peers_at 3) (of 3 h)))
+all_settled h = below_four h && ((settled (peers_at 0) (of 0 h) && settled (peers_at 1) (of 1 h)) && (settled (peers_at 2) (of 2 h) && settled (peers_at 3)
+    (of 3 h)))
 
 none-of : (n : ℕ) (h : List Line) → below_four h ≡ true → of (suc (suc (suc (suc n)))) h ≡ []
 none-of n [] e = refl
@@ -82,24 +91,29 @@ none-of n (l ∷ h) e =
 -- and the history ends with a step
 pub all-finished : (strict : Bool) (h : List Line) → all_settled h ≡ true → Finished (still strict) h
 all-finished strict h e n q =
-    let a = and_parts (below_four h) ((settled (peers_at 0) (of 0 h) && settled (peers_at 1) (of 1 h)) && (settled (peers_at 2) (of 2 h) && settled (peers_at 3) (of 3 h))) e in
+    let a = and_parts (below_four h) ((settled (peers_at 0) (of 0 h) && settled (peers_at 1) (of 1 h)) && (settled (peers_at 2) (of 2 h) && settled (peers_at 3)
+    (of 3 h))) e in
     let b = and_parts (settled (peers_at 0) (of 0 h) && settled (peers_at 1) (of 1 h)) (settled (peers_at 2) (of 2 h) && settled (peers_at 3) (of 3 h)) a.1 in
-    by-node a.0 (and_parts (settled (peers_at 0) (of 0 h)) (settled (peers_at 1) (of 1 h)) b.0) (and_parts (settled (peers_at 2) (of 2 h)) (settled (peers_at 3) (of 3 h)) b.1) n
+    by-node a.0 (and_parts (settled (peers_at 0) (of 0 h)) (settled (peers_at 1) (of 1 h)) b.0)
+    (and_parts (settled (peers_at 2) (of 2 h)) (settled (peers_at 3) (of 3 h)) b.1) n
   where
-    by-node : below_four h ≡ true → (settled (peers_at 0) (of 0 h) ≡ true) × (settled (peers_at 1) (of 1 h) ≡ true) → (settled (peers_at 2) (of 2 h) ≡ true) × (settled (peers_at 3) (of 3 h) ≡ true) → (n : ℕ) → StepEnds (setup_of (still strict) n q) (view q (of n h))
+    by-node : below_four h ≡ true → (settled (peers_at 0) (of 0 h) ≡ true) × (settled (peers_at 1) (of 1 h) ≡ true) → (settled (peers_at 2) (of 2 h) ≡ true) ×
+        (settled (peers_at 3) (of 3 h) ≡ true) → (n : ℕ) → StepEnds (setup_of (still strict) n q) (view q (of n h))
     by-node few x y zero = settled-ends (setup_of (still strict) 0) (of 0 h) x.0 q
     by-node few x y (suc zero) = settled-ends (setup_of (still strict) 1) (of 1 h) x.1 q
     by-node few x y (suc (suc zero)) = settled-ends (setup_of (still strict) 2) (of 2 h) y.0 q
     by-node few x y (suc (suc (suc zero))) = settled-ends (setup_of (still strict) 3) (of 3 h) y.1 q
     by-node few x y (suc (suc (suc (suc n)))) =
-        subst (λ w. StepEnds (setup_of (still strict) (suc (suc (suc (suc n)))) q) (view q w)) (sym (none-of n h few)) (settled-ends (setup_of (still strict) (suc (suc (suc (suc n))))) [] refl q)
+        subst (λ w. StepEnds (setup_of (still strict) (suc (suc (suc (suc n)))) q) (view q w)) (sym (none-of n h few))
+        (settled-ends (setup_of (still strict) (suc (suc (suc (suc n))))) [] refl q)
 
 -- where a post is found by its number
 pub record Found (k : ℕ) (h : List Line) (post : Line) (older : List Line) : Type 0 where
   pub place : Within (post ∷ older) h
   pub number : posted (dids older) ≡ k
 
-found-cond : (k n : ℕ) (l : Line) (t was : List Line) (post : Line) (older : List Line) → n ≡ posted (dids t) → (b : Bool) → (n == k) ≡ b → cond b (l ∷ t) was ≡ post ∷ older → (was ≡ post ∷ older → Found k t post older) → Found k (l ∷ t) post older
+found-cond : (k n : ℕ) (l : Line) (t was : List Line) (post : Line) (older : List Line) → n ≡ posted (dids t) → (b : Bool) → (n == k) ≡ b → cond b (l ∷ t) was ≡
+    post ∷ older → (was ≡ post ∷ older → Found k t post older) → Found k (l ∷ t) post older
 found-cond k n l t was post older is true b e h =
     let rest : t ≡ older = cc in
     record { place = inl (sym e); number = ap (λ z. posted (dids z)) (sym rest) ∙ (sym is ∙ eqb-true n k b) }
@@ -108,14 +122,18 @@ found-cond k n l t was post older is false b e h = let o = h e in record { place
 pub post-found : (k : ℕ) (h : List Line) (post : Line) (older : List Line) → post_at k h ≡ post ∷ older → Found k h post older
 post-found k [] post older e = let bad : ⊥ = cc in absurd bad
 post-found k (l ∷ t) post older e = by-deed l.did.deed (post-found k t post older) e where
-  by-deed : (deed : Deed) → (post_at k t ≡ post ∷ older → Found k t post older) → post_here k deed (posted (dids t)) (l ∷ t) (post_at k t) ≡ post ∷ older → Found k (l ∷ t) post older
+  by-deed : (deed : Deed) → (post_at k t ≡ post ∷ older → Found k t post older) → post_here k deed (posted (dids t)) (l ∷ t) (post_at k t) ≡ post ∷ older →
+      Found k (l ∷ t) post older
   by-deed (Acts (Post to datagram)) h e = found-cond k (posted (dids t)) l t (post_at k t) post older refl (posted (dids t) == k) refl e h
   by-deed _ h e = let o = h e in record { place = inr o.place; number = o.number }
 
 -- what a line takes is the post of this number
-pub came : {strict : Bool} {l : Line} {h : List Line} {k : ℕ} {post : Line} {older : List Line} {d : Datagram} {from : Place} {taken : Taken} → post_at k h ≡ post ∷ older → post.did.deed ≡ Acts (Post (Peer (peer_of (node_of l))) d) →
-    (still strict).net (node_of post) post.port ≡ (still strict).net (node_of l) l.port → from ≡ Peer (peer_of (node_of post)) → taken ≡ Good d → Posted (still strict) l h k from taken
-came {strict} {l} {h} {k} {post} {older} {d} at deed net from taken = let f = post-found k h post older at in record { post = post; older = older; place = f.place; number = f.number; datagram = d; deed = deed; net = net; from_is = from; taken_is = taken }
+pub came : {strict : Bool} {l : Line} {h : List Line} {k : ℕ} {post : Line} {older : List Line} {d : Datagram} {from : Place} {taken : Taken} → post_at k h ≡
+    post ∷ older → post.did.deed ≡ Acts (Post (Peer (peer_of (node_of l))) d) →
+    (still strict).net (node_of post) post.port ≡ (still strict).net (node_of l) l.port → from ≡ Peer (peer_of (node_of post)) → taken ≡ Good d →
+    Posted (still strict) l h k from taken
+came {strict} {l} {h} {k} {post} {older} {d} at deed net from taken = let f = post-found k h post older at in
+    record { post = post; older = older; place = f.place; number = f.number; datagram = d; deed = deed; net = net; from_is = from; taken_is = taken }
 
 -- a step and its acts
 pub record Stage : Type 0 where
@@ -166,11 +184,13 @@ follows t master number = turns t (Become (Follow (peer_of master)) ∷ Post (Pe
 
 -- the master answers by this time
 abbrev pub sets_up : There → ℕ → ℕ → ℕ → ℤ → Stage
-sets_up t sent peer number time = takes t sent peer (Message (msg SlaveUp number Nothing)) (Post (Peer (peer_of peer)) (Message (msg SetTime number (TimeBody time))) ∷ [])
+sets_up t sent peer number time = takes t sent peer (Message (msg SlaveUp number Nothing))
+    (Post (Peer (peer_of peer)) (Message (msg SetTime number (TimeBody time))) ∷ [])
 
 -- a follower takes a correction, and acknowledges it
 abbrev pub obeys : There → ℕ → ℕ → MessageValue → ℤ → Bool → ℤ → Stage
-obeys t sent master m amount stepped shown = takes t sent master (Message m) (Correct amount stepped shown ∷ Post (Peer (peer_of master)) (Message (msg Ack m.number Nothing)) ∷ [])
+obeys t sent master m amount stepped shown = takes t sent master (Message m) (Correct amount stepped shown ∷
+    Post (Peer (peer_of master)) (Message (msg Ack m.number Nothing)) ∷ [])
 
 abbrev pub acked : There → ℕ → ℕ → ℕ → Stage
 acked t sent peer number = takes t sent peer (Message (msg Ack number Nothing)) (Acked (peer_of peer) ∷ [])
@@ -198,7 +218,8 @@ all_begin (suc k) (s ∷ rest) h = may_begin s.step s.acts h && all_begin k rest
 abbrev pub StagesOk : Bool → ℕ → List Stage → List Line → Type 0
 StagesOk strict zero stages h = Unit {0}
 StagesOk strict (suc k) [] h = Unit {0}
-StagesOk strict (suc k) (s ∷ rest) h = ActsOk strict s.step s.acts (line_of s.step s.step.at first_port Begins ∷ h) × StagesOk strict k rest (then_step s.step s.acts h)
+StagesOk strict (suc k) (s ∷ rest) h = ActsOk strict s.step s.acts (line_of s.step s.step.at first_port Begins ∷ h) ×
+    StagesOk strict k rest (then_step s.step s.acts h)
 
 -- what one step owes, and what the others do
 infixr 20 ◌also◌
@@ -206,7 +227,8 @@ abbrev pub ◌also◌ : {A B : Type 0} → A → B → A × B
 a also b = (a, b)
 
 -- such steps fit
-pub stages-fit : (strict : Bool) (k : ℕ) (stages : List Stage) (h : List Line) → Fits (still strict) h → all_begin k stages h ≡ true → StagesOk strict k stages h → Fits (still strict) (after k stages h)
+pub stages-fit : (strict : Bool) (k : ℕ) (stages : List Stage) (h : List Line) → Fits (still strict) h → all_begin k stages h ≡ true →
+    StagesOk strict k stages h → Fits (still strict) (after k stages h)
 stages-fit strict zero stages h f e ok = f
 stages-fit strict (suc k) [] h f e ok = f
 stages-fit strict (suc k) (s ∷ rest) h f e ok =

@@ -42,7 +42,8 @@ pub record Lifted (n : ℕ) (h : List Line) (l : Line) (s : List Line) : Type 0 
   pub own : of n world ≡ s
   pub node : node_of l ≡ n
 
-lift-more : (n : ℕ) (x : Line) (h : List Line) (l : Line) (s : List Line) (b : Bool) → (node_of x == n) ≡ b → (Within (l ∷ s) (of n h) → Lifted n h l s) → Within (l ∷ s) (of n (x ∷ h)) → Lifted n (x ∷ h) l s
+lift-more : (n : ℕ) (x : Line) (h : List Line) (l : Line) (s : List Line) (b : Bool) → (node_of x == n) ≡ b → (Within (l ∷ s) (of n h) → Lifted n h l s) →
+    Within (l ∷ s) (of n (x ∷ h)) → Lifted n (x ∷ h) l s
 lift-more n x h l s true e f w = elim (rw e at w) [
   | inl i ↦
       let line : x ≡ l = cc in
@@ -57,7 +58,8 @@ lift n [] l s w = Within-none l s w
 lift n (x ∷ h) l s w = lift-more n x h l s (node_of x == n) refl (lift n h l s) w
 
 -- one place among the node's lines is one place of the history
-pub own_same : (n : ℕ) (s t : Line) (a b h : List Line) → node_of s ≡ n → node_of t ≡ n → Within (s ∷ a) h → Within (t ∷ b) h → s ∷ of n a ≡ t ∷ of n b → s ∷ a ≡ t ∷ b
+pub own_same : (n : ℕ) (s t : Line) (a b h : List Line) → node_of s ≡ n → node_of t ≡ n → Within (s ∷ a) h → Within (t ∷ b) h → s ∷ of n a ≡ t ∷ of n b → s ∷
+    a ≡ t ∷ b
 own_same n s t a b h sn tn v w o = elim (Within-comparable (s ∷ a) (t ∷ b) h v w) [
   | inl (inl e) ↦ e
   | inl (inr i) ↦ absurd (not-behind s t (of n a) (of n b) (own_in n s a b sn i) (inl (sym o)))

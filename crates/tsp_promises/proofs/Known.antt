@@ -1,7 +1,8 @@
 -- What is known of a port between the acts of its steps.
 use Rattle.std.specs.Prelude.{◌≡◌, ◌⊎◌, ◌≤◌, ℕ, ◌+◌, ◌*◌, Bool, true, false, List, [], ◌∷◌, Option, None, Some}
 use Rattle.tsp_rules.specs.Values.{PeerId, Role, Starting, Follow, Candidate, Master, CLOSE, ELECT_MIN, QUIET, ROUND, WINDOW}
-use Rattle.tsp_base.specs.Words.{Did, Seen, Here, Past, plain, MessageValue, boot_tick, last_correct, all_corrects, lives, word, is_among, Received, role, held, armed, acting, taken, backers, stood, started, exchange, word_asked, probes, open_to, message_at, heard}
+use Rattle.tsp_base.specs.Words.{Did, Seen, Here, Past, plain, MessageValue, boot_tick, last_correct, all_corrects, lives, word, is_among, Received, role, held}
+use Rattle.tsp_base.specs.Words.{armed, acting, taken, backers, stood, started, exchange, word_asked, probes, open_to, message_at, heard}
 use Rattle.tsp_promises.specs.StepFacts.{is_unbacked, owes, unacknowledged, unheeded}
 use Rattle.tsp_rules.specs.SendRows.{is_kind_election}
 use Rattle.tsp_promises.specs.PortFits.{PortFits, setup_in}
@@ -70,13 +71,16 @@ pub record Quiets (x boot : ℕ) (r : Role) (quiet search elect resolve : Option
   pub silent : (at : ℕ) → quiet ≡ Some at → (r ≡ Starting) × (boot + QUIET ≤ at)
 
 -- a candidate may stand, its window ends its candidature, and whom it asks hasn't backed it
-pub record Votes (x boot : ℕ) (own : PeerId) (r : Role) (window quit : Option ℕ) (back : Option (ℕ × PeerId)) (st : List Seen) (to : PeerId → List Seen) (bs : List PeerId) : Type 0 where
+pub record Votes (x boot : ℕ) (own : PeerId) (r : Role) (window quit : Option ℕ) (back : Option (ℕ × PeerId)) (st : List Seen) (to : PeerId →
+    List Seen) (bs : List PeerId) : Type 0 where
   pub stands : r ≡ Candidate → (boot + ELECT_MIN ≤ x) × ((t : ℕ) → quit ≡ Some t → t + ELECT_MIN ≤ x)
   pub windows : (at : ℕ) → window ≡ Some at → Candidature own at r back st
   pub votes : (p : PeerId) → asks_vote (message_at (to p)) ≡ true → is_among p bs ≡ false
 
--- a master has rounds, probes and exchanges; one that goes on was left alone, unless the port is stirred: the clock was corrected, and the round isn't given up yet
-pub record Rounds (stirred : Bool) (last : ℕ) (r : Role) (probe close round : Option ℕ) (n : ℕ) (st : List Seen) (nc nl w : ℕ) (ex : PeerId → ℕ → List Seen) : Type 0 where
+-- a master has rounds, probes and exchanges; one that goes on was left alone, unless the port is stirred: the clock was corrected, and the round isn't given up
+-- yet
+pub record Rounds (stirred : Bool) (last : ℕ) (r : Role) (probe close round : Option ℕ) (n : ℕ) (st : List Seen) (nc nl w : ℕ) (ex : PeerId → ℕ →
+    List Seen) : Type 0 where
   pub rounds : (at : ℕ) → round ≡ Some at → r ≡ Master
   pub probing : (at : ℕ) → probe ≡ Some at → Probing at close n
   pub closes : stirred ≡ false → (at : ℕ) → close ≡ Some at → Going last r at st nc nl
@@ -93,21 +97,26 @@ abbrev pub TimesOf : ℕ → List Seen → Type 0
 TimesOf x seen = Times x (boot_tick (plain seen)) (last_correct (plain seen)) (held seen).boot (started seen) (armed seen).round
 
 abbrev pub QuietsOf : ℕ → List Seen → Type 0
-QuietsOf x seen = Quiets x (boot_tick (plain seen)) (role seen) (armed seen).quiet (armed seen).search (armed seen).elect (armed seen).resolve (λ p. open_to p seen)
+QuietsOf x seen = Quiets x (boot_tick (plain seen)) (role seen) (armed seen).quiet (armed seen).search (armed seen).elect (armed seen).resolve
+    (λ p. open_to p seen)
 
 abbrev pub VotesOf : ℕ → PeerId → List Seen → Type 0
-VotesOf x own seen = Votes x (boot_tick (plain seen)) own (role seen) (armed seen).window (held seen).quit (held seen).back (stood seen) (λ p. open_to p seen) (backers seen)
+VotesOf x own seen = Votes x (boot_tick (plain seen)) own (role seen) (armed seen).window (held seen).quit (held seen).back (stood seen) (λ p. open_to p seen)
+    (backers seen)
 
 abbrev pub RoundsOf : Bool → List Seen → Type 0
-RoundsOf stirred seen = Rounds stirred (last_correct (plain seen)) (role seen) (armed seen).probe (armed seen).close (armed seen).round (probes seen) (started seen)
+RoundsOf stirred seen = Rounds stirred (last_correct (plain seen)) (role seen) (armed seen).probe (armed seen).close (armed seen).round (probes seen)
+    (started seen)
     (all_corrects (plain seen)) (lives (plain seen)) (word (plain seen)) (λ p k. exchange p k seen)
 
 -- the same of what the port of the node with this number has seen
 abbrev pub KnowsOf : Bool → ℕ → PeerId → List Seen → Type 0
 KnowsOf stirred x own seen = Knows (TimesOf x seen) (QuietsOf x seen) (VotesOf x own seen) (RoundsOf stirred seen)
 
--- a port in a step: whether it is stirred, whether its quiet time is known to be over, whether it owes a backing of itself, each peer that it must follow, that no QUIT waits for its ACK, whether it acts, what was taken here and anywhere
-pub record During (stirred awake owing : Bool) (follow : List PeerId) (acts : Bool) (T : Option Received → Option Received → Type 0) (x : ℕ) (past : Past) : Type 0 where
+-- a port in a step: whether it is stirred, whether its quiet time is known to be over, whether it owes a backing of itself, each peer that it must follow, that
+-- no QUIT waits for its ACK, whether it acts, what was taken here and anywhere
+pub record During (stirred awake owing : Bool) (follow : List PeerId) (acts : Bool) (T : Option Received → Option Received →
+    Type 0) (x : ℕ) (past : Past) : Type 0 where
   pub own : past.own.0 ≡ past.step.node
   pub fits : PortFits (setup_in past) past.seen
   pub knows : KnowsOf stirred x past.own past.seen

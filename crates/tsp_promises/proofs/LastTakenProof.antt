@@ -56,7 +56,8 @@ record Took (took : Option Received) (from : PeerId) (number : ℕ) : Type 0 whe
   pub number_is : message.number ≡ number
 
 -- what is remembered of a step is a correction
-correction-of : (b : Bool) (s : Said) (from : PeerId) (number : ℕ) → cond {A = Option Correcting} b (Some (record { from = s.from; number = s.message.number })) None ≡ Some (record { from = from; number = number }) →
+correction-of : (b : Bool) (s : Said) (from : PeerId) (number : ℕ) → cond {A = Option Correcting} b (Some (record { from = s.from; number = s.message.number }))
+    None ≡ Some (record { from = from; number = number }) →
     (b ≡ true) × ((s.from ≡ from) × (s.message.number ≡ number))
 correction-of false s from number e = let bad : ⊥ = cc in absurd bad
 correction-of true s from number e =
@@ -64,7 +65,8 @@ correction-of true s from number e =
     let same : record { from = s.from; number = s.message.number } ≡ two = cc in
     (refl, (ap (λ (z : Correcting). z.from) same, ap (λ (z : Correcting). z.number) same))
 
-correcting-is : (took : Option Received) (from : PeerId) (number : ℕ) → correcting_of (said took) ≡ Some (record { from = from; number = number }) → Took took from number
+correcting-is : (took : Option Received) (from : PeerId) (number : ℕ) → correcting_of (said took) ≡ Some (record { from = from; number = number }) →
+    Took took from number
 correcting-is took from number e = by-said (said took) refl e where
   by-said : (o : Option Said) → said took ≡ o → correcting_of o ≡ Some (record { from = from; number = number }) → Took took from number
   by-said None f h = let bad : ⊥ = cc in absurd bad
@@ -77,7 +79,8 @@ correcting-is took from number e = by-said (said took) refl e where
         number_is = t.1.1;
       }
 
-taken-before : (q : Port) (l : Line) (t : List Line) (from : PeerId) (number : ℕ) → all_corrects_after l.did.deed (all_corrects (dids t)) ≡ all_corrects (dids t) → lives_after l.did.deed (lives (dids t)) ≡ lives (dids t) →
+taken-before : (q : Port) (l : Line) (t : List Line) (from : PeerId) (number : ℕ) → all_corrects_after l.did.deed (all_corrects (dids t)) ≡
+    all_corrects (dids t) → lives_after l.did.deed (lives (dids t)) ≡ lives (dids t) →
     TakenAt q t from number → TakenAt q (l ∷ t) from number
 taken-before q l t from number a v o =
     record {
@@ -92,8 +95,10 @@ taken-before q l t from number a v o =
           ∙ sym v;
     }
 
-taken-here : (q : Port) (l : Line) (t : List Line) (from : PeerId) (number : ℕ) (deed : Deed) → deed ≡ l.did.deed → ((l.port.0 == q.0) || is_shared deed) ≡ true →
-    (last_taken (view q t) ≡ Some (record { from = from; number = number }) → TakenAt q t from number) → last_taken_after deed (taken (view q t)) (last_taken (view q t)) ≡ Some (record { from = from; number = number }) → TakenAt q (l ∷ t) from number
+taken-here : (q : Port) (l : Line) (t : List Line) (from : PeerId) (number : ℕ) (deed : Deed) → deed ≡ l.did.deed → ((l.port.0 == q.0) || is_shared deed) ≡
+    true →
+    (last_taken (view q t) ≡ Some (record { from = from; number = number }) → TakenAt q t from number) →
+    last_taken_after deed (taken (view q t)) (last_taken (view q t)) ≡ Some (record { from = from; number = number }) → TakenAt q (l ∷ t) from number
 taken-here q l t from number (Acts Boot) is b h e = let bad : ⊥ = cc in absurd bad
 taken-here q l t from number (Acts (Correct amount stepped shown)) is b h e =
     let k = correcting-is (taken (view q t)) from number e in
@@ -109,20 +114,26 @@ taken-here q l t from number (Acts (Correct amount stepped shown)) is b h e =
       all = refl;
       lives = refl;
     }
-taken-here q l t from number _ is b h e = taken-before q l t from number (ap (λ k. all_corrects_after k (all_corrects (dids t))) (sym is)) (ap (λ k. lives_after k (lives (dids t))) (sym is)) (h e)
+taken-here q l t from number _ is b h e = taken-before q l t from number (ap (λ k. all_corrects_after k (all_corrects (dids t))) (sym is))
+    (ap (λ k. lives_after k (lives (dids t))) (sym is)) (h e)
 
-taken-elsewhere : (q : Port) (l : Line) (t : List Line) (from : PeerId) (number : ℕ) (deed : Deed) → deed ≡ l.did.deed → ((l.port.0 == q.0) || is_shared deed) ≡ false →
-    (last_taken (view q t) ≡ Some (record { from = from; number = number }) → TakenAt q t from number) → last_taken_elsewhere deed (last_taken (view q t)) ≡ Some (record { from = from; number = number }) → TakenAt q (l ∷ t) from number
+taken-elsewhere : (q : Port) (l : Line) (t : List Line) (from : PeerId) (number : ℕ) (deed : Deed) → deed ≡ l.did.deed → ((l.port.0 == q.0) || is_shared deed) ≡
+    false →
+    (last_taken (view q t) ≡ Some (record { from = from; number = number }) → TakenAt q t from number) → last_taken_elsewhere deed (last_taken (view q t)) ≡
+    Some (record { from = from; number = number }) → TakenAt q (l ∷ t) from number
 taken-elsewhere q l t from number (Acts (Correct amount stepped shown)) is b h e = let bad : ⊥ = cc in absurd bad
 taken-elsewhere q l t from number (Acts Boot) is b h e = absurd (true≢false (sym (or-true (l.port.0 == q.0)) ∙ b))
-taken-elsewhere q l t from number _ is b h e = taken-before q l t from number (ap (λ k. all_corrects_after k (all_corrects (dids t))) (sym is)) (ap (λ k. lives_after k (lives (dids t))) (sym is)) (h e)
+taken-elsewhere q l t from number _ is b h e = taken-before q l t from number (ap (λ k. all_corrects_after k (all_corrects (dids t))) (sym is))
+    (ap (λ k. lives_after k (lives (dids t))) (sym is)) (h e)
 
-taken-more : (q : Port) (l : Line) (t : List Line) (from : PeerId) (number : ℕ) (b : Bool) → ((l.port.0 == q.0) || is_shared l.did.deed) ≡ b → (last_taken (view q t) ≡ Some (record { from = from; number = number }) → TakenAt q t from number) →
+taken-more : (q : Port) (l : Line) (t : List Line) (from : PeerId) (number : ℕ) (b : Bool) → ((l.port.0 == q.0) || is_shared l.did.deed) ≡ b →
+    (last_taken (view q t) ≡ Some (record { from = from; number = number }) → TakenAt q t from number) →
     last_taken (seen_as b l.did ∷ view q t) ≡ Some (record { from = from; number = number }) → TakenAt q (l ∷ t) from number
 taken-more q l t from number true b h e = taken-here q l t from number l.did.deed refl b h e
 taken-more q l t from number false b h e = taken-elsewhere q l t from number l.did.deed refl b h e
 
-pub last_taken_at : (q : Port) (t : List Line) (from : PeerId) (number : ℕ) → last_taken (view q t) ≡ Some (record { from = from; number = number }) → TakenAt q t from number
+pub last_taken_at : (q : Port) (t : List Line) (from : PeerId) (number : ℕ) → last_taken (view q t) ≡ Some (record { from = from; number = number }) →
+    TakenAt q t from number
 last_taken_at q [] from number e = let bad : ⊥ = cc in absurd bad
 last_taken_at q (l ∷ t) from number e = taken-more q l t from number ((l.port.0 == q.0) || is_shared l.did.deed) refl (last_taken_at q t from number) e
 
@@ -255,7 +266,8 @@ asked-deed (Acts (Post to (Message m))) begins was x y n v by h = later-if (is_s
 asked-deed _ begins was x y n v by h = h
 
 -- the last time that the port began to pass a date on isn't before one
-pub asked_late : (setting : Setting) (q : Port) (p : PeerId) (m : MessageValue) (x : Line) (rest t : List Line) → OwnFits setting t → x.did.deed ≡ Acts (Post (Peer p) (Message m)) → is_set_date_request m.kind ≡ true → acting (view q rest) ≡ true → Sees q x →
+pub asked_late : (setting : Setting) (q : Port) (p : PeerId) (m : MessageValue) (x : Line) (rest t : List Line) → OwnFits setting t → x.did.deed ≡
+    Acts (Post (Peer p) (Message m)) → is_set_date_request m.kind ≡ true → acting (view q rest) ≡ true → Sees q x →
     Within (x ∷ rest) t → lives (dids (x ∷ rest)) ≡ lives (dids t) → NotBefore (last_asked (view q t)) x.did.tick
 asked_late setting q p m x rest t f deed kind acts sees w v = lasting_seen setting q (λ s. NotBefore (last_asked s) x.did.tick) x rest t f sees w v
     (record { at = x.did.tick; is = rw deed (rw (kind, acts) refl); by = omega arith })

@@ -1,7 +1,10 @@
 -- What single acts make of what is known of a port.
-use Rattle.std.proofs.Common.{sym, ap, subst, arith, inr, ◌∙◌, true≢false, ◌≡◌, ◌≤◌, ℕ, ◌+◌, ◌==◌, ◌&&◌, ◌||◌, ℤ, Bool, true, false, if◌then◌else◌, cond, List, [], ◌∷◌, Option, None, Some, refl}
-use Rattle.tsp_rules.specs.Values.{Role, Act, Arm, Backer, Abandon, Close, Correct, Sample, Acked, Gave, Join, Leave, Rival, Trace, Window, Elect, Search, Round, Probe, CloseAlarm, ResolveAlarm, PeerId, Master, CLOSE, PROBE, QUIET, ROUND}
-use Rattle.tsp_base.specs.Words.{Did, Seen, Here, Past, plain, boot_tick, is_among, Received, role, armed, acting, taken, backers, held, stood, exchange, probes, started, grown, open_to, message_at, heard}
+use Rattle.std.proofs.Common.{sym, ap, subst, arith, inr, ◌∙◌, true≢false, ◌≡◌, ◌≤◌, ℕ, ◌+◌, ◌==◌, ◌&&◌, ◌||◌, ℤ, Bool, true, false, if◌then◌else◌, cond, List}
+use Rattle.std.proofs.Common.{[], ◌∷◌, Option, None, Some, refl}
+use Rattle.tsp_rules.specs.Values.{Role, Act, Arm, Backer, Abandon, Close, Correct, Sample, Acked, Gave, Join, Leave, Rival, Trace, Window, Elect, Search}
+use Rattle.tsp_rules.specs.Values.{Round, Probe, CloseAlarm, ResolveAlarm, PeerId, Master, CLOSE, PROBE, QUIET, ROUND}
+use Rattle.tsp_base.specs.Words.{Did, Seen, Here, Past, plain, boot_tick, is_among, Received, role, armed, acting, taken, backers, held, stood, exchange}
+use Rattle.tsp_base.specs.Words.{probes, started, grown, open_to, message_at, heard}
 use Rattle.tsp_rules.proofs.{Asides.now, GuardFacts.same_peer}
 use Rattle.tsp_promises.specs.{AckFits.AckedFits, CorrectFits.CorrectFits, DeedFits.ActFits, HoldFits.BackerFits, MeasureFits.SampleFits}
 use Rattle.tsp_promises.specs.StepFacts.{is_unbacked, owes, unacknowledged}
@@ -35,13 +38,24 @@ kept-vote true was old e = absurd (true≢false (sym e))
 kept-vote false was old e = old e
 
 -- a peer that is asked isn't the new backer, whose send has ended
-new-backer : (p q : PeerId) (was : List Seen) (bs : List PeerId) → (q ≡ p → was ≡ []) → asks_vote (message_at was) ≡ true → is_among q bs ≡ false → (b : Bool) → (p.0 == q.0) ≡ b → (b || is_among q bs) ≡ false
-new-backer p q was bs ended e old true same = absurd (true≢false (sym (subst (λ place. asks_vote (message_at place) ≡ true) (ended (sym (same_peer p q same))) e)))
+new-backer : (p q : PeerId) (was : List Seen) (bs : List PeerId) → (q ≡ p → was ≡ []) → asks_vote (message_at was) ≡ true → is_among q bs ≡ false → (b : Bool) →
+    (p.0 == q.0) ≡ b → (b || is_among q bs) ≡ false
+new-backer p q was bs ended e old true same = absurd (true≢false (sym (subst (λ place. asks_vote (message_at place) ≡ true) (ended (sym (same_peer p q same)))
+    e)))
 new-backer p q was bs ended e old false same = old
 
 -- an exchange of a port that is stirred now, and its round
-pub stir : {stirred : Bool} {close : Option ℕ} {nc nl nd nm w : ℕ} {s : Seen} {older : List Seen} → Asked stirred close nc nl w s older → Asked true close nd nm w s older
-stir a = record { post = a.post; is = a.is; at = a.at; goes = a.goes; word_is = a.word_is; corrects = λ calm. absurd (true≢false calm); life = λ calm. absurd (true≢false calm) }
+pub stir : {stirred : Bool} {close : Option ℕ} {nc nl nd nm w : ℕ} {s : Seen} {older : List Seen} → Asked stirred close nc nl w s older →
+    Asked true close nd nm w s older
+stir a = record {
+  post = a.post;
+  is = a.is;
+  at = a.at;
+  goes = a.goes;
+  word_is = a.word_is;
+  corrects = λ calm. absurd (true≢false calm);
+  life = λ calm. absurd (true≢false calm);
+}
 
 pub stir_round : {stirred : Bool} {last last' nc nd nl nm w n : ℕ} {r : Role} {probe close round : Option ℕ} {st : List Seen} {ex : PeerId → ℕ → List Seen} →
     Rounds stirred last r probe close round n st nc nl w ex → Rounds true last' r probe close round n st nd nm w ex
@@ -77,10 +91,23 @@ pub with_votes : {x boot : ℕ} {own : PeerId} {r : Role} {window quit : Option 
     Votes x boot own r window quit back st to' bs'
 with_votes v votes = record { stands = v.stands; windows = v.windows; votes = votes }
 
-pub made : {stirred awake owing acts : Bool} {follow : List PeerId} {T : Option Received → Option Received → Type 0} {x : ℕ} {past : Past} (a : Act) → past.own.0 ≡ past.step.node → ActFits (setup_in past) a (now x past a) past.seen → PortFits (setup_in past) past.seen →
-    KnowsOf stirred x past.own (then_seen x past a) → (awake ≡ true → boot_tick (plain (then_seen x past a)) + QUIET ≤ x) → is_unbacked (then_seen x past a) ≡ owing → owes (then_seen x past a) ≡ follow → unacknowledged (then_seen x past a) ≡ None → acting (then_seen x past a) ≡ acts → T (taken (then_seen x past a)) (heard (plain (then_seen x past a))) →
+pub made : {stirred awake owing acts : Bool} {follow : List PeerId} {T : Option Received → Option Received → Type 0} {x : ℕ} {past : Past} (a : Act) →
+    past.own.0 ≡ past.step.node → ActFits (setup_in past) a (now x past a) past.seen → PortFits (setup_in past) past.seen →
+    KnowsOf stirred x past.own (then_seen x past a) → (awake ≡ true → boot_tick (plain (then_seen x past a)) + QUIET ≤ x) → is_unbacked (then_seen x past a) ≡
+    owing → owes (then_seen x past a) ≡ follow → unacknowledged (then_seen x past a) ≡ None → acting (then_seen x past a) ≡ acts →
+    T (taken (then_seen x past a)) (heard (plain (then_seen x past a))) →
     During stirred awake owing follow acts T x (grown x past (a ∷ []))
-made a own f fits knows rested backs owed paid acting_is took = record { own = own; fits = (f, fits); knows = knows; rested = rested; backs = backs; owed = owed; paid = paid; acting_is = acting_is; took = took }
+made a own f fits knows rested backs owed paid acting_is took = record {
+  own = own;
+  fits = (f, fits);
+  knows = knows;
+  rested = rested;
+  backs = backs;
+  owed = owed;
+  paid = paid;
+  acting_is = acting_is;
+  took = took;
+}
 
 -- without a round nothing stirs a port
 pub calmed : {stirred now : Bool} (x : ℕ) (own : PeerId) (seen : List Seen) → (armed seen).close ≡ None → KnowsOf stirred x own seen → KnowsOf now x own seen
@@ -121,7 +148,8 @@ module _ {stirred awake owing acts : Bool} {follow : List PeerId} {T : Option Re
   pub trace : (on : Bool) → During stirred awake owing follow acts T x past → During stirred awake owing follow acts T x (grown x past (Trace on ∷ []))
   trace on h = made (Trace on) h.own tt h.fits h.knows h.rested h.backs h.owed h.paid h.acting_is h.took
 
-  pub close_act : (count : ℕ) (lo size mean : ℤ) → CloseFits (now x past (Close count lo size mean)) past.seen → During stirred awake owing follow acts T x past → During stirred awake owing follow acts T x (grown x past (Close count lo size mean ∷ []))
+  pub close_act : (count : ℕ) (lo size mean : ℤ) → CloseFits (now x past (Close count lo size mean)) past.seen →
+      During stirred awake owing follow acts T x past → During stirred awake owing follow acts T x (grown x past (Close count lo size mean ∷ []))
   close_act count lo size mean f h = made (Close count lo size mean) h.own f h.fits h.knows h.rested h.backs h.owed h.paid h.acting_is h.took
 
 -- acts of a port whose quiet time is over
@@ -134,7 +162,8 @@ module _ {stirred owing acts : Bool} {follow : List PeerId} {T : Option Received
   arm_elect at h = made (Arm Elect at) h.own tt h.fits (with_quiet h.knows
       (now_rested (h.rested refl) h.knows.quiet)) h.rested h.backs h.owed h.paid h.acting_is h.took
 
-  pub arm_resolve : (at : ℕ) → During stirred true owing follow acts T x past → During stirred true owing follow acts T x (grown x past (Arm ResolveAlarm at ∷ []))
+  pub arm_resolve : (at : ℕ) → During stirred true owing follow acts T x past → During stirred true owing follow acts T x (grown x past (Arm ResolveAlarm at ∷
+      []))
   arm_resolve at h = made (Arm ResolveAlarm at) h.own tt h.fits (with_quiet h.knows
       (now_rested (h.rested refl) h.knows.quiet)) h.rested h.backs h.owed h.paid h.acting_is h.took
 
@@ -144,13 +173,15 @@ module _ {stirred owing acts : Bool} {follow : List PeerId} {T : Option Received
       let vote = with_votes k.vote (λ q e. kept-vote (p.0 == q.0) (open_to q past.seen) (k.vote.votes q) e) in
       made (Gave p) h.own tt h.fits (with_quiet (with_vote k vote) (now_rested (h.rested refl) k.quiet)) h.rested h.backs h.owed h.paid h.acting_is h.took
 
-  pub acked : (p : PeerId) → AckedFits past.seen p → During stirred true owing follow acts T x past → During stirred true owing follow acts T x (grown x past (Acked p ∷ []))
+  pub acked : (p : PeerId) → AckedFits past.seen p → During stirred true owing follow acts T x past →
+      During stirred true owing follow acts T x (grown x past (Acked p ∷ []))
   acked p f h =
       let k = h.knows in
       let vote = with_votes k.vote (λ q e. kept-vote (p.0 == q.0) (open_to q past.seen) (k.vote.votes q) e) in
       made (Acked p) h.own f h.fits (with_quiet (with_vote k vote) (now_rested (h.rested refl) k.quiet)) h.rested h.backs h.owed h.paid h.acting_is h.took
 
-  pub backer : (p : PeerId) → BackerFits (setup_in past) (now x past (Backer p)) past.seen p → open_to p past.seen ≡ [] → During stirred true owing follow acts T x past → During stirred true owing follow acts T x (grown x past (Backer p ∷ []))
+  pub backer : (p : PeerId) → BackerFits (setup_in past) (now x past (Backer p)) past.seen p → open_to p past.seen ≡ [] →
+      During stirred true owing follow acts T x past → During stirred true owing follow acts T x (grown x past (Backer p ∷ []))
   backer p f ended h =
       let k = h.knows in
       made (Backer p) h.own f h.fits
@@ -160,7 +191,8 @@ module _ {stirred owing acts : Bool} {follow : List PeerId} {T : Option Received
       h.rested h.backs h.owed h.paid h.acting_is h.took
 
 module _ {stirred awake owing acts : Bool} {follow : List PeerId} {T : Option Received → Option Received → Type 0} {x : ℕ} {past : Past} where
-  pub arm_window : (at : ℕ) → Candidature past.own at (role past.seen) (held past.seen).back (stood past.seen) → During stirred awake owing follow acts T x past → During stirred awake owing follow acts T x (grown x past (Arm Window at ∷ []))
+  pub arm_window : (at : ℕ) → Candidature past.own at (role past.seen) (held past.seen).back (stood past.seen) →
+      During stirred awake owing follow acts T x past → During stirred awake owing follow acts T x (grown x past (Arm Window at ∷ []))
   arm_window at c h =
       let k = h.knows in
       made (Arm Window at) h.own tt h.fits
@@ -171,7 +203,8 @@ module _ {stirred awake owing acts : Bool} {follow : List PeerId} {T : Option Re
       }))
       h.rested h.backs h.owed h.paid h.acting_is h.took
 
-  pub arm_round : (at : ℕ) → role past.seen ≡ Master → ((start : Did) (idle : List Seen) → started past.seen ≡ Here start ∷ idle → start.tick + ROUND ≤ at) → During stirred awake owing follow acts T x past → During stirred awake owing follow acts T x (grown x past (Arm Round at ∷ []))
+  pub arm_round : (at : ℕ) → role past.seen ≡ Master → ((start : Did) (idle : List Seen) → started past.seen ≡ Here start ∷ idle → start.tick + ROUND ≤ at) →
+      During stirred awake owing follow acts T x past → During stirred awake owing follow acts T x (grown x past (Arm Round at ∷ []))
   arm_round at r spaced h =
       let k = h.knows in
       made (Arm Round at) h.own tt h.fits
@@ -184,7 +217,8 @@ module _ {stirred awake owing acts : Bool} {follow : List PeerId} {T : Option Re
       })) (record { rounds = λ n e. r; probing = k.round.probing; closes = k.round.closes; exchanges = k.round.exchanges }))
       h.rested h.backs h.owed h.paid h.acting_is h.took
 
-  pub arm_probe : (at : ℕ) → Probing at (armed past.seen).close (probes past.seen) → During stirred awake owing follow acts T x past → During stirred awake owing follow acts T x (grown x past (Arm Probe at ∷ []))
+  pub arm_probe : (at : ℕ) → Probing at (armed past.seen).close (probes past.seen) → During stirred awake owing follow acts T x past →
+      During stirred awake owing follow acts T x (grown x past (Arm Probe at ∷ []))
   arm_probe at p h =
       let k = h.knows in
       made (Arm Probe at) h.own tt h.fits
@@ -197,7 +231,9 @@ module _ {stirred awake owing acts : Bool} {follow : List PeerId} {T : Option Re
       h.rested h.backs h.owed h.paid h.acting_is h.took
 
   -- a round begins with its two alarms, ROUND after the last one; the next one is put off already
-  pub arm_round_alarms : role past.seen ≡ Master → ((start : Did) (idle : List Seen) → started past.seen ≡ Here start ∷ idle → start.tick + ROUND ≤ x) → (armed past.seen).round ≡ Some (x + ROUND) → During stirred awake owing follow acts T x past → During stirred awake owing follow acts T x (grown x past (Arm Probe (x + PROBE) ∷ Arm CloseAlarm (x + CLOSE) ∷ []))
+  pub arm_round_alarms : role past.seen ≡ Master → ((start : Did) (idle : List Seen) → started past.seen ≡ Here start ∷ idle → start.tick + ROUND ≤ x) →
+      (armed past.seen).round ≡ Some (x + ROUND) → During stirred awake owing follow acts T x past →
+      During stirred awake owing follow acts T x (grown x past (Arm Probe (x + PROBE) ∷ Arm CloseAlarm (x + CLOSE) ∷ []))
   arm_round_alarms leads spaced put_off h =
       let k = h.knows in record {
         own = h.own;
@@ -241,7 +277,9 @@ module _ {stirred awake owing acts : Bool} {follow : List PeerId} {T : Option Re
   abandon h = made Abandon h.own tt h.fits (abandoned x past h.knows) h.rested h.backs h.owed h.paid h.acting_is h.took
 
   -- the clock is corrected, and a round may go on
-  pub correct_stirring : (amount : ℤ) (stepped : Bool) (shown : ℤ) → CorrectFits (setup_in past) (now x past (Correct amount stepped shown)) past.seen amount stepped shown → During stirred awake owing follow acts T x past → During true awake owing follow acts T x (grown x past (Correct amount stepped shown ∷ []))
+  pub correct_stirring : (amount : ℤ) (stepped : Bool) (shown : ℤ) → CorrectFits (setup_in past) (now x past (Correct amount stepped shown)) past.seen amount
+      stepped shown → During stirred awake owing follow acts T x past → During true awake owing follow acts T x (grown x past (Correct amount stepped shown ∷
+      []))
   correct_stirring amount stepped shown f h =
       let k = h.knows in
       made (Correct amount stepped shown) h.own f h.fits
@@ -251,12 +289,17 @@ module _ {stirred awake owing acts : Bool} {follow : List PeerId} {T : Option Re
       h.rested h.backs h.owed h.paid h.acting_is h.took
 
   -- the same without a round
-  pub correct : (amount : ℤ) (stepped : Bool) (shown : ℤ) → (armed past.seen).close ≡ None → CorrectFits (setup_in past) (now x past (Correct amount stepped shown)) past.seen amount stepped shown → During stirred awake owing follow acts T x past → During stirred awake owing follow acts T x (grown x past (Correct amount stepped shown ∷ []))
+  pub correct : (amount : ℤ) (stepped : Bool) (shown : ℤ) → (armed past.seen).close ≡ None →
+      CorrectFits (setup_in past) (now x past (Correct amount stepped shown)) past.seen amount stepped shown → During stirred awake owing follow acts T x past →
+      During stirred awake owing follow acts T x (grown x past (Correct amount stepped shown ∷ []))
   correct amount stepped shown idle f h =
       let k = correct_stirring amount stepped shown f h in
-      made (Correct amount stepped shown) h.own f h.fits (calmed x past.own (then_seen x past (Correct amount stepped shown)) idle k.knows) h.rested h.backs h.owed h.paid h.acting_is h.took
+      made (Correct amount stepped shown) h.own f h.fits (calmed x past.own (then_seen x past (Correct amount stepped shown)) idle k.knows) h.rested h.backs
+      h.owed h.paid h.acting_is h.took
 
-  pub sample : (p : PeerId) (counter : ℕ) (diff err : ℤ) (number : ℕ) → SampleFits (now x past (Sample p counter diff err number)) past.seen p counter diff err number → During stirred awake owing follow acts T x past → During stirred awake owing follow acts T x (grown x past (Sample p counter diff err number ∷ []))
+  pub sample : (p : PeerId) (counter : ℕ) (diff err : ℤ) (number : ℕ) → SampleFits (now x past (Sample p counter diff err number)) past.seen p counter diff err
+      number → During stirred awake owing follow acts T x past → During stirred awake owing follow acts T x (grown x past (Sample p counter diff err number ∷
+      []))
   sample p counter diff err number f h =
       let k = h.knows in
       made (Sample p counter diff err number) h.own f h.fits

@@ -13,7 +13,8 @@ sharp_over : (setting : Setting) (n a b : ℕ) → a ≤ b →
     (setting.tick n b ≤ setting.tick n a + (b - a) + part setting.drift (b - a)) × (setting.tick n a + (b - a) ≤ setting.tick n b + part setting.drift (b - a))
 sharp_over setting n a b o =
     let e : a + (b - a) ≡ b = omega arith in
-    subst (λ w. (setting.tick n w ≤ setting.tick n a + (b - a) + part setting.drift (b - a)) × (setting.tick n a + (b - a) ≤ setting.tick n w + part setting.drift (b - a))) e
+    subst (λ w. (setting.tick n w ≤ setting.tick n a + (b - a) + part setting.drift (b - a)) ×
+    (setting.tick n a + (b - a) ≤ setting.tick n w + part setting.drift (b - a))) e
     (let k = setting.ticks n in (k.fast a (b - a), k.slow a (b - a)))
 
 -- the drift of a span is no more than that of a longer one
@@ -40,7 +41,8 @@ apart : (w v : ℤ) (kf kl kt mm mt span e b : ℕ) →
     (((v +ℤ pos mt) -ℤ (w +ℤ pos kt)) ≤ℤ (((v +ℤ pos mm) -ℤ (w +ℤ pos kf)) +ℤ pos (2 * b)))
 apart w v kf kl kt mm mt span e b f l up down kup kdown le = (omega (arith, ints), omega (arith, ints))
 
-looked-from : (setting : Setting) (h : List Line) → Fits setting h → (k m t : ℕ) (look : Look k m h t) (b : ℕ) → part setting.drift (t - look.middle) ≤ b → IsAhead setting look b
+looked-from : (setting : Setting) (h : List Line) → Fits setting h → (k m t : ℕ) (look : Look k m h t) (b : ℕ) → part setting.drift (t - look.middle) ≤ b →
+    IsAhead setting look b
 looked-from setting h fits k m t look b le =
     let kb = offset_kept setting k look.before h fits look.own_before.within look.own_before.since in
     let ka = offset_kept setting k look.after h fits look.own_after.within look.own_after.since in

@@ -1,5 +1,6 @@
 -- What a node does with a LOOP keeps what is known of each of its ports.
-use Rattle.std.proofs.Common.{sym, subst, inr, ap, arith, true≢false, eqb-true, eq-eqb, leb-true, ltb-true, ◌∙◌, ◌≡◌, ◌≢◌, ◌≤◌, ◌<◌, ℕ, ◌+◌, ◌-◌, ◌==◌, ◌&&◌, nat_le, nat_lt, Bool, true, false, if◌then◌else◌, List, [], ◌∷◌, map, length, Option, Some, refl, inl, not, None, is_some}
+use Rattle.std.proofs.Common.{sym, subst, inr, ap, arith, true≢false, eqb-true, eq-eqb, leb-true, ltb-true, ◌∙◌, ◌≡◌, ◌≢◌, ◌≤◌, ◌<◌, ℕ, ◌+◌, ◌-◌, ◌==◌, ◌&&◌}
+use Rattle.std.proofs.Common.{nat_le, nat_lt, Bool, true, false, if◌then◌else◌, List, [], ◌∷◌, map, length, Option, Some, refl, inl, not, None, is_some}
 use Rattle.std.proofs.lemmas.Bool.{and_parts, not-true}
 use Rattle.tsp_promises.proofs.GateSteps.{AtPort, own_of, on_run, AllPorts, LeadsAll, Pick, picks, passes, placed_all, same_port}
 use Rattle.tsp_promises.proofs.HeedLeads.{EndsIn, ends_family, untaken_heeds, unquit_heeds, took_quit}
@@ -9,10 +10,12 @@ use Rattle.tsp_promises.proofs.{Elsewheres.open_family, Elsewheres.kept_aside, E
 use Rattle.tsp_promises.proofs.{TakenLeads.rests_of, TakenLeads.wake_role, TakenLeads.master_awake, AlarmLeads.master_rested}
 use Rattle.tsp_promises.proofs.{Known.Open, Known.OpenIn, Known.Free, Known.During, Known.Ended, AnswerLeads.open_rests, RoundLeads.Probed}
 use Rattle.tsp_promises.specs.{DeedFits.MessageFits, StepFacts.is_quit, LoopFits.LoopFits, PortFits.setup_in}
-use Rattle.tsp_rules.specs.Values.{Took, Post, Become, Message, Taken, Good, LoopKind, Body, Hops, PeerId, Place, Peer, Stranger, Port, Starting, Loose, Probe, CloseAlarm}
+use Rattle.tsp_rules.specs.Values.{Took, Post, Become, Message, Taken, Good, LoopKind, Body, Hops, PeerId, Place, Peer, Stranger, Port, Starting, Loose, Probe}
+use Rattle.tsp_rules.specs.Values.{CloseAlarm}
 use Rattle.tsp_rules.{specs.CandidateRows.yields, specs.CommonRows.arms_elect, specs.SendRows.is_kind_election, proofs.FewActs.is_calm}
 use Rattle.tsp_rules.{specs.Guards.is_master_at, specs.Guards.is_starting_role, proofs.BuiltGate.built_loosens_master}
-use Rattle.tsp_rules.specs.GateRows.{other_ports, hops_in, same_name, PassOver, GiveUp, Forward, one_hop_less, repost, reposts, is_awake_on, reposts_on, loosens_master, forwards, takes_loop_step, hears_on, judges, heeds_loop, takes_loop, loop_to, sends_loops, is_last_probe}
+use Rattle.tsp_rules.specs.GateRows.{other_ports, hops_in, same_name, PassOver, GiveUp, Forward, one_hop_less, repost, reposts, is_awake_on, reposts_on}
+use Rattle.tsp_rules.specs.GateRows.{loosens_master, forwards, takes_loop_step, hears_on, judges, heeds_loop, takes_loop, loop_to, sends_loops, is_last_probe}
 use Rattle.tsp_rules.specs.NodeRows.{NodePast, on_port, spread, nothing_at_all, on, ◌and_then◌, reading_all, for_ports}
 use Rattle.tsp_rules.proofs.Asides.{now}
 use Rattle.tsp_rules.proofs.{CalmBuilt.calm_unmoving, GuardFacts.awake_is, GuardFacts.master_is, NodeRowLemmas.spread_append}
@@ -22,8 +25,19 @@ use Rattle.tsp_base.proofs.LeadsLemmas.{Leads_then, Leads_either, Leads_nothing,
 -- the LOOPs after a round's last probe keep what is known of their port
 
 -- a port in a step, whether it has acted or not
-pub during_open : {stirred : Bool} {T : Option Received → Option Received → Type 0} {x : ℕ} {past : Past} → OpenIn stirred T x past → During stirred false false [] (acting past.seen) T x past
-during_open h = record { own = h.own; fits = h.fits; knows = h.knows; rested = λ e. absurd (true≢false (sym e)); backs = h.backs; owed = h.owed; paid = h.paid; acting_is = refl; took = h.took }
+pub during_open : {stirred : Bool} {T : Option Received → Option Received → Type 0} {x : ℕ} {past : Past} → OpenIn stirred T x past →
+    During stirred false false [] (acting past.seen) T x past
+during_open h = record {
+  own = h.own;
+  fits = h.fits;
+  knows = h.knows;
+  rested = λ e. absurd (true≢false (sym e));
+  backs = h.backs;
+  owed = h.owed;
+  paid = h.paid;
+  acting_is = refl;
+  took = h.took;
+}
 
 -- port q, whose round has had its last probe
 record Looping (q : Port) (x : ℕ) (past : Past) : Type 0 where
@@ -38,7 +52,8 @@ loops-one q x past p h =
     let rested = master_rested x past port (port.knows.round.closes refl h.until h.goes).leads in
     record {
       probed = record {
-        open_port = open_of (post_message p _ refl (inl (record { name = refl; number = ap (λ (r : Port). r.0) (sym h.port_is); hops = refl })) (wake rested (during_open port)));
+        open_port = open_of (post_message p _ refl (inl (record { name = refl; number = ap (λ (r : Port). r.0) (sym h.port_is); hops = refl }))
+            (wake rested (during_open port)));
         later = h.probed.later;
       };
       port_is = h.port_is;
@@ -67,7 +82,8 @@ abbrev pub IsHeard : Place → Taken → Option Received → Option Received →
 IsHeard from t here anywhere = (here ≡ None) × (anywhere ≡ Some (record { from = from; taken = t }))
 
 -- a port that took the LOOP has no QUIT to heed
-loop_ends : {stirred awake : Bool} {x : ℕ} {past : Past} (from : Place) (m : MessageValue) → m.kind ≡ LoopKind → During stirred awake false [] true (Is from (Good (Message m))) x past → EndsIn stirred x past
+loop_ends : {stirred awake : Bool} {x : ℕ} {past : Past} (from : Place) (m : MessageValue) → m.kind ≡ LoopKind →
+    During stirred awake false [] true (Is from (Good (Message m))) x past → EndsIn stirred x past
 loop_ends {past = past} from m kind h = (rests_of h, unquit_heeds past.peers past.seen (ap took_quit h.took ∙ ap is_quit kind))
 
 -- names
@@ -97,7 +113,14 @@ gives-up-leads : (p : PeerId) (m : MessageValue) → m.kind ≡ LoopKind → Lea
 unfolding loosens_master yields
 gives-up-leads p m kind = Leads_either is_master_at (puts (Become Loose) followed_by arms_elect) nothing
     (Leads_then {Q = Free (Is (Peer p) (Good (Message m)))} (puts (Become Loose)) arms_elect
-    (Leads_puts (Become Loose) (λ x past h. become_loose (λ e. record { from = p; message = m; took = h.0.just.free.took; kind = kind; name = h.0.name; number = h.0.number })
+    (Leads_puts (Become Loose) (λ x past h. become_loose (λ e. record {
+      from = p;
+      message = m;
+      took = h.0.just.free.took;
+      kind = kind;
+      name = h.0.name;
+      number = h.0.number;
+    })
     (wake_role (master_awake (role past.seen) (master_is (role past.seen) h.1)) h.0.just.free)))
     (Leads_to (λ x past h. loop_ends (Peer p) m kind h) arms_elect_during))
     (Leads_from (λ x past h. loop_ends (Peer p) m kind h.0.just.free) Leads_nothing)
@@ -115,7 +138,8 @@ record Passing (p : PeerId) (m : MessageValue) (x : ℕ) (past : Past) : Type 0 
   pub awake : role past.seen ≢ Starting
   pub known : Known_loop m past.name
 
-loop-message : (p q : PeerId) (m : MessageValue) (x : ℕ) (past : Past) → Passing p m x past → MessageFits (setup_in past) (one_hop_less m).kind (now x past (Post (Peer q) (Message (one_hop_less m)))) past.seen q (one_hop_less m)
+loop-message : (p q : PeerId) (m : MessageValue) (x : ℕ) (past : Past) → Passing p m x past →
+    MessageFits (setup_in past) (one_hop_less m).kind (now x past (Post (Peer q) (Message (one_hop_less m)))) past.seen q (one_hop_less m)
 loop-message p q m x past h =
     let k = h.known in
     let some = leb-true 1 (hops_in m.body) k.some in
@@ -143,7 +167,8 @@ passing-one p q m x past h = record {
   known = h.known;
 }
 
-passing-list : (p : PeerId) (m : MessageValue) (ps : List PeerId) (x : ℕ) (past : Past) → Passing p m x past → Passing p m x (grown x past (map (repost (one_hop_less m)) ps))
+passing-list : (p : PeerId) (m : MessageValue) (ps : List PeerId) (x : ℕ) (past : Past) → Passing p m x past →
+    Passing p m x (grown x past (map (repost (one_hop_less m)) ps))
 passing-list p m [] x past h = h
 passing-list p m (q ∷ ps) x past h = passing-list p m ps x (grown x past (repost (one_hop_less m) q ∷ [])) (passing-one p q m x past h)
 
@@ -155,7 +180,8 @@ repost-calm m (p ∷ ps) = repost-calm m ps
 abbrev pub Spreading : Port → Place → MessageValue → Port → ℕ → Past → Type 0
 Spreading q from m r = Pick (q.0 == r.0) Ended (OpenIn false (IsHeard from (Good (Message m))))
 
-reposts-one : (q r : Port) (p : PeerId) (m : MessageValue) (x : ℕ) (past : NodePast) → Known_loop m past.name → (q.0 == r.0) ≡ false → r.0 < length past.ports → AllPorts (Spreading q (Peer p) m) x past →
+reposts-one : (q r : Port) (p : PeerId) (m : MessageValue) (x : ℕ) (past : NodePast) → Known_loop m past.name → (q.0 == r.0) ≡ false → r.0 < length past.ports →
+    AllPorts (Spreading q (Peer p) m) x past →
     AllPorts (Spreading q (Peer p) m) x (spread x past (reposts_on (one_hop_less m) r x past))
 unfolding reposts_on on reposts
 reposts-one q r p m x past k n has all = by_case (is_awake_on past r) refl where
@@ -167,11 +193,15 @@ reposts-one q r p m x past k n has all = by_case (is_awake_on past r) refl where
       let awake = awake_is (role here.seen) (not-true (is_starting_role (role here.seen)) e) in
       placed_all r x past acts (Spreading q (Peer p) m) (Spreading q (Peer p) m) (calm_bootless false false acts calm)
       (passes n (passing-list p m (others here.own here.peers) x here (record { open_port = (all r has).no n; awake = awake; known = k })).open_port)
-      (λ s d h y. record { yes = λ t. kept_aside ends_family false x (on_port s past) acts calm (y.yes t); no = λ t. kept_aside open_family false x (on_port s past) acts calm (y.no t) })
+      (λ s d h y. record {
+        yes = λ t. kept_aside ends_family false x (on_port s past) acts calm (y.yes t);
+        no = λ t. kept_aside open_family false x (on_port s past) acts calm (y.no t);
+      })
       all
   by_case false e = all
 
-reposts-all : (q : Port) (p : PeerId) (m : MessageValue) (ports : List Port) (x : ℕ) (past : NodePast) → Known_loop m past.name → Ranged (length past.ports) ports → Others q ports → AllPorts (Spreading q (Peer p) m) x past →
+reposts-all : (q : Port) (p : PeerId) (m : MessageValue) (ports : List Port) (x : ℕ) (past : NodePast) → Known_loop m past.name →
+    Ranged (length past.ports) ports → Others q ports → AllPorts (Spreading q (Peer p) m) x past →
     AllPorts (Spreading q (Peer p) m) x (spread x past (for_ports (reposts_on (one_hop_less m)) ports x past))
 unfolding for_ports nothing_at_all ◌and_then◌
 reposts-all q p m [] x past k ranged other all = all
@@ -184,7 +214,8 @@ reposts-all q p m (r ∷ rest) x past k ranged other all =
 abbrev pub TookLoop : Port → Place → MessageValue → ℕ → NodePast → Type 0
 TookLoop q from m = AtPort q (JustTook false from (Good (Message m))) (λ r. OpenIn false (IsHeard from (Good (Message m))))
 
-resting : (q : Port) (from : Place) (m : MessageValue) (x : ℕ) (past : NodePast) → m.kind ≡ LoopKind → TookLoop q from m x past → AllPorts (Spreading q from m) x past
+resting : (q : Port) (from : Place) (m : MessageValue) (x : ℕ) (past : NodePast) → m.kind ≡ LoopKind → TookLoop q from m x past →
+    AllPorts (Spreading q from m) x past
 resting q from m x past kind h r has = let y = h.all r has in record { yes = λ e. loop_ends from m kind (y.yes e).free; no = y.no }
 
 ends-rest : (q : Port) (from : Place) (m : MessageValue) (x : ℕ) (past : NodePast) → AllPorts (Spreading q from m) x past → AllPorts (λ r. Ended) x past
@@ -196,7 +227,8 @@ ends-rest q from m x past all r has = by_case (q.0 == r.0) refl where
 loop_over : (q : Port) (from : Place) (m : MessageValue) (x : ℕ) (past : NodePast) → m.kind ≡ LoopKind → TookLoop q from m x past → AllPorts (λ r. Ended) x past
 loop_over q from m x past kind h = ends-rest q from m x past (resting q from m x past kind h)
 
-gives-up-all : (q : Port) (p : PeerId) (m : MessageValue) (x : ℕ) (past : NodePast) → m.kind ≡ LoopKind → m.name ≡ past.name → m.number < q.0 → TookLoop q (Peer p) m x past → AllPorts (λ r. Ended) x (spread x past (on q loosens_master x past))
+gives-up-all : (q : Port) (p : PeerId) (m : MessageValue) (x : ℕ) (past : NodePast) → m.kind ≡ LoopKind → m.name ≡ past.name → m.number < q.0 →
+    TookLoop q (Peer p) m x past → AllPorts (λ r. Ended) x (spread x past (on q loosens_master x past))
 gives-up-all q p m x past kind name number h =
     let heard = IsHeard (Peer p) (Good (Message m)) in
     let own = (gives-up-leads p m kind).run x (on_port q past) (record { just = own_of q x past h; name = name; number = number }) in
@@ -204,35 +236,42 @@ gives-up-all q p m x past kind name number h =
     let after = on_run (λ r stirred. OpenIn stirred heard) (λ r. open_family) {Q = Ended} false q loosens_master x past calm own h in
     ends-rest q (Peer p) m x (spread x past (on q loosens_master x past)) after.all
 
-forwards-all : (q : Port) (p : PeerId) (m : MessageValue) (x : ℕ) (past : NodePast) → Known_loop m past.name → TookLoop q (Peer p) m x past → AllPorts (λ r. Ended) x (spread x past (forwards q (one_hop_less m) x past))
+forwards-all : (q : Port) (p : PeerId) (m : MessageValue) (x : ℕ) (past : NodePast) → Known_loop m past.name → TookLoop q (Peer p) m x past →
+    AllPorts (λ r. Ended) x (spread x past (forwards q (one_hop_less m) x past))
 unfolding forwards
 forwards-all q p m x past k h =
     ends-rest q (Peer p) m x (spread x past (for_ports (reposts_on (one_hop_less m)) (other_ports q past) x past))
     (reposts-all q p m (other_ports q past) x past k (other_ranged q past) (other_others q past) (resting q (Peer p) m x past k.kind h))
 
-judges-all : (q : Port) (p : PeerId) (m : MessageValue) (x : ℕ) (past : NodePast) → m.kind ≡ LoopKind → TookLoop q (Peer p) m x past → AllPorts (λ r. Ended) x (spread x past (judges q m x past))
+judges-all : (q : Port) (p : PeerId) (m : MessageValue) (x : ℕ) (past : NodePast) → m.kind ≡ LoopKind → TookLoop q (Peer p) m x past →
+    AllPorts (λ r. Ended) x (spread x past (judges q m x past))
 unfolding judges takes_loop_step nothing_at_all
-judges-all q p m x past kind h = by_case (nat_le 2 (length past.ports)) (same_name m.name past.name) refl (nat_lt m.number q.0) refl (nat_le 1 (hops_in m.body) && nat_le (hops_in m.body) 10) refl where
-  over : AllPorts (λ r. Ended) x past
-  over = loop_over q (Peer p) m x past kind h
+judges-all q p m x past kind h = by_case (nat_le 2 (length past.ports)) (same_name m.name past.name) refl (nat_lt m.number q.0) refl
+    (nat_le 1 (hops_in m.body) && nat_le (hops_in m.body) 10) refl where
+      over : AllPorts (λ r. Ended) x past
+      over = loop_over q (Peer p) m x past kind h
 
-  by_case : (two same : Bool) → same_name m.name past.name ≡ same → (lower : Bool) → nat_lt m.number q.0 ≡ lower → (hops : Bool) → (nat_le 1 (hops_in m.body) && nat_le (hops_in m.body) 10) ≡ hops →
-      AllPorts (λ r. Ended) x (spread x past (takes_loop_step q (if two then (if same then (if lower then GiveUp else PassOver) else (if hops then Forward (one_hop_less m) else PassOver)) else PassOver) x past))
-  by_case true true s true l hops o = gives-up-all q p m x past kind (name-same m.name past.name s) (ltb-true m.number q.0 l) h
-  by_case true false s lower l true o =
-      let both = and_parts (nat_le 1 (hops_in m.body)) (nat_le (hops_in m.body) 10) o in
-      let other : m.name ≢ past.name = λ is. true≢false (sym (name-own m.name) ∙ ap (same_name m.name) is ∙ s) in
-      forwards-all q p m x past (record { kind = kind; other = other; some = both.0; few = leb-true (hops_in m.body) 10 both.1 }) h
-  by_case _ _ s _ l _ o = over
+      by_case : (two same : Bool) → same_name m.name past.name ≡ same → (lower : Bool) → nat_lt m.number q.0 ≡ lower → (hops : Bool) →
+          (nat_le 1 (hops_in m.body) && nat_le (hops_in m.body) 10) ≡ hops →
+          AllPorts (λ r. Ended) x (spread x past (takes_loop_step q (if two then (if same then (if lower then GiveUp else PassOver) else
+          (if hops then Forward (one_hop_less m) else PassOver)) else PassOver) x past))
+      by_case true true s true l hops o = gives-up-all q p m x past kind (name-same m.name past.name s) (ltb-true m.number q.0 l) h
+      by_case true false s lower l true o =
+          let both = and_parts (nat_le 1 (hops_in m.body)) (nat_le (hops_in m.body) 10) o in
+          let other : m.name ≢ past.name = λ is. true≢false (sym (name-own m.name) ∙ ap (same_name m.name) is ∙ s) in
+          forwards-all q p m x past (record { kind = kind; other = other; some = both.0; few = leb-true (hops_in m.body) 10 both.1 }) h
+      by_case _ _ s _ l _ o = over
 
-heeds-all : (q : Port) (from : Place) (m : MessageValue) (x : ℕ) (past : NodePast) → m.kind ≡ LoopKind → TookLoop q from m x past → (b : Bool) → hears_on from q x past ≡ b → AllPorts (λ r. Ended) x (spread x past (heeds_loop q m b x past))
+heeds-all : (q : Port) (from : Place) (m : MessageValue) (x : ℕ) (past : NodePast) → m.kind ≡ LoopKind → TookLoop q from m x past → (b : Bool) →
+    hears_on from q x past ≡ b → AllPorts (λ r. Ended) x (spread x past (heeds_loop q m b x past))
 unfolding heeds_loop nothing_at_all
 heeds-all q (Peer p) m x past kind h true e = judges-all q p m x past kind h
 heeds-all q Stranger m x past kind h true e = absurd (true≢false (sym e))
 heeds-all q from m x past kind h false e = loop_over q from m x past kind h
 
 -- a LOOP is taken
-pub takes_loop_lead : (q : Port) (from : Place) (m : MessageValue) → m.kind ≡ LoopKind → LeadsAll (λ x past. (q.0 < length past.ports) × AllPorts (λ r. Open) x past) (takes_loop q from m) (AllPorts (λ r. Ended))
+pub takes_loop_lead : (q : Port) (from : Place) (m : MessageValue) → m.kind ≡ LoopKind →
+    LeadsAll (λ x past. (q.0 < length past.ports) × AllPorts (λ r. Open) x past) (takes_loop q from m) (AllPorts (λ r. Ended))
 unfolding takes_loop on puts ◌and_then◌ reading_all
 takes_loop_lead q from m kind = record {
   run = λ x past h.
@@ -241,10 +280,12 @@ takes_loop_lead q from m kind = record {
       let mid = spread x past first in
       let took : TookLoop q from m x mid = record {
         has = h.0;
-        all = placed_all q x past (Took from t ∷ []) (λ r. Open) (λ r. Pick (q.0 == r.0) (JustTook false from t) (OpenIn false (IsHeard from t))) ((λ is. let bad : ⊥ = cc in bad), tt)
+        all = placed_all q x past (Took from t ∷ []) (λ r. Open) (λ r. Pick (q.0 == r.0) (JustTook false from t) (OpenIn false (IsHeard from t)))
+            ((λ is. let bad : ⊥ = cc in bad), tt)
             (picks (same_port q) (take from t (h.1 q h.0)))
             (λ r n has s. passes n (record
             { own = s.own; fits = s.fits; knows = s.knows; backs = s.backs; owed = s.owed; paid = s.paid; took = (s.took.0, refl) })) h.1;
       } in
-      subst (λ z. AllPorts (λ r. Ended) x z) (sym (spread_append x past first (heeds_loop q m (hears_on from q x mid) x mid))) (heeds-all q from m x mid kind took (hears_on from q x mid) refl);
+      subst (λ z. AllPorts (λ r. Ended) x z) (sym (spread_append x past first (heeds_loop q m (hears_on from q x mid) x mid)))
+      (heeds-all q from m x mid kind took (hears_on from q x mid) refl);
 }

@@ -17,7 +17,8 @@ pub tick_is : (setting : Setting) (n : ℕ) (l : Line) (world : List Line) → n
 tick_is setting n l world same f = subst (λ k. l.did.tick ≡ setting.tick k l.did.step.at) same f.tick
 
 -- the line before in the history is the line before of the node
-pub own-step : (deed : Deed) (step : Step) (n : ℕ) (world : List Line) → step.node ≡ n → SameStep deed step (dids world) → SameStep deed step (dids (of n world))
+pub own-step : (deed : Deed) (step : Step) (n : ℕ) (world : List Line) → step.node ≡ n → SameStep deed step (dids world) →
+    SameStep deed step (dids (of n world))
 own-step Begins step n world same e = tt
 own-step (Acts a) step n [] same e = e
 own-step (Acts a) step n (x ∷ world) same e =
@@ -25,7 +26,8 @@ own-step (Acts a) step n (x ∷ world) same e =
     rw (of-own n x world node) e
 
 own-line-fits : (setting : Setting) (n : ℕ) (l : Line) (world : List Line) → node_of l ≡ n → LineFits setting l world →
-    time_of (dids (of n world)) ≤ time_of (dids world) → tick_of (dids (of n world)) ≤ setting.tick n (time_of (dids world)) → OwnLineFits setting l (of n world)
+    time_of (dids (of n world)) ≤ time_of (dids world) → tick_of (dids (of n world)) ≤ setting.tick n (time_of (dids world)) →
+    OwnLineFits setting l (of n world)
 own-line-fits setting n l world same f time tick = record {
   time = omega (arith, f.order);
   tick = omega (arith, tick-mono setting n (time_of (dids world)) l.did.step.at f.order, tick_is setting n l world same f);
@@ -74,8 +76,10 @@ place-time setting s (l ∷ h) f (inl e) = subst (λ w. time_of (dids w) ≤ l.d
 place-time setting s (l ∷ h) f (inr p) = omega (arith, place-time setting s h f.1 p, f.0.order)
 
 -- by what the deed is
-pub deed_fits : (setting : Setting) (l : Line) (world : List Line) (deed : Deed) → l.did.deed ≡ deed → LineFits setting l world → DeedFits (setup_of setting (node_of l) l.port) deed l.did (view l.port (of (node_of l) world))
-deed_fits setting l world deed e f = subst (λ k. DeedFits (setup_of setting (node_of l) l.port) k l.did (view l.port (of (node_of l) world))) e (f.deeds l.port (sees-own l.port (is_shared l.did.deed)))
+pub deed_fits : (setting : Setting) (l : Line) (world : List Line) (deed : Deed) → l.did.deed ≡ deed → LineFits setting l world →
+    DeedFits (setup_of setting (node_of l) l.port) deed l.did (view l.port (of (node_of l) world))
+deed_fits setting l world deed e f = subst (λ k. DeedFits (setup_of setting (node_of l) l.port) k l.did (view l.port (of (node_of l) world))) e
+    (f.deeds l.port (sees-own l.port (is_shared l.did.deed)))
 
 pub own_deed : (setting : Setting) (l : Line) (t : List Line) (deed : Deed) → l.did.deed ≡ deed → OwnLineFits setting l t →
     DeedFits (setup_of setting (node_of l) l.port) deed l.did (view l.port t)
@@ -83,7 +87,8 @@ own_deed setting l t deed e f =
     subst (λ k. DeedFits (setup_of setting (node_of l) l.port) k l.did (view l.port t)) e (f.deeds l.port (sees-own l.port (is_shared l.did.deed)))
 
 -- a mark is owed to on every port
-pub mark_fits : (setting : Setting) (l : Line) (world : List Line) → l.did.deed ≡ Begins → LineFits setting l world → (q : Port) → DeedFits (setup_of setting (node_of l) q) Begins l.did (view q (of (node_of l) world))
+pub mark_fits : (setting : Setting) (l : Line) (world : List Line) → l.did.deed ≡ Begins → LineFits setting l world → (q : Port) →
+    DeedFits (setup_of setting (node_of l) q) Begins l.did (view q (of (node_of l) world))
 mark_fits setting l world is f q =
     let sees : Sees q l = rw is (or-true (l.port.0 == q.0)) in
     subst (λ k. DeedFits (setup_of setting (node_of l) q) k l.did (view q (of (node_of l) world))) is (f.deeds q sees)
@@ -91,7 +96,8 @@ mark_fits setting l world is f q =
 -- a line's tick isn't below its node's last
 pub own_tick : (setting : Setting) (l : Line) (world : List Line) → Fits setting (l ∷ world) → tick_of (dids (of (node_of l) world)) ≤ l.did.tick
 own_tick setting l world f =
-    let own : OwnFits setting (l ∷ of (node_of l) world) = subst (λ k. OwnFits setting k) (of-own (node_of l) l world refl) (own_fits setting (node_of l) (l ∷ world) f) in
+    let own : OwnFits setting (l ∷ of (node_of l) world) = subst (λ k. OwnFits setting k) (of-own (node_of l) l world refl) (own_fits setting (node_of l) (l ∷
+    world) f) in
     own.0.tick
 
 -- so each deed on a port fits
@@ -128,7 +134,8 @@ pub record Located (n : ℕ) (q : Port) (world : List Line) (d : Did) (vs : List
   pub node : d.step.node ≡ n
   pub before : view q (of n older) ≡ vs
 
-pub locate : (n : ℕ) (q : Port) (world : List Line) (d : Did) (vs : List Seen) → is_shared d.deed ≡ false → Within (Here d ∷ vs) (view q (of n world)) → Located n q world d vs
+pub locate : (n : ℕ) (q : Port) (world : List Line) (d : Did) (vs : List Seen) → is_shared d.deed ≡ false → Within (Here d ∷ vs) (view q (of n world)) →
+    Located n q world d vs
 locate n q world d vs own w =
     let o = on_port q (of n world) d vs own w in
     let l = lift n world (line_on q d) o.rest o.place in
@@ -141,7 +148,8 @@ view-line n l older node =
     rw (of-own n l older node) (rw b refl)
 
 -- a place of the history is a place of what its port sees
-pub seen_in : (n : ℕ) (l : Line) (older world : List Line) → node_of l ≡ n → Within (l ∷ older) world → Within (Here l.did ∷ view l.port (of n older)) (view l.port (of n world))
+pub seen_in : (n : ℕ) (l : Line) (older world : List Line) → node_of l ≡ n → Within (l ∷ older) world →
+    Within (Here l.did ∷ view l.port (of n older)) (view l.port (of n world))
 seen_in n l older world node w =
     let own : Within (l ∷ of n older) (of n world) = own_in n l older world node w in
     let v = Within-view l.port (l ∷ of n older) (of n world) own in
@@ -152,11 +160,13 @@ seen_in n l older world node w =
 pub fits_in : (setting : Setting) (l : Line) (older world : List Line) → Fits setting world → Within (l ∷ older) world → LineFits setting l older
 fits_in setting l older world f w = Everywhere-at (LineFits setting) l older world f w
 
-pub tick_in : (setting : Setting) (n : ℕ) (l : Line) (older world : List Line) → Fits setting world → node_of l ≡ n → Within (l ∷ older) world → l.did.tick ≡ setting.tick n l.did.step.at
+pub tick_in : (setting : Setting) (n : ℕ) (l : Line) (older world : List Line) → Fits setting world → node_of l ≡ n → Within (l ∷ older) world → l.did.tick ≡
+    setting.tick n l.did.step.at
 tick_in setting n l older world f node w = tick_is setting n l older node (fits_in setting l older world f w)
 
 -- order of what a port sees is order in the history
-pub seen_before : (m : ℕ) (q : Port) (s t : Did) (a b h : List Line) → s.step.node ≡ m → t.step.node ≡ m → Within (line_on q s ∷ a) h → Within (line_on q t ∷ b) h → Within (Here s ∷ view q (of m a)) (view q (of m b)) → Within (line_on q s ∷ a) b
+pub seen_before : (m : ℕ) (q : Port) (s t : Did) (a b h : List Line) → s.step.node ≡ m → t.step.node ≡ m → Within (line_on q s ∷ a) h →
+    Within (line_on q t ∷ b) h → Within (Here s ∷ view q (of m a)) (view q (of m b)) → Within (line_on q s ∷ a) b
 seen_before m q s t a b h sn tn v w o = elim (Within-comparable (line_on q s ∷ a) (line_on q t ∷ b) h v w) [
   | inl (inl e) ↦ absurd (late (inl (sym e)))
   | inl (inr i) ↦ i
@@ -182,7 +192,8 @@ place-same a b s t h v w e = elim (Within-comparable (a ∷ s) (b ∷ t) h v w) 
 ]
 
 -- one place of what two ports see is one place of the history
-pub seen_same : (m : ℕ) (q r : Port) (s t : Did) (a b h : List Line) → s.step.node ≡ m → t.step.node ≡ m → Within (line_on q s ∷ a) h → Within (line_on r t ∷ b) h → Here s ∷ view q (of m a) ≡ Here t ∷ view r (of m b) → line_on q s ∷ a ≡ line_on r t ∷ b
+pub seen_same : (m : ℕ) (q r : Port) (s t : Did) (a b h : List Line) → s.step.node ≡ m → t.step.node ≡ m → Within (line_on q s ∷ a) h →
+    Within (line_on r t ∷ b) h → Here s ∷ view q (of m a) ≡ Here t ∷ view r (of m b) → line_on q s ∷ a ≡ line_on r t ∷ b
 seen_same m q r s t a b h sn tn v w e =
     let rest : view q (of m a) ≡ view r (of m b) = cc in
     let same : dids (of m a) ≡ dids (of m b) = sym (plain_view q (of m a)) ∙ (ap plain rest ∙ plain_view r (of m b)) in

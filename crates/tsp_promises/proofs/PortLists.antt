@@ -1,5 +1,6 @@
 -- Lists of a node's ports.
-use Rattle.std.proofs.Common.{sym, subst, arith, true≢false, eqb-true, eq-eqb, ◌∙◌, ◌≡◌, ◌≢◌, ◌≤◌, ◌<◌, ℕ, ◌+◌, ◌==◌, ◌||◌, not, Bool, true, false, if◌then◌else◌, List, [], ◌∷◌, length, filter, refl}
+use Rattle.std.proofs.Common.{sym, subst, arith, true≢false, eqb-true, eq-eqb, ◌∙◌, ◌≡◌, ◌≢◌, ◌≤◌, ◌<◌, ℕ, ◌+◌, ◌==◌, ◌||◌, not, Bool, true, false}
+use Rattle.std.proofs.Common.{if◌then◌else◌, List, [], ◌∷◌, length, filter, refl}
 use Rattle.tsp_rules.specs.{GateRows.ports_from, GateRows.other_ports, NodeRows.PortSetup, NodeRows.NodePast, Values.Port}
 use Rattle.std.proofs.lemmas.Bool.Decides.{nat_tests}
 use Rattle.tsp_base.specs.Words.{sets_date}
@@ -59,7 +60,8 @@ listed-without : (q r : Port) (ports : List Port) → (q.0 == r.0) ≡ false →
 unfolding without
 listed-without q r [] n h = h
 listed-without q r (s ∷ rest) n h = by_case (λ k. listed-without q r rest n k) (s.0 == q.0) refl (s.0 == r.0) refl where
-  by_case : (listed r rest ≡ true → listed r (without q rest) ≡ true) → (b : Bool) → (s.0 == q.0) ≡ b → (c : Bool) → (s.0 == r.0) ≡ c → listed r (if not b then s ∷ without q rest else without q rest) ≡ true
+  by_case : (listed r rest ≡ true → listed r (without q rest) ≡ true) → (b : Bool) → (s.0 == q.0) ≡ b → (c : Bool) → (s.0 == r.0) ≡ c →
+      listed r (if not b then s ∷ without q rest else without q rest) ≡ true
   by_case more true e true f =
       let same : s.0 ≡ q.0 = eqb-true s.0 q.0 e in
       let bad : (q.0 == r.0) ≡ true = subst (λ n. (n == r.0) ≡ true) same f in
@@ -80,7 +82,8 @@ each_ranged past = ranged_from (length past.ports) 0 past.ports (omega arith)
 pub listed_ranged : {ports : NodePast → List Port} (past : NodePast) → PortsOf ports → Ranged (length past.ports) (ports past)
 listed_ranged past EachPort = each_ranged past
 listed_ranged past (OtherPorts q) = other_ranged q past
-listed_ranged past (StirredPorts q kind) = elim (sets_date kind) as (λ b. Ranged (length past.ports) (if b then ports_from 0 past.ports else other_ports q past)) [ true ↦ each_ranged past | false ↦ other_ranged q past ]
+listed_ranged past (StirredPorts q kind) = elim (sets_date kind) as (λ b. Ranged (length past.ports) (if b then ports_from 0 past.ports else other_ports q
+    past)) [ true ↦ each_ranged past | false ↦ other_ranged q past ]
 
 pub other_others : (q : Port) (past : NodePast) → Others q (other_ports q past)
 unfolding without

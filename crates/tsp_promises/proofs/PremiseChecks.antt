@@ -1,5 +1,6 @@
 -- The premises of small histories, by computing. What a reading asks of the lines after a place, by computing.
-use Rattle.std.proofs.Common.{sym, arith, subst, subst₂, inl, inr, eqb-true, eq-eqb, true≢false, ◌≡◌, ◌==◌, ◌&&◌, ◌||◌, nat_le, nat_lt, cond, Bool, true, false, ℕ, ◌+◌, ℤ, List, [], ◌∷◌, refl, ap, ◌∙◌, ◌≤◌, zero, suc}
+use Rattle.std.proofs.Common.{sym, arith, subst, subst₂, inl, inr, eqb-true, eq-eqb, true≢false, ◌≡◌, ◌==◌, ◌&&◌, ◌||◌, nat_le, nat_lt, cond, Bool, true, false}
+use Rattle.std.proofs.Common.{ℕ, ◌+◌, ℤ, List, [], ◌∷◌, refl, ap, ◌∙◌, ◌≤◌, zero, suc}
 use Rattle.std.proofs.lemmas.Bool.{leb-true, ltb-true, or_left, or_right, and_parts}
 use Rattle.tsp_rules.specs.Values.{Boot, Took, Post, Datagram, Place, Peer, LIFE, Correct}
 use Rattle.tsp_base.specs.Words.{Cause, Booted, Came, Handed, Acts, Deed, Line, dids, of, view, Within, begun, posted, lives, tick_of, time_of}
@@ -11,15 +12,22 @@ use Rattle.tsp_promises.proofs.Histories.{still, post_at, post_here, skip, skipp
 use Rattle.tsp_promises.proofs.{HistoriesFit.all-finished, HistoriesFit.all_settled, SendPlaces.posted-mono, SendPlaces.posted-post}
 
 -- the post of a number is the one that is found by it
-found-is : (h : List Line) (post : Line) (older : List Line) (to : Place) (datagram : Datagram) → Within (post ∷ older) h → post.did.deed ≡ Acts (Post to datagram) → post_at (posted (dids older)) h ≡ post ∷ older
+found-is : (h : List Line) (post : Line) (older : List Line) (to : Place) (datagram : Datagram) → Within (post ∷ older) h → post.did.deed ≡
+    Acts (Post to datagram) → post_at (posted (dids older)) h ≡ post ∷ older
 found-is [] post older to datagram w deed = let bad : ⊥ = cc in absurd bad
-found-is (l ∷ t) post older to datagram (inl e) deed = subst (λ z. post_at (posted (dids older)) z ≡ post ∷ older) e (rw deed (rw (eq-eqb (posted (dids older)) (posted (dids older)) refl) refl))
+found-is (l ∷ t) post older to datagram (inl e) deed = subst (λ z. post_at (posted (dids older)) z ≡ post ∷
+    older) e (rw deed (rw (eq-eqb (posted (dids older)) (posted (dids older)) refl) refl))
 found-is (l ∷ t) post older to datagram (inr w) deed = by-deed l.did.deed (found-is t post older to datagram w deed) where
   later : (b : Bool) → (posted (dids t) == posted (dids older)) ≡ b → b ≡ false
-  later true e = (let k = eqb-true (posted (dids t)) (posted (dids older)) e in absurd (omega (arith, posted-mono (post ∷ older) t w, posted-post post older to datagram deed)))
+  later true e = (let k = eqb-true (posted (dids t)) (posted (dids older)) e in absurd (omega (
+    arith,
+    posted-mono (post ∷ older) t w,
+    posted-post post older to datagram deed,
+  )))
   later false e = refl
 
-  by-deed : (d : Deed) → post_at (posted (dids older)) t ≡ post ∷ older → post_here (posted (dids older)) d (posted (dids t)) (l ∷ t) (post_at (posted (dids older)) t) ≡ post ∷ older
+  by-deed : (d : Deed) → post_at (posted (dids older)) t ≡ post ∷ older → post_here (posted (dids older)) d (posted (dids t)) (l ∷
+      t) (post_at (posted (dids older)) t) ≡ post ∷ older
   by-deed (Acts (Post for other)) e = rw (later (posted (dids t) == posted (dids older)) refl) e
   by-deed _ e = e
 
@@ -78,9 +86,11 @@ abbrev pub all_new : List Line → Bool
 all_new [] = true
 all_new (l ∷ t) = new_by l.did.deed l.did.step.cause t && all_new t
 
-among : (t : List Line) (l : Line) (s : List Line) (w : ℕ) (wall : ℤ) → Within (l ∷ s) t → l.did.deed ≡ Acts Boot → l.did.step.cause ≡ Booted w wall → word_among w t ≡ true
+among : (t : List Line) (l : Line) (s : List Line) (w : ℕ) (wall : ℤ) → Within (l ∷ s) t → l.did.deed ≡ Acts Boot → l.did.step.cause ≡ Booted w wall →
+    word_among w t ≡ true
 among [] l s w wall i deed cause = let bad : ⊥ = cc in absurd bad
-among (x ∷ t) l s w wall (inl e) deed cause = subst (λ z. word_among w z ≡ true) e (or_left (word_by l.did.deed l.did.step.cause w) (word_among w s) (rw (deed, cause) (eq-eqb w w refl)))
+among (x ∷ t) l s w wall (inl e) deed cause = subst (λ z. word_among w z ≡ true) e (or_left (word_by l.did.deed l.did.step.cause w) (word_among w s)
+    (rw (deed, cause) (eq-eqb w w refl)))
 among (x ∷ t) l s w wall (inr i) deed cause = or_right (word_by x.did.deed x.did.step.cause w) (word_among w t) (among t l s w wall i deed cause)
 
 new-at : (l : Line) (t : List Line) → new_by l.did.deed l.did.step.cause t ≡ true → WordsAt l t
@@ -110,7 +120,8 @@ all_few (l ∷ t) = nat_lt (begun (view l.port (of (node_of l) (l ∷ t)))) 3276
 
 pub few-by : (h : List Line) → all_few h ≡ true → Few h
 few-by [] e = tt
-few-by (l ∷ t) e = let a = and_parts (nat_lt (begun (view l.port (of (node_of l) (l ∷ t)))) 32768) (all_few t) e in (ltb-true (begun (view l.port (of (node_of l) (l ∷ t)))) 32768 a.0, few-by t a.1)
+few-by (l ∷ t) e = let a = and_parts (nat_lt (begun (view l.port (of (node_of l) (l ∷ t)))) 32768) (all_few t) e in
+    (ltb-true (begun (view l.port (of (node_of l) (l ∷ t)))) 32768 a.0, few-by t a.1)
 
 abbrev keeps : Deed → Bool
 keeps (Acts (Correct amount true value)) = false
@@ -143,25 +154,30 @@ none-by n (suc k) [] e l before amount stepped value w i node is = Within-none l
 none-by n (suc k) (x ∷ t) e l before amount stepped value (inl w) i node is =
     let line : x ≡ l = cc in
     let a = and_parts (cond (node_of x == n) (keeps x.did.deed) true) (all_keep n k t) e in
-    not-stepped l.did.deed amount stepped value (subst (λ z. keeps z.did.deed ≡ true) line (own n x (keeps x.did.deed) a.0 (subst (λ z. node_of z ≡ n) (sym line) node))) is
+    not-stepped l.did.deed amount stepped value (subst (λ z. keeps z.did.deed ≡ true) line
+    (own n x (keeps x.did.deed) a.0 (subst (λ z. node_of z ≡ n) (sym line) node))) is
 none-by n (suc k) (x ∷ t) e l before amount stepped value (inr w) i node is =
     none-by n k t (and_parts (cond (node_of x == n) (keeps x.did.deed) true) (all_keep n k t) e).1 l before amount stepped value w i node is
 
-late-by : (f : Line → ℕ) (n x k : ℕ) (h : List Line) → all_late f n x k h ≡ true → (l : Line) (before : List Line) → Within (l ∷ before) h → Within (skip k h) before → node_of l ≡ n → x ≤ f l
+late-by : (f : Line → ℕ) (n x k : ℕ) (h : List Line) → all_late f n x k h ≡ true → (l : Line) (before : List Line) → Within (l ∷ before) h →
+    Within (skip k h) before → node_of l ≡ n → x ≤ f l
 late-by f n x zero h e l before w i node = absurd (Within-strict l before h w i)
 late-by f n x (suc k) [] e l before w i node = Within-none l before w
 late-by f n x (suc k) (y ∷ t) e l before (inl w) i node =
     let line : y ≡ l = cc in
     let a = and_parts (cond (node_of y == n) (nat_le x (f y)) true) (all_late f n x k t) e in
     leb-true x (f l) (subst (λ z. nat_le x (f z) ≡ true) line (own n y (nat_le x (f y)) a.0 (subst (λ z. node_of z ≡ n) (sym line) node)))
-late-by f n x (suc k) (y ∷ t) e l before (inr w) i node = late-by f n x k t (and_parts (cond (node_of y == n) (nat_le x (f y)) true) (all_late f n x k t) e).1 l before w i node
+late-by f n x (suc k) (y ∷ t) e l before (inr w) i node = late-by f n x k t (and_parts (cond (node_of y == n) (nat_le x (f y)) true) (all_late f n x k t) e).1 l
+    before w i node
 
 -- after the first k lines, backwards
 pub unstepped-by : (n k : ℕ) (h : List Line) → lives (dids (of n (skip k h))) ≡ lives (dids (of n h)) → all_keep n k h ≡ true → Unstepped n (skip k h) h
 unstepped-by n k h same e = record { within = skipped k h; lives = same; none = none-by n k h e }
 
-pub read-by : (n k : ℕ) (h : List Line) (x y : ℕ) → tick_of (dids (of n (skip k h))) ≤ x → all_late (λ l. l.did.tick) n x k h ≡ true → x ≤ y → tick_of (dids (of n h)) ≤ y → ReadTicks n (skip k h) h x y
+pub read-by : (n k : ℕ) (h : List Line) (x y : ℕ) → tick_of (dids (of n (skip k h))) ≤ x → all_late (λ l. l.did.tick) n x k h ≡ true → x ≤ y →
+    tick_of (dids (of n h)) ≤ y → ReadTicks n (skip k h) h x y
 read-by n k h x y from e order to = record { from = from; next = late-by (λ l. l.did.tick) n x k h e; order = order; to = to }
 
-pub read_at-by : (n k : ℕ) (h : List Line) (a b : ℕ) → time_of (dids (of n (skip k h))) ≤ a → all_late (λ l. l.did.step.at) n a k h ≡ true → a ≤ b → time_of (dids (of n h)) ≤ b → ReadTimes n (skip k h) h a b
+pub read_at-by : (n k : ℕ) (h : List Line) (a b : ℕ) → time_of (dids (of n (skip k h))) ≤ a → all_late (λ l. l.did.step.at) n a k h ≡ true → a ≤ b →
+    time_of (dids (of n h)) ≤ b → ReadTimes n (skip k h) h a b
 read_at-by n k h a b from e order to = record { from = from; next = late-by (λ l. l.did.step.at) n a k h e; order = order; to = to }

@@ -1,17 +1,20 @@
 -- What a Correct prints is what the clock shows right after it.
-use Rattle.std.proofs.Common.{sym, ap, arith, subst, ◌∙◌, ◌≡◌, ℕ, ◌-◌, ◌/◌, ℤ, pos, ◌+ℤ◌, ◌-ℤ◌, nat_lt, nat_abs, Bool, true, false, ◌||◌, if◌then◌else◌, List, ◌∷◌, Some, refl, neg_ℤ, ◌<ℤ◌}
+use Rattle.std.proofs.Common.{sym, ap, arith, subst, ◌∙◌, ◌≡◌, ℕ, ◌-◌, ◌/◌, ℤ, pos, ◌+ℤ◌, ◌-ℤ◌, nat_lt, nat_abs, Bool, true, false, ◌||◌, if◌then◌else◌, List}
+use Rattle.std.proofs.Common.{◌∷◌, Some, refl, neg_ℤ, ◌<ℤ◌}
 use Rattle.std.proofs.lemmas.Int.{ints}
 use Rattle.tsp_rules.specs.Values.{Took, Correct, Message, Good, Kind, SetTime, Place, MAXADJ, SLEW, LIMIT}
 use Rattle.tsp_rules.proofs.Asides.{now}
 use Rattle.tsp_rules.{specs.Guards.target_at, specs.Guards.is_in_range, proofs.GuardFacts.clock_low, proofs.GuardFacts.clock_high}
-use Rattle.tsp_base.specs.Words.{Acts, Did, Here, Past, Seen, Step, plain, MessageValue, base, eased, moved, rest, rest_at, shown, target, taken_after, sets_date, heard, time_in}
+use Rattle.tsp_base.specs.Words.{Acts, Did, Here, Past, Seen, Step, plain, MessageValue, base, eased, moved, rest, rest_at, shown, target, taken_after}
+use Rattle.tsp_base.specs.Words.{sets_date, heard, time_in}
 use Rattle.tsp_base.proofs.TickLemmas.{eased_none}
 use Rattle.tsp_promises.specs.{CorrectFits.is_stepped, CorrectFits.sets_time, CorrectionFits.SetsTarget}
 
 -- what a SETTIME carries that a master sends a slave
 
 -- a SETTIME carries the target, which is in a clock's range
-pub sets_target : (x : ℕ) (past : Past) (d : Did) (m : MessageValue) → d.tick ≡ x → time_in m.body ≡ target_at x past → is_in_range x past ≡ true → SetsTarget d past.seen m
+pub sets_target : (x : ℕ) (past : Past) (d : Did) (m : MessageValue) → d.tick ≡ x → time_in m.body ≡ target_at x past → is_in_range x past ≡ true →
+    SetsTarget d past.seen m
 sets_target x past d m tick time e = record {
   time = time ∙ ap (λ y. target (plain past.seen) y) (sym tick);
   low = subst (λ y. neg_ℤ LIMIT <ℤ target (plain past.seen) y) (sym tick) (clock_low (target_at x past) e);
@@ -32,22 +35,28 @@ leaves-as-it-was : (t a e : ℤ) → (t +ℤ a) -ℤ (e +ℤ a) ≡ t -ℤ e
 leaves-as-it-was t a e = omega (arith, ints)
 
 -- after a Correct that is stepped the clock shows its new target
-pub after_step : (step : Step) (x : ℕ) (b : List Did) (amount value : ℤ) → shown (record { step = step; tick = x; deed = Acts (Correct amount true value) } ∷ b) x ≡ target b x +ℤ amount
-after_step step x b amount value = moves-on (base b) (moved b) amount (eased (pos 0) ((x - x) / SLEW)) (pos 0) x (eased-now (pos 0) x) ∙ less-none (target b x +ℤ amount)
+pub after_step : (step : Step) (x : ℕ) (b : List Did) (amount value : ℤ) → shown (record { step = step; tick = x; deed = Acts (Correct amount true value) } ∷
+    b) x ≡ target b x +ℤ amount
+after_step step x b amount value = moves-on (base b) (moved b) amount (eased (pos 0) ((x - x) / SLEW)) (pos 0) x (eased-now (pos 0) x) ∙
+    less-none (target b x +ℤ amount)
 
-pub shows_target : (step : Step) (x : ℕ) (b : List Did) (amount value : ℤ) → let ds : List Did = record { step = step; tick = x; deed = Acts (Correct amount true value) } ∷ b in shown ds x ≡ target ds x
+pub shows_target : (step : Step) (x : ℕ) (b : List Did) (amount value : ℤ) → let ds : List Did =
+    record { step = step; tick = x; deed = Acts (Correct amount true value) } ∷ b in shown ds x ≡ target ds x
 shows_target step x b amount value =
     let ds : List Did = record { step = step; tick = x; deed = Acts (Correct amount true value) } ∷ b in
     ap (λ e. target ds x -ℤ e) (eased-now (pos 0) x) ∙ less-none (target ds x)
 
 -- after one that is slewed it shows what it showed
-pub after_slew : (step : Step) (x : ℕ) (b : List Did) (amount value : ℤ) → shown (record { step = step; tick = x; deed = Acts (Correct amount false value) } ∷ b) x ≡ shown b x
+pub after_slew : (step : Step) (x : ℕ) (b : List Did) (amount value : ℤ) → shown (record { step = step; tick = x; deed = Acts (Correct amount false value) } ∷
+    b) x ≡ shown b x
 after_slew step x b amount value =
-    moves-on (base b) (moved b) amount (eased (rest_at b x +ℤ amount) ((x - x) / SLEW)) (rest_at b x +ℤ amount) x (eased-now (rest_at b x +ℤ amount) x) ∙ leaves-as-it-was (target b x) amount (rest_at b x)
+    moves-on (base b) (moved b) amount (eased (rest_at b x +ℤ amount) ((x - x) / SLEW)) (rest_at b x +ℤ amount) x (eased-now (rest_at b x +ℤ amount) x) ∙
+    leaves-as-it-was (target b x) amount (rest_at b x)
 
 -- a clock that is moved by an amount
 pub adjusts_prints : (x : ℕ) (past : Past) (amount : ℤ) (b : Bool) →
-    (if b then target_at x past +ℤ amount else shown (plain past.seen) x) ≡ shown (now x past (Correct amount b (if b then target_at x past +ℤ amount else shown (plain past.seen) x)) ∷ plain past.seen) x
+    (if b then target_at x past +ℤ amount else shown (plain past.seen) x) ≡ shown
+    (now x past (Correct amount b (if b then target_at x past +ℤ amount else shown (plain past.seen) x)) ∷ plain past.seen) x
 adjusts_prints x past amount true = sym (after_step past.step x (plain past.seen) amount (target_at x past +ℤ amount))
 adjusts_prints x past amount false = sym (after_slew past.step x (plain past.seen) amount (shown (plain past.seen) x))
 
@@ -59,13 +68,16 @@ pub sets_prints : (x : ℕ) (past : Past) (value : ℤ) → value ≡ shown (now
 sets_prints x past value = there (target_at x past) value ∙ sym (after_step past.step x (plain past.seen) (value -ℤ target_at x past) value)
 
 -- what a step has taken that has just taken a message
-pub heard_now : (from : Place) (m : MessageValue) (took : Did) (rest seen : List Seen) → seen ≡ Here took ∷ rest → took.deed ≡ Acts (Took from (Good (Message m))) → heard (plain seen) ≡ Some (record { from = from; taken = Good (Message m) })
+pub heard_now : (from : Place) (m : MessageValue) (took : Did) (rest seen : List Seen) → seen ≡ Here took ∷ rest → took.deed ≡
+    Acts (Took from (Good (Message m))) → heard (plain seen) ≡ Some (record { from = from; taken = Good (Message m) })
 heard_now from m took rest seen is deed = ap (λ s. heard (plain s)) is ∙ ap (λ d. taken_after d (heard (plain rest))) deed
 
 -- so whether it steps the clock is said by the message's kind and by the amount
-pub flag_of : (from : Place) (m : MessageValue) (amount : ℤ) (took : Did) (rest seen : List Seen) (sets : Bool) → seen ≡ Here took ∷ rest → took.deed ≡ Acts (Took from (Good (Message m))) → sets_time m.kind ≡ sets →
+pub flag_of : (from : Place) (m : MessageValue) (amount : ℤ) (took : Did) (rest seen : List Seen) (sets : Bool) → seen ≡ Here took ∷ rest → took.deed ≡
+    Acts (Took from (Good (Message m))) → sets_time m.kind ≡ sets →
     (sets || nat_lt MAXADJ (nat_abs amount)) ≡ is_stepped amount (heard (plain seen))
-flag_of from m amount took rest seen sets is deed kind = ap (λ b. b || nat_lt MAXADJ (nat_abs amount)) (sym kind) ∙ ap (is_stepped amount) (sym (heard_now from m took rest seen is deed))
+flag_of from m amount took rest seen sets is deed kind = ap (λ b. b || nat_lt MAXADJ (nat_abs amount)) (sym kind) ∙
+    ap (is_stepped amount) (sym (heard_now from m took rest seen is deed))
 
 -- a date sets the clock
 pub date_sets : (k : Kind) → sets_date k ≡ true → sets_time k ≡ true

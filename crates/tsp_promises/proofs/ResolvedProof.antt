@@ -24,7 +24,8 @@ holds_at setting l world f p q other older is w node port other_is =
     let place = own_in n other older world node w in
     let i = since setting (other ∷ of n older) (of n world) own place in
     let fits = deed_fits setting l world (Acts (Back p)) is f.0 in
-    let rested : boot_tick (dids (of n world)) + QUIET ≤ l.did.tick = subst (λ k. boot_tick k + QUIET ≤ l.did.tick) (plain_view l.port (of n world)) fits.rested in
+    let rested : boot_tick (dids (of n world)) + QUIET ≤ l.did.tick = subst (λ k. boot_tick k + QUIET ≤ l.did.tick) (plain_view l.port (of n world)) fits.rested
+    in
     elim i.life [
       | inr new ↦ inr (omega (arith, new.boot))
       | inl one ↦
@@ -37,19 +38,23 @@ holds_at setting l world f p q other older is w node port other_is =
     ]
 
 -- an ACCEPT goes to peers alone, after a Back of that peer
-accepts-backed : (setup : Setup) (to : Place) (m : MessageValue) (here : Did) (seen : List Seen) → m.kind ≡ Accept → PostFits setup to (Message m) here seen → IsBacked to (backed seen)
+accepts-backed : (setup : Setup) (to : Place) (m : MessageValue) (here : Did) (seen : List Seen) → m.kind ≡ Accept → PostFits setup to (Message m) here seen →
+    IsBacked to (backed seen)
 accepts-backed setup (Peer p) m here seen kind f = (subst (λ z. MessageFits setup z here seen p m) kind f).backs
 accepts-backed setup Stranger m here seen kind f = subst (λ z. StrangerFits z here seen m.number) kind f.0
 
 -- an ELECTION goes to peers alone, after the port has backed itself
-asks-backed : (setup : Setup) (to : Place) (m : MessageValue) (here : Did) (seen : List Seen) → m.kind ≡ Election → PostFits setup to (Message m) here seen → is_unbacked seen ≡ false
+asks-backed : (setup : Setup) (to : Place) (m : MessageValue) (here : Did) (seen : List Seen) → m.kind ≡ Election → PostFits setup to (Message m) here seen →
+    is_unbacked seen ≡ false
 asks-backed setup (Peer p) m here seen kind f = (subst (λ z. MessageFits setup z here seen p m) kind f).backs
 asks-backed setup Stranger m here seen kind f = absurd (subst (λ z. StrangerFits z here seen m.number) kind f.0)
 
 backs_at : (setting : Setting) (l : Line) (world : List Line) → Fits setting (l ∷ world) → BacksAt l world
 backs_at setting l world f = record {
-  accepts = λ to m is kind. accepts-backed (setup_of setting (node_of l) l.port) to m l.did (view l.port (of (node_of l) world)) kind (deed_fits setting l world (Acts (Post to (Message m))) is f.0).fits;
-  asks = λ to m is kind. asks-backed (setup_of setting (node_of l) l.port) to m l.did (view l.port (of (node_of l) world)) kind (deed_fits setting l world (Acts (Post to (Message m))) is f.0).fits;
+  accepts = λ to m is kind. accepts-backed (setup_of setting (node_of l) l.port) to m l.did (view l.port (of (node_of l) world)) kind
+      (deed_fits setting l world (Acts (Post to (Message m))) is f.0).fits;
+  asks = λ to m is kind. asks-backed (setup_of setting (node_of l) l.port) to m l.did (view l.port (of (node_of l) world)) kind
+      (deed_fits setting l world (Acts (Post to (Message m))) is f.0).fits;
   ends = λ is q. (mark_fits setting l world is f.0 q).backs;
 }
 
@@ -69,7 +74,8 @@ silent setting whole h = Everywhere-from SilentAt whole (λ l world w.
         | inl late ↦ inl (subst (λ d. boot_tick d + QUIET ≤ l.did.tick) seen late)
         | inr early ↦ inr early
       ];
-      corrects = λ amount stepped shown is. subst (λ d. boot_tick d + QUIET ≤ l.did.tick) seen (deed_fits setting l world (Acts (Correct amount stepped shown)) is f).rested;
+      corrects = λ amount stepped shown is. subst (λ d. boot_tick d + QUIET ≤ l.did.tick) seen (deed_fits setting l world (Acts (Correct amount stepped shown))
+          is f).rested;
     })
 
 pub yields : (setting : Setting) (world : List Line) → Fits setting world → Finished setting world → Yields world
@@ -84,7 +90,8 @@ if-some true p q e = (refl, some-same p q e)
 if-some false p q e = none-some q e
 
 -- whom a QUIT is from that a master takes: the port is a master, and the QUIT is to be heeded
-master-takes : (peers : List PeerId) (n : ℕ) (r : Role) (o : Option PeerId) (p : PeerId) → if_master r o ≡ Some p → (r ≡ Master) × (unless_starting r o ≡ Some p)
+master-takes : (peers : List PeerId) (n : ℕ) (r : Role) (o : Option PeerId) (p : PeerId) → if_master r o ≡ Some p → (r ≡ Master) ×
+    (unless_starting r o ≡ Some p)
 master-takes peers n Master o p e = (refl, e)
 master-takes peers n _ o p e = none-some p e
 
@@ -93,7 +100,8 @@ abbrev Told : List PeerId → List Seen → PeerId → Type 0
 Told peers seen p = (unheeded peers seen ≡ Some p) ⊎ (is_among p (owes seen) ≡ true)
 
 -- the Quit that heeds it
-told-quit : (peers : List PeerId) (d : Did) (before : List Seen) (q p : PeerId) → QuitFits before q → quits_master peers before ≡ Some p → is_among p (owes_after (Acts (Quit q)) (role before) (owes before)) ≡ true
+told-quit : (peers : List PeerId) (d : Did) (before : List Seen) (q p : PeerId) → QuitFits before q → quits_master peers before ≡ Some p →
+    is_among p (owes_after (Acts (Quit q)) (role before) (owes before)) ≡ true
 told-quit peers d before q p f e =
     let told : quits_master peers (Here f.took ∷ f.past) ≡ Some p = subst (λ z. quits_master peers z ≡ Some p) f.is e in
     let took : if_master (role f.past) (quit_by peers f.took.step.node (Some (record { from = q; message = f.message }))) ≡ Some p =
@@ -102,16 +110,20 @@ told-quit peers d before q p f e =
     let by = subst (λ r. if_master r (quit_by peers f.took.step.node (Some (record { from = q; message = f.message }))) ≡ Some p) m.0 took in
     let same = (if-some (is_quit f.message.kind && (is_among q peers && not (q.0 == f.took.step.node))) q p by).1 in
     let leads : role before ≡ Master = ap role f.is ∙ (ap (λ deed. role_after deed (role f.past)) f.deed ∙ m.0) in
-    subst (λ r. is_among p (owes_after (Acts (Quit q)) r (owes before)) ≡ true) (sym leads) (subst (λ k. is_among k (q ∷ owes before) ≡ true) same (among-first q (owes before)))
+    subst (λ r. is_among p (owes_after (Acts (Quit q)) r (owes before)) ≡ true) (sym leads) (subst (λ k. is_among k (q ∷ owes before) ≡
+    true) same (among-first q (owes before)))
   where
     among-first : (q : PeerId) (rest : List PeerId) → is_among q (q ∷ rest) ≡ true
     among-first q rest = rw (eq-eqb q.0 q.0 refl) refl
 
-told-deed : (setup : Setup) (d : Did) (before : List Seen) (p : PeerId) (deed : Deed) → DeedFits setup deed d before → (quits_master setup.peers before ≡ Some p → Told setup.peers before p) →
+told-deed : (setup : Setup) (d : Did) (before : List Seen) (p : PeerId) (deed : Deed) → DeedFits setup deed d before →
+    (quits_master setup.peers before ≡ Some p → Told setup.peers before p) →
     quits_master_after setup.peers d.step.node deed (role before) (quits_master setup.peers before) ≡ Some p →
-    (unheeded_after setup.peers d.step.node deed (role before) (unheeded setup.peers before) ≡ Some p) ⊎ (is_among p (owes_after deed (role before) (owes before)) ≡ true)
+    (unheeded_after setup.peers d.step.node deed (role before) (unheeded setup.peers before) ≡ Some p) ⊎
+    (is_among p (owes_after deed (role before) (owes before)) ≡ true)
 told-deed setup d before p Begins f h e = none-some p e
-told-deed setup d before p (Acts (Took from t)) f h e = inl (master-takes setup.peers d.step.node (role before) (quit_by setup.peers d.step.node (said_by from (message_in t))) p e).1
+told-deed setup d before p (Acts (Took from t)) f h e = inl (master-takes setup.peers d.step.node (role before)
+    (quit_by setup.peers d.step.node (said_by from (message_in t))) p e).1
 told-deed setup d before p (Acts (Quit q)) f h e = inr (told-quit setup.peers d before q p f e)
 told-deed setup d before p _ f h e = h e
 
@@ -129,7 +141,8 @@ yields-told setup seen f end p e = elim (told setup seen p f e) [
 
 pub yields_taken : (setting : Setting) (world : List Line) → Fits setting world → Finished setting world → YieldsTaken setting world
 yields_taken setting world f end = record {
-  marks = Everywhere-from (λ (l : Line) (before : List Line). l.did.deed ≡ Begins → (q : Port) → YieldsTakenAt (setup_of setting (node_of l) q).peers (view q (of (node_of l) before))) world
+  marks = Everywhere-from (λ (l : Line) (before : List Line). l.did.deed ≡ Begins → (q : Port) →
+      YieldsTakenAt (setup_of setting (node_of l) q).peers (view q (of (node_of l) before))) world
       (λ l s w is q.
       let here = fits_at setting (l ∷ s) world f w in
       yields-told (setup_of setting (node_of l) q) (view q (of (node_of l) s)) (port_fits setting (node_of l) s here.1 q) (mark_fits setting l s is here.0 q));
@@ -143,7 +156,8 @@ quiet_at setting l world f other older p is w node port other_is =
     let place = own_in n other older world node w in
     let i = since setting (other ∷ of n older) (of n world) own place in
     let fits = deed_fits setting l world (Acts (Become Master)) is f.0 in
-    let rested : boot_tick (dids (of n world)) + ELECT_MIN ≤ l.did.tick = subst (λ k. boot_tick k + ELECT_MIN ≤ l.did.tick) (plain_view l.port (of n world)) fits.rested in
+    let rested : boot_tick (dids (of n world)) + ELECT_MIN ≤ l.did.tick = subst (λ k. boot_tick k + ELECT_MIN ≤ l.did.tick) (plain_view l.port (of n world))
+    fits.rested in
     elim i.life [
       | inr new ↦ omega (arith, new.boot)
       | inl one ↦
@@ -162,11 +176,18 @@ later s before p b = record { did = b.did; before = b.before; place = inr b.plac
 quit-owes : (r : Role) (q p : PeerId) (was : List PeerId) → r ≡ Follow p → owes_after (Acts (Quit q)) r was ≡ was
 quit-owes r q p was e = rw e refl
 
-became-deed : (d : Did) (before : List Seen) (p : PeerId) (deed : Deed) → deed ≡ d.deed → (is_among p (owes before) ≡ true → role before ≡ Follow p → Became before p) →
+became-deed : (d : Did) (before : List Seen) (p : PeerId) (deed : Deed) → deed ≡ d.deed → (is_among p (owes before) ≡ true → role before ≡ Follow p →
+    Became before p) →
     is_among p (owes_after deed (role before) (owes before)) ≡ true → role_after deed (role before) ≡ Follow p → Became (Here d ∷ before) p
 became-deed d before p Begins is h o r = let bad : ⊥ = cc in absurd bad
 became-deed d before p (Acts Boot) is h o r = let bad : ⊥ = cc in absurd bad
-became-deed d before p (Acts (Become s)) is h o r = record { did = d; before = before; place = inl refl; deed = sym is ∙ ap (λ (z : Role). Acts (Become z)) r; after = o }
+became-deed d before p (Acts (Become s)) is h o r = record {
+  did = d;
+  before = before;
+  place = inl refl;
+  deed = sym is ∙ ap (λ (z : Role). Acts (Become z)) r;
+  after = o;
+}
 became-deed d before p (Acts (Quit q)) is h o r = later (Here d) before p (h (sym (ap (is_among p) (quit-owes (role before) q p (owes before) r)) ∙ o) r)
 became-deed d before p _ is h o r = later (Here d) before p (h o r)
 

@@ -1,5 +1,6 @@
 -- What a port does with a message of a peer keeps what is known of it, in each role.
-use Rattle.std.proofs.Common.{sym, subst, inl, true≢false, ◌∙◌, ◌≡◌, ◌≢◌, ℕ, ◌+◌, ◌==◌, ℤ, true, false, [], ◌∷◌, Option, refl, ap, eqb-true, eq-eqb, List, None, Some}
+use Rattle.std.proofs.Common.{sym, subst, inl, true≢false, ◌∙◌, ◌≡◌, ◌≢◌, ℕ, ◌+◌, ◌==◌, ℤ, true, false, [], ◌∷◌, Option, refl, ap, eqb-true, eq-eqb, List, None}
+use Rattle.std.proofs.Common.{Some}
 use Rattle.std.proofs.lemmas.Bool.{and_parts}
 use Rattle.tsp_base.proofs.ViewPlaces.{or-false}
 use Rattle.tsp_promises.proofs.{Changes.FreeIn, Changes.become_loose, Known.Free, Known.Rests, Known.asks_vote, Printed.sets_target}
@@ -10,8 +11,11 @@ use Rattle.tsp_promises.proofs.{CommonLeads.arms_elect_during}
 use Rattle.tsp_promises.specs.{CorrectionFits.CorrectionFits, CorrectionFits.SetsTarget, PortFits.PortFits, PortFits.setup_in}
 use Rattle.tsp_promises.proofs.Leaves.{none-among, join, rival, arm_resolve, acked, backer}
 use Rattle.tsp_promises.proofs.TakenLeads.{Says, Heard, HeardIn, rests_of, ack_fits, acknowledges_lead, quits_lead, election_acked}
-use Rattle.tsp_promises.proofs.SlaveLeads.{follow_heard, idle_heard, masterup_leads, masterack_leads, election_leads, adjtime_leads, settime_leads, from_master_leads}
-use Rattle.tsp_rules.specs.Values.{Post, Join, Rival, ResolveAlarm, Message, Good, Kind, Accept, Ack, AdjTime, Conflict, Election, MasterAck, MasterReq, MasterUp, QuitKind, Refuse, ResolveKind, SetTime, SlaveUp, PeerId, Peer, Role, Candidate, Master, WINDOW, Become, Backer, Acked, Loose}
+use Rattle.tsp_promises.proofs.SlaveLeads.{follow_heard, idle_heard, masterup_leads, masterack_leads, election_leads, adjtime_leads, settime_leads}
+use Rattle.tsp_promises.proofs.SlaveLeads.{from_master_leads}
+use Rattle.tsp_rules.specs.Values.{Post, Join, Rival, ResolveAlarm, Message, Good, Kind, Accept, Ack, AdjTime, Conflict, Election, MasterAck, MasterReq}
+use Rattle.tsp_rules.specs.Values.{MasterUp, QuitKind, Refuse, ResolveKind, SetTime, SlaveUp, PeerId, Peer, Role, Candidate, Master, WINDOW, Become, Backer}
+use Rattle.tsp_rules.specs.Values.{Acked, Loose}
 use Rattle.tsp_rules.specs.MasterRows.{may_join, joins, sends_away, master_takes_kind}
 use Rattle.tsp_rules.{specs.ResolveRows.resolves, specs.ResolveRows.is_new_rival, specs.ResolveRows.finds_rival, proofs.Asides.now}
 use Rattle.tsp_rules.specs.SendRows.{begins, acknowledges, may_correct, may_set, begins_settime, has_quit, has_election, answers_election, is_kind_election}
@@ -55,7 +59,8 @@ record Answered (p : PeerId) (m : MessageValue) (x : ℕ) (past : Past) : Type 0
   pub fits : BackerFits (setup_in past) (now x past (Backer p)) past.seen p
 
 module _ {p : PeerId} {m : MessageValue} where
-  answered : (x : ℕ) (past : Past) → m.kind ≡ Accept → Heard p (Good (Message m)) x past → has_election p m.number x past ≡ true → Answered p m x (grown x past (Acked p ∷ []))
+  answered : (x : ℕ) (past : Past) → m.kind ≡ Accept → Heard p (Good (Message m)) x past → has_election p m.number x past ≡ true →
+      Answered p m x (grown x past (Acked p ∷ []))
   answered x past k h e =
       let v = vote-open (setup_in past) p m.number past.seen h.just.free.fits (open_send p past.seen) refl e in
       let asks : asks_vote (message_at (open_to p past.seen)) ≡ true = ap (λ place. asks_vote (message_at place)) v.began.is ∙ ap
@@ -108,13 +113,16 @@ module _ {p : PeerId} {m : MessageValue} where
   acknowledged k = Leads_from (λ x past h. h.0.just.free) (Leads_to (λ x past h. rests_of h) (acknowledges_lead k))
 
   -- by the kind of the message
-  pub slave_leads : (r : Role) → r ≢ Candidate → (m.kind ≡ QuitKind → Leads (HeardIn p m r) (quits p m.number) Rests) → (k : Kind) → m.kind ≡ k → Leads (HeardIn p m r) (slave_takes_kind p m k) Rests
+  pub slave_leads : (r : Role) → r ≢ Candidate → (m.kind ≡ QuitKind → Leads (HeardIn p m r) (quits p m.number) Rests) → (k : Kind) → m.kind ≡ k →
+      Leads (HeardIn p m r) (slave_takes_kind p m k) Rests
   unfolding slave_takes_kind
   slave_leads r other quit MasterUp e = Leads_reading role_at (masterup_in p) (λ a. Leads_from (λ x past h. h.0.0) (masterup_leads a))
   slave_leads r other quit MasterAck e = Leads_reading role_at (masterack_in p) (λ a. Leads_from (λ x past h. h.0.0) (masterack_leads a))
   slave_leads r other quit Election e = election_leads p m e other
-  slave_leads r other quit AdjTime e = Leads_reading role_at (from_master p (adjtime_of p m.number (time_in m.body))) (λ a. Leads_from (λ x past h. (h.0.0, h.1)) (from_master_leads (adjtime_of p m.number (time_in m.body)) (adjtime_leads e) a))
-  slave_leads r other quit SetTime e = Leads_reading role_at (from_master p (settime_of p m.number (time_in m.body))) (λ a. Leads_from (λ x past h. (h.0.0, h.1)) (from_master_leads (settime_of p m.number (time_in m.body)) (settime_leads e) a))
+  slave_leads r other quit AdjTime e = Leads_reading role_at (from_master p (adjtime_of p m.number (time_in m.body)))
+      (λ a. Leads_from (λ x past h. (h.0.0, h.1)) (from_master_leads (adjtime_of p m.number (time_in m.body)) (adjtime_leads e) a))
+  slave_leads r other quit SetTime e = Leads_reading role_at (from_master p (settime_of p m.number (time_in m.body)))
+      (λ a. Leads_from (λ x past h. (h.0.0, h.1)) (from_master_leads (settime_of p m.number (time_in m.body)) (settime_leads e) a))
   slave_leads r other quit QuitKind e = quit e
   slave_leads r other quit Ack e = acknowledged e
   slave_leads r other quit _ e = idle_heard (λ x past h. h.0)
@@ -132,14 +140,17 @@ module _ {p : PeerId} {m : MessageValue} where
   candidate_leads _ e = idle_heard (λ x past h. h.0)
 
 module _ {p : PeerId} {m : MessageValue} where
-  answers_slave : (x : ℕ) (past : Past) (t : ℤ) → m.kind ≡ SlaveUp → may_correct p m.number x past ≡ true → SetsTarget (now x past (Post (Peer p) (Message (timed SetTime m.number t past.name)))) past.seen (timed SetTime m.number t past.name) → FreeIn [] (Says p m) Master x past →
+  answers_slave : (x : ℕ) (past : Past) (t : ℤ) → m.kind ≡ SlaveUp → may_correct p m.number x past ≡ true →
+      SetsTarget (now x past (Post (Peer p) (Message (timed SetTime m.number t past.name)))) past.seen (timed SetTime m.number t past.name) →
+      FreeIn [] (Says p m) Master x past →
       CorrectionFits (now x past (Post (Peer p) (Message (timed SetTime m.number t past.name)))) past.seen p (timed SetTime m.number t past.name)
   answers_slave x past t k may sets h = record {
     leads = h.role_is;
     begins = λ acts. record {
       rested = h.free.rested refl;
       from = inl (record { sets = refl; message = m; took = h.free.took; kind = k; number = refl });
-      may = may_fits p m.number x past (now x past (Post (Peer p) (Message (timed SetTime m.number t past.name)))) (timed SetTime m.number t past.name) refl refl may;
+      may = may_fits p m.number x past (now x past (Post (Peer p) (Message (timed SetTime m.number t past.name)))) (timed SetTime m.number t past.name) refl
+          refl may;
       sets = λ kind. sets;
     };
     repeats = λ still. absurd (true≢false (sym h.free.acting_is ∙ still));
@@ -147,13 +158,16 @@ module _ {p : PeerId} {m : MessageValue} where
 
   pub joins_lead : m.kind ≡ SlaveUp → Leads (HeardIn p m Master) (joins p m.number) Rests
   unfolding joins begins_settime
-  joins_lead k = Leads_either (may_join p m.number) (puts (Join p) followed_by either_by (may_set p m.number) (reading target_at (posts_time p SetTime m.number)) nothing) nothing
+  joins_lead k = Leads_either (may_join p m.number) (puts (Join p) followed_by either_by (may_set p m.number)
+      (reading target_at (posts_time p SetTime m.number)) nothing) nothing
       (Leads_then {Q = FreeIn [] (Says p m) Master} (puts (Join p)) (either_by (may_set p m.number) (reading target_at (posts_time p SetTime m.number)) nothing)
       (Leads_puts (Join p) (λ x past h. record { free = join p h.0.0.just.free; role_is = h.0.1 }))
       (Leads_either (may_set p m.number) (reading target_at (posts_time p SetTime m.number)) nothing
       (Leads_reading target_at (posts_time p SetTime m.number) (λ t. Leads_posts_time p SetTime m.number t (λ x past h.
       let may = and_parts (may_correct p m.number x past) (is_in_range x past) h.0.1 in
-      rests_of (post_message p (timed SetTime m.number t past.name) refl (answers_slave x past t k may.0 (sets_target x past (now x past (Post (Peer p) (Message (timed SetTime m.number t past.name)))) (timed SetTime m.number t past.name) refl (sym h.1) may.1) h.0.0) h.0.0.free))))
+      rests_of (post_message p (timed SetTime m.number t past.name) refl (answers_slave x past t k may.0
+      (sets_target x past (now x past (Post (Peer p) (Message (timed SetTime m.number t past.name)))) (timed SetTime m.number t past.name) refl (sym h.1)
+      may.1) h.0.0) h.0.0.free))))
       (Leads_from (λ x past h. rests_of h.0.free) Leads_nothing)))
       (idle_heard (λ x past h. h.0.0))
 
@@ -182,7 +196,8 @@ module _ {p : PeerId} {m : MessageValue} where
 
   pub conflict_leads : m.kind ≡ Conflict → Leads (Heard p (Good (Message m))) (posts p Ack m.number followed_by resolves) Rests
   conflict_leads k = Leads_then {Q = Free (Says p m)} (posts p Ack m.number) resolves
-      (Leads_posts p Ack m.number (λ x past h. post_message p (bare Ack m.number past.name) refl (ack_fits (Peer p) m past.seen h.just.free.took (subst (λ i. Answers i (Peer p) past.seen m.number) (sym k) tt)) h.just.free))
+      (Leads_posts p Ack m.number (λ x past h. post_message p (bare Ack m.number past.name) refl
+      (ack_fits (Peer p) m past.seen h.just.free.took (subst (λ i. Answers i (Peer p) past.seen m.number) (sym k) tt)) h.just.free))
       resolves_free
 
   pub master_leads : (k : Kind) → m.kind ≡ k → Leads (HeardIn p m Master) (master_takes_kind p m k) Rests

@@ -1,11 +1,15 @@
 -- A round's beginning and its probes keep what is known of a port.
-use Rattle.std.proofs.Common.{sym, subst, arith, ◌∙◌, leb-false, ltb-true, ◌≡◌, ◌≤◌, ◌<◌, ℕ, ◌+◌, ◌*◌, Bool, true, false, List, [], ◌∷◌, None, Some, refl, ap, true≢false, nat_lt, not, ◌||◌, length}
-use Rattle.tsp_rules.specs.Values.{Arm, Ring, Late, Abandon, Alarm, Round, Probe, CloseAlarm, MasterUp, PeerId, Master, CLOSE, PROBE, QUIET, ROUND, WAIT, Become, Window, Loose, Candidate}
+use Rattle.std.proofs.Common.{sym, subst, arith, ◌∙◌, leb-false, ltb-true, ◌≡◌, ◌≤◌, ◌<◌, ℕ, ◌+◌, ◌*◌, Bool, true, false, List, [], ◌∷◌, None, Some, refl, ap}
+use Rattle.std.proofs.Common.{true≢false, nat_lt, not, ◌||◌, length}
+use Rattle.tsp_rules.specs.Values.{Arm, Ring, Late, Abandon, Alarm, Round, Probe, CloseAlarm, MasterUp, PeerId, Master, CLOSE, PROBE, QUIET, ROUND, WAIT}
+use Rattle.tsp_rules.specs.Values.{Become, Window, Loose, Candidate}
 use Rattle.tsp_rules.specs.{Answers.alarm_rings, Answers.rings, Guards.is_in_time, Guards.is_over, Guards.table_at, CommonRows.arms_elect}
-use Rattle.tsp_rules.specs.RoundRows.{asks, asks_slaves, round_begins, begins_or_waits, round_rings, measured_at, asks_measured, has_more, arms_next, abandons, probe_rings}
+use Rattle.tsp_rules.specs.RoundRows.{asks, asks_slaves, round_begins, begins_or_waits, round_rings, measured_at, asks_measured, has_more, arms_next, abandons}
+use Rattle.tsp_rules.specs.RoundRows.{probe_rings}
 use Rattle.tsp_rules.proofs.{GuardFacts.due_is, GuardFacts.met_is, Asides.now}
 use Rattle.tsp_rules.specs.CandidateRows.{lead_row, yields, has_won, window_rings}
-use Rattle.tsp_base.specs.Words.{Did, Seen, Here, Past, plain, Leads, boot_tick, role, armed, probes, started, Row, grown, nothing, puts, ◌followed_by◌, for_each, arms, bare, posts_to_others, backers, either_by, peer_of}
+use Rattle.tsp_base.specs.Words.{Did, Seen, Here, Past, plain, Leads, boot_tick, role, armed, probes, started, Row, grown, nothing, puts, ◌followed_by◌}
+use Rattle.tsp_base.specs.Words.{for_each, arms, bare, posts_to_others, backers, either_by, peer_of}
 use Rattle.tsp_base.proofs.LeadsLemmas.{Leads_then, Leads_either, Leads_reading, Leads_nothing, Leads_puts, Leads_each, Leads_from, Leads_to}
 use Rattle.tsp_promises.proofs.Leaves.{none-some, some-same, arm_round, arm_round_alarms, arm_probe, abandon}
 use Rattle.tsp_promises.proofs.PostLeaves.{post_message, request, Leads_arms, Leads_others}
@@ -57,7 +61,11 @@ yields_lead = Leads_to (λ x past h. open_of h) (Leads_then {Q = Free Untaken} (
     arms_elect_during)
 
 pub arms_round_in : Leads (FreeIn [] Untaken Master) (arms Round ROUND) (FreeIn [] Untaken Master)
-arms_round_in = Leads_arms Round ROUND (λ x past h. record { free = arm_round (x + ROUND) h.role_is (λ start idle e. (let b = h.free.knows.times.start_le start idle e in omega (arith, b))) h.free; role_is = h.role_is })
+arms_round_in = Leads_arms Round ROUND (λ x past h. record {
+  free = arm_round (x + ROUND) h.role_is
+      (λ start idle e. (let b = h.free.knows.times.start_le start idle e in omega (arith, b))) h.free;
+  role_is = h.role_is;
+})
 
 pub window_leads : (own wait : Bool) → Leads Open (rings own wait Window) Open
 unfolding alarm_rings window_rings lead_row
@@ -66,7 +74,8 @@ window_leads own wait = rings_lead own wait Window
     (Leads_then {Q = Counting} (puts (Ring Window)) (either_by has_won lead_row yields)
     (Leads_puts (Ring Window) (λ x past h. rings_window x past h.0 h.1))
     (Leads_either has_won lead_row yields
-    (Leads_to (λ x past h. open_of h.free) (Leads_then {Q = FreeIn [] Untaken Master} (puts (Become Master)) (arms Round ROUND followed_by posts_to_others MasterUp 0)
+    (Leads_to (λ x past h. open_of h.free) (Leads_then {Q = FreeIn [] Untaken Master} (puts (Become Master))
+    (arms Round ROUND followed_by posts_to_others MasterUp 0)
     (Leads_puts (Become Master) (λ x past h. record { free = become_master (h.0.leads h.1) h.0.free; role_is = refl }))
     (Leads_then (arms Round ROUND) (posts_to_others MasterUp 0) arms_round_in
     (Leads_others MasterUp 0 (λ x past p h. record { free = post_message p (bare MasterUp 0 past.name) refl tt h.free; role_is = h.role_is })))))
@@ -80,7 +89,8 @@ window_leads own wait = rings_lead own wait Window
     yields_lead))
     (stays Window)
 
-two_arms : {P Q R : ℕ → Past → Type 0} (a b : Alarm) (long short : ℕ) (s : Row) → ((x : ℕ) (past : Past) → P x past → Q x (grown x past (Arm a (x + long) ∷ Arm b (x + short) ∷ []))) → Leads Q s R →
+two_arms : {P Q R : ℕ → Past → Type 0} (a b : Alarm) (long short : ℕ) (s : Row) →
+    ((x : ℕ) (past : Past) → P x past → Q x (grown x past (Arm a (x + long) ∷ Arm b (x + short) ∷ []))) → Leads Q s R →
     Leads P (arms a long followed_by (arms b short followed_by s)) R
 unfolding arms ◌followed_by◌
 two_arms a b long short s k q = record { run = λ x past h. q.run x (grown x past (Arm a (x + long) ∷ Arm b (x + short) ∷ [])) (k x past h) }
@@ -124,7 +134,8 @@ arms_later long x past h = record {
 begins_or_waits_leads : (wait : Bool) → Leads Spaced (begins_or_waits wait) Open
 unfolding begins_or_waits round_begins asks_slaves
 begins_or_waits_leads true = Leads_to {Q = Spaced} (λ x past h. open_of h.free) (Leads_arms Round WAIT (λ x past h. arms_later WAIT x past h))
-begins_or_waits_leads false = Leads_then {Q = PutOff} (arms Round ROUND) (arms Probe PROBE followed_by (arms CloseAlarm CLOSE followed_by (posts_to_others MasterUp 0 followed_by asks_slaves)))
+begins_or_waits_leads false = Leads_then {Q = PutOff} (arms Round ROUND) (arms Probe PROBE followed_by
+    (arms CloseAlarm CLOSE followed_by (posts_to_others MasterUp 0 followed_by asks_slaves)))
     (Leads_arms Round ROUND (λ x past h. record { last = arms_later ROUND x past h; next = refl }))
     (two_arms {Q = Begun} Probe CloseAlarm PROBE CLOSE (posts_to_others MasterUp 0 followed_by asks_slaves)
     (λ x past h. record { free = arm_round_alarms h.last.role_is h.last.spaced h.next h.last.free; goes = refl })
@@ -161,7 +172,15 @@ record Reprobing (x : ℕ) (past : Past) : Type 0 where
 
 reprobing_asks : (p : PeerId) → Leads Reprobing (asks p) Reprobing
 unfolding asks
-reprobing_asks p = record { run = λ x past h. record { free = request p h.until h.goes h.free; until = h.until; goes = h.goes; unprobed = h.unprobed; soon = h.soon } }
+reprobing_asks p = record {
+  run = λ x past h. record {
+    free = request p h.until h.goes h.free;
+    until = h.until;
+    goes = h.goes;
+    unprobed = h.unprobed;
+    soon = h.soon;
+  };
+}
 
 probe_rested : (x : ℕ) (past : Past) → Due Probe x past → boot_tick (plain past.seen) + QUIET ≤ x
 probe_rested x past h =
@@ -195,7 +214,8 @@ probe_leads own wait = rings_lead own wait Probe
     let few = ltb-true (probes past.seen) 3 h.1 in
     let soon = h.0.soon in
     record {
-      open_port = open_of (arm_probe (x + PROBE) (record { until = h.0.until; goes = h.0.goes; soon = omega (arith, soon); few = omega (arith, few) }) h.0.free);
+      open_port = open_of (arm_probe (x + PROBE) (record { until = h.0.until; goes = h.0.goes; soon = omega (arith, soon); few = omega (arith, few) })
+          h.0.free);
       later = λ at e. let is = some-same (x + PROBE) at e in omega (arith, is);
     }))
     (Leads_from (λ x past h. record { open_port = open_of h.0.free; later = λ at e. none-some at (sym h.0.unprobed ∙ e) }) Leads_nothing))))

@@ -17,7 +17,8 @@ ends_of h = record {
   heeds = h.1;
   follows = h.0.follows;
   acknowledged = h.0.paid;
-  exchanges = λ p counter request older e. let asked = h.0.knows.round.exchanges p counter _ older e in record { corrects = asked.corrects refl; lives = asked.life refl };
+  exchanges = λ p counter request older e. let asked = h.0.knows.round.exchanges p counter _ older e in
+      record { corrects = asked.corrects refl; lives = asked.life refl };
 }
 
 -- a port whose node boots now
@@ -30,10 +31,24 @@ pub booted : (x : ℕ) (past : Past) → Fresh x past → Booting x (grown x pas
 booted x past h = record {
   fresh = made Boot h.own tt h.fits
       (record {
-        times = record { boot_le = omega arith; last_le = omega arith; boot_is = refl; start_le = λ start idle e. nil-cons (Here start) idle e; next = λ at e. none-some at e };
-        quiet = record { rested = inl (record { starts = refl; unsearched = refl; unelected = refl; unresolved = refl; unsent = λ p. refl }); silent = λ at e. none-some at e };
+        times = record {
+          boot_le = omega arith;
+          last_le = omega arith;
+          boot_is = refl;
+          start_le = λ start idle e. nil-cons (Here start) idle e;
+          next = λ at e. none-some at e;
+        };
+        quiet = record {
+          rested = inl (record { starts = refl; unsearched = refl; unelected = refl; unresolved = refl; unsent = λ p. refl });
+          silent = λ at e. none-some at e;
+        };
         vote = record { stands = λ e. let bad : ⊥ = cc in absurd bad; windows = λ at e. none-some at e; votes = λ p e. absurd (true≢false (sym e)) };
-        round = record { rounds = λ at e. none-some at e; probing = λ at e. none-some at e; closes = λ calm at e. none-some at e; exchanges = λ p i s older e. nil-cons s older e };
+        round = record {
+          rounds = λ at e. none-some at e;
+          probing = λ at e. none-some at e;
+          closes = λ calm at e. none-some at e;
+          exchanges = λ p i s older e. nil-cons s older e;
+        };
       })
       (λ e. absurd (true≢false (sym e))) h.backs h.owed h.paid h.acting_is h.took;
   starts = refl;
@@ -48,13 +63,24 @@ quiets x past b =
     record {
       fresh = made {past = grown x past (Become Starting ∷ [])} (Arm Quiet (x + QUIET)) h.own tt (tt, h.fits)
           (record {
-            times = record { boot_le = k.times.boot_le; last_le = k.times.last_le; boot_is = k.times.boot_is; start_le = k.times.start_le; next = λ at e. none-some at e };
+            times = record {
+              boot_le = k.times.boot_le;
+              last_le = k.times.last_le;
+              boot_is = k.times.boot_is;
+              start_le = k.times.start_le;
+              next = λ at e. none-some at e;
+            };
             quiet = record {
               rested = inl (record { starts = refl; unsearched = refl; unelected = refl; unresolved = refl; unsent = λ p. refl });
               silent = λ at e. (refl, let is = some-same (x + QUIET) at e in omega (arith, is, boot));
             };
             vote = record { stands = λ e. let bad : ⊥ = cc in absurd bad; windows = λ at e. none-some at e; votes = λ p e. absurd (true≢false (sym e)) };
-            round = record { rounds = λ at e. none-some at e; probing = λ at e. none-some at e; closes = λ calm at e. none-some at e; exchanges = λ p i s older e. nil-cons s older e };
+            round = record {
+              rounds = λ at e. none-some at e;
+              probing = λ at e. none-some at e;
+              closes = λ calm at e. none-some at e;
+              exchanges = λ p i s older e. nil-cons s older e;
+            };
           })
           (λ e. absurd (true≢false (sym e))) h.backs h.owed h.paid h.acting_is h.took;
       starts = refl;
@@ -112,7 +138,16 @@ row_leads Boots = boots_lead
 row_leads (Answering g) = record { run = λ x past h. ((answers_lead g).run x past h, (answers_heed g).run x past h) }
 
 pub ended_later : (x y : ℕ) (past : Past) → x ≤ y → Ended x past → Ended y past
-ended_later x y past later e = let h = e.0 in (record { fits = h.fits; knows = knows_later x y past.own past.seen later h.knows; backs = h.backs; follows = h.follows; paid = h.paid }, e.1)
+ended_later x y past later e = let h = e.0 in (
+  record {
+    fits = h.fits;
+    knows = knows_later x y past.own past.seen later h.knows;
+    backs = h.backs;
+    follows = h.follows;
+    paid = h.paid;
+  },
+  e.1,
+)
 
 -- what is known is known of another past of a port that is set up alike and has seen the same
 rests-seen : (x : ℕ) (past now : Past) → past.own ≡ now.own → setup_in past ≡ setup_in now → past.seen ≡ now.seen → Rests x past → Rests x now
@@ -126,7 +161,11 @@ rests-seen x past now own setup seen h = record {
 
 -- so that has ended its step too
 pub ended_seen : (x : ℕ) (past now : Past) → past.own ≡ now.own → setup_in past ≡ setup_in now → past.seen ≡ now.seen → Ended x past → Ended x now
-ended_seen x past now own setup seen e = (rests-seen x past now own setup seen e.0, subst (λ (s : Setup). unheeded s.peers now.seen ≡ None) setup (subst (λ z. unheeded past.peers z ≡ None) seen e.1))
+ended_seen x past now own setup seen e = (
+  rests-seen x past now own setup seen e.0,
+  subst (λ (s : Setup). unheeded s.peers now.seen ≡
+      None) setup (subst (λ z. unheeded past.peers z ≡ None) seen e.1),
+)
 
 -- a port that has done nothing
 pub nothing-done : (x : ℕ) (past : Past) → Ended x (record past { seen = [] })
@@ -134,13 +173,24 @@ nothing-done x past = (
   record {
     fits = tt;
     knows = record {
-      times = record { boot_le = omega arith; last_le = omega arith; boot_is = refl; start_le = λ start idle e. nil-cons (Here start) idle e; next = λ at e. none-some at e };
+      times = record {
+        boot_le = omega arith;
+        last_le = omega arith;
+        boot_is = refl;
+        start_le = λ start idle e. nil-cons (Here start) idle e;
+        next = λ at e. none-some at e;
+      };
       quiet = record {
         rested = inl (record { starts = refl; unsearched = refl; unelected = refl; unresolved = refl; unsent = λ p. refl });
         silent = λ at e. none-some at e;
       };
       vote = record { stands = λ e. let bad : ⊥ = cc in absurd bad; windows = λ at e. none-some at e; votes = λ p e. absurd (true≢false (sym e)) };
-      round = record { rounds = λ at e. none-some at e; probing = λ at e. none-some at e; closes = λ calm at e. none-some at e; exchanges = λ p i s older e. nil-cons s older e };
+      round = record {
+        rounds = λ at e. none-some at e;
+        probing = λ at e. none-some at e;
+        closes = λ calm at e. none-some at e;
+        exchanges = λ p i s older e. nil-cons s older e;
+      };
     };
     backs = refl;
     follows = λ p e. none-among p refl e;
@@ -151,7 +201,13 @@ nothing-done x past = (
 
 -- and owes nothing
 pub nothing-ends : (setup : Setup) → StepEnds setup []
-nothing-ends setup = record { backs = refl; heeds = refl; follows = λ p e. none-among p refl e; acknowledged = refl; exchanges = λ p i s older e. nil-cons (Here s) older e }
+nothing-ends setup = record {
+  backs = refl;
+  heeds = refl;
+  follows = λ p e. none-among p refl e;
+  acknowledged = refl;
+  exchanges = λ p i s older e. nil-cons (Here s) older e;
+}
 
 own-ran : (hs : List Happening) (past : Past) → (ran hs past).own ≡ past.own
 own-ran [] past = refl
@@ -165,7 +221,8 @@ ran-rests : (past : Past) (hs : List Happening) → past.seen ≡ [] → Ordered
 ran-rests past [] e o = subst (λ s. Ended 0 (record past { seen = s })) (sym e) (nothing-done 0 past)
 ran-rests past (h ∷ before) e o =
     let own : (ran before past).own.0 ≡ h.step.node = ap (λ (p : PeerId). p.0) (own-ran before past) ∙ sym o.1 in
-    (row_leads h.makes).run h.tick (in_step h.step h.tick (ran before past)) (begins_fresh h.step (last_tick before) h.tick (ran before past) o.0 own (ran-rests past before e o.2))
+    (row_leads h.makes).run h.tick (in_step h.step h.tick (ran before past)) (begins_fresh h.step (last_tick before) h.tick (ran before past) o.0 own
+    (ran-rests past before e o.2))
 
 -- a port that runs by the rules owes nothing
 pub rules_fit : RulesFit

@@ -40,7 +40,12 @@ safe setting world f end = record {
   seldom = seldom setting world f;
   throughout = λ honest life. throughout setting world (record { fits = f; honest = honest; life = life });
   relayed = λ honest life. relayed setting world (record { fits = f; honest = honest; life = life });
-  resolved = record { yields = yields setting world f end; yields_taken = yields_taken setting world f end; quiet = stays_quiet setting world f; stops = stops_leading setting world f end };
+  resolved = record {
+    yields = yields setting world f end;
+    yields_taken = yields_taken setting world f end;
+    quiet = stays_quiet setting world f;
+    stops = stops_leading setting world f end;
+  };
   steady = steady setting world f;
   meets = meets world;
   shows = shows setting world f;

@@ -1,9 +1,11 @@
 -- Where the send of a post begins in the history, what its posts have in common, and who corrects: only masters do, and
 -- a Correct that is the next act after a Close stands right after it.
-use Rattle.std.proofs.Common.{sym, ap, arith, subst, subst₂, inl, inr, true≢false, ◌∙◌, ◌≡◌, ◌+◌, ◌*◌, ◌≤◌, true, false, ℕ, List, [], ◌∷◌, refl, ◌==◌, ℤ, Bool, ◌||◌}
+use Rattle.std.proofs.Common.{sym, ap, arith, subst, subst₂, inl, inr, true≢false, ◌∙◌, ◌≡◌, ◌+◌, ◌*◌, ◌≤◌, true, false, ℕ, List, [], ◌∷◌, refl, ◌==◌, ℤ, Bool}
+use Rattle.std.proofs.Common.{◌||◌}
 use Rattle.tsp_rules.specs.Values.{Post, Datagram, Message, Kind, AdjTime, Conflict, Election, QuitKind, SetDateReq, SetTime, PeerId, Place, Peer, LAST}
 use Rattle.tsp_rules.specs.Values.{Correct, Close, Ack, DateAck, Stranger, Master, Took, Taken, Good}
-use Rattle.tsp_base.specs.Words.{Acts, Came, Deed, Did, Line, Seen, Here, of, dids, view, is_shared, MessageValue, Within, acting, begun_to, is_correction, is_numbered, Setup, peer_of, posted, posted_after, Begins, Step, from_act, from_act_at, seen_as, role}
+use Rattle.tsp_base.specs.Words.{Acts, Came, Deed, Did, Line, Seen, Here, of, dids, view, is_shared, MessageValue, Within, acting, begun_to, is_correction}
+use Rattle.tsp_base.specs.Words.{is_numbered, Setup, peer_of, posted, posted_after, Begins, Step, from_act, from_act_at, seen_as, role}
 use Rattle.tsp_promises.proofs.OwnFitsProof.{place-time, locate, view-line, tick_in, deed_fits, fits_at}
 use Rattle.tsp_promises.specs.CorrectFits.{EndsRound, WhyCorrect, ByRound, ByMaster, ByDate}
 use Rattle.tsp_promises.specs.{DeedFits.MessageFits, DeedFits.DeedFits, DeedFits.PostFits, DeedFits.StrangerFits}
@@ -42,24 +44,29 @@ no-mark setup here d seen amount is why =
     cc
 
 -- what a Correct's port sees of a mark right before it
-sees-mark : (l x : Line) (rest : List Line) → x.did.deed ≡ Begins → node_of x ≡ node_of l → view l.port (of (node_of l) (x ∷ rest)) ≡ Here x.did ∷ view l.port (of (node_of l) rest)
+sees-mark : (l x : Line) (rest : List Line) → x.did.deed ≡ Begins → node_of x ≡ node_of l → view l.port (of (node_of l) (x ∷ rest)) ≡ Here x.did ∷
+    view l.port (of (node_of l) rest)
 sees-mark l x rest is node = ap (view l.port) (of-own (node_of l) x rest node) ∙ rw (is, or-true (x.port.0 == l.port.0)) refl
 
-after-deed : (setting : Setting) (l x close : Line) (rest older : List Line) (amount : ℤ) (stepped : Bool) (shown : ℤ) → Fits setting (l ∷ (x ∷ rest)) → l.did.deed ≡ Acts (Correct amount stepped shown) → (deed : Deed) → deed ≡ x.did.deed →
+after-deed : (setting : Setting) (l x close : Line) (rest older : List Line) (amount : ℤ) (stepped : Bool) (shown : ℤ) → Fits setting (l ∷ (x ∷ rest)) →
+    l.did.deed ≡ Acts (Correct amount stepped shown) → (deed : Deed) → deed ≡ x.did.deed →
     from_act_at deed (x ∷ rest) (from_act rest) ≡ close ∷ older → x ∷ rest ≡ close ∷ older
 after-deed setting l x close rest older amount stepped shown f is (Acts a) d e = e
 after-deed setting l x close rest older amount stepped shown f is Begins d e =
     let step : x.did.step ≡ l.did.step = subst (λ k. SameStep k l.did.step (dids (x ∷ rest))) is f.0.step in
     let fits = deed_fits setting l (x ∷ rest) (Acts (Correct amount stepped shown)) is f.0 in
-    absurd (no-mark (setup_of setting (node_of l) l.port) l.did x.did (view l.port (of (node_of l) rest)) amount (sym d) (subst (λ s. WhyCorrect (setup_of setting (node_of l) l.port) l.did s amount) (sees-mark l x rest (sym d) (ap (λ (s : Step). s.node) step)) fits.why))
+    absurd (no-mark (setup_of setting (node_of l) l.port) l.did x.did (view l.port (of (node_of l) rest)) amount (sym d)
+    (subst (λ s. WhyCorrect (setup_of setting (node_of l) l.port) l.did s amount) (sees-mark l x rest (sym d) (ap (λ (s : Step). s.node) step)) fits.why))
 
-pub right_after : (setting : Setting) (l : Line) (world : List Line) (close : Line) (older : List Line) (amount : ℤ) (stepped : Bool) (shown : ℤ) → Fits setting (l ∷ world) → l.did.deed ≡ Acts (Correct amount stepped shown) → from_act world ≡ close ∷ older →
+pub right_after : (setting : Setting) (l : Line) (world : List Line) (close : Line) (older : List Line) (amount : ℤ) (stepped : Bool) (shown : ℤ) →
+    Fits setting (l ∷ world) → l.did.deed ≡ Acts (Correct amount stepped shown) → from_act world ≡ close ∷ older →
     world ≡ close ∷ older
 right_after setting l [] close older amount stepped shown f is e = let bad : ⊥ = cc in absurd bad
 right_after setting l (x ∷ rest) close older amount stepped shown f is e = after-deed setting l x close rest older amount stepped shown f is x.did.deed refl e
 
 -- what the post of a correction to a peer owes
-pub correction_fits : (setup : Setup) (k : Kind) (here : Did) (seen : List Seen) (p : PeerId) (m : MessageValue) → is_correction k ≡ true → MessageFits setup k here seen p m → CorrectionFits here seen p m
+pub correction_fits : (setup : Setup) (k : Kind) (here : Did) (seen : List Seen) (p : PeerId) (m : MessageValue) → is_correction k ≡ true →
+    MessageFits setup k here seen p m → CorrectionFits here seen p m
 correction_fits setup AdjTime here seen p m e f = f
 correction_fits setup SetTime here seen p m e f = f
 correction_fits setup _ here seen p m e f = absurd (true≢false (sym e))
@@ -70,13 +77,16 @@ strangers Ack here seen number e f = true≢false (sym e)
 strangers DateAck here seen number e f = true≢false (sym e)
 strangers _ here seen number e f = f
 
-posts-lead : (setup : Setup) (to : Place) (m : MessageValue) (here : Did) (seen : List Seen) → is_correction m.kind ≡ true → PostFits setup to (Message m) here seen → role seen ≡ Master
+posts-lead : (setup : Setup) (to : Place) (m : MessageValue) (here : Did) (seen : List Seen) → is_correction m.kind ≡ true →
+    PostFits setup to (Message m) here seen → role seen ≡ Master
 posts-lead setup (Peer p) m here seen e f = (correction_fits setup m.kind here seen p m e f).leads
 posts-lead setup Stranger m here seen e f = absurd (strangers m.kind here seen m.number e f.0)
 
 -- a Correct right after a Close
-correct-leads : (setting : Setting) (l close : Line) (older : List Line) (count : ℕ) (lo size mean amount : ℤ) → node_of close ≡ node_of l → LineFits setting close older → close.did.deed ≡ Acts (Close count lo size mean) →
-    (b : Bool) → ((close.port.0 == l.port.0) || is_shared close.did.deed) ≡ b → WhyCorrect (setup_of setting (node_of l) l.port) l.did (seen_as b close.did ∷ view l.port (of (node_of l) older)) amount →
+correct-leads : (setting : Setting) (l close : Line) (older : List Line) (count : ℕ) (lo size mean amount : ℤ) → node_of close ≡ node_of l →
+    LineFits setting close older → close.did.deed ≡ Acts (Close count lo size mean) →
+    (b : Bool) → ((close.port.0 == l.port.0) || is_shared close.did.deed) ≡ b → WhyCorrect (setup_of setting (node_of l) l.port) l.did (seen_as b close.did ∷
+    view l.port (of (node_of l) older)) amount →
     role (seen_as b close.did ∷ view l.port (of (node_of l) older)) ≡ Master
 correct-leads setting l close older count lo size mean amount node f is true e why =
     let leads : role (view l.port (of (node_of l) older)) ≡ Master =
@@ -89,11 +99,14 @@ correct-leads setting l close older count lo size mean amount node f is false e 
 
 leads_at : (setting : Setting) (l : Line) (world : List Line) → Fits setting (l ∷ world) → LeadsAt l world
 leads_at setting l world f = record {
-  posts = λ to m is kind. posts-lead (setup_of setting (node_of l) l.port) to m l.did (view l.port (of (node_of l) world)) kind (deed_fits setting l world (Acts (Post to (Message m))) is f.0).fits;
+  posts = λ to m is kind. posts-lead (setup_of setting (node_of l) l.port) to m l.did (view l.port (of (node_of l) world)) kind
+      (deed_fits setting l world (Acts (Post to (Message m))) is f.0).fits;
   closes = λ count lo size mean is. (deed_fits setting l world (Acts (Close count lo size mean)) is f.0).leads;
-  corrects = λ close older count lo size mean amount stepped shown at close_is is. corrects_at setting l world f close older count lo size mean amount stepped shown at close_is is;
+  corrects = λ close older count lo size mean amount stepped shown at close_is is. corrects_at setting l world f close older count lo size mean amount stepped
+      shown at close_is is;
 } where
-  corrects_at : (setting : Setting) (l : Line) (world : List Line) → Fits setting (l ∷ world) → (close : Line) (older : List Line) (count : ℕ) (lo size mean amount : ℤ) (stepped : Bool) (shown : ℤ) → from_act world ≡ close ∷ older →
+  corrects_at : (setting : Setting) (l : Line) (world : List Line) → Fits setting (l ∷ world) →
+      (close : Line) (older : List Line) (count : ℕ) (lo size mean amount : ℤ) (stepped : Bool) (shown : ℤ) → from_act world ≡ close ∷ older →
       close.did.deed ≡ Acts (Close count lo size mean) → l.did.deed ≡ Acts (Correct amount stepped shown) → Leads l world
   corrects_at setting l world f close older count lo size mean amount stepped shown from close_is is =
       let at = right_after setting l world close older amount stepped shown f is from in
@@ -103,7 +116,8 @@ leads_at setting l world f = record {
       let own = of-own (node_of l) close older node in
       let fits = deed_fits setting l (close ∷ older) (Acts (Correct amount stepped shown)) is g.0 in
       let setup = setup_of setting (node_of l) l.port in
-      let why : WhyCorrect setup l.did (view l.port (close ∷ of (node_of l) older)) amount = subst (λ w. WhyCorrect setup l.did (view l.port w) amount) own fits.why in
+      let why : WhyCorrect setup l.did (view l.port (close ∷ of (node_of l) older)) amount =
+      subst (λ w. WhyCorrect setup l.did (view l.port w) amount) own fits.why in
       subst (λ w. Leads l w) (sym at) (subst (λ w. role (view l.port w) ≡ Master) (sym own)
       (correct-leads setting l close older count lo size mean amount node g.1.0 close_is ((close.port.0 == l.port.0) || is_shared close.did.deed) refl why))
 
@@ -123,14 +137,17 @@ pub record SendPlace (m k : ℕ) (p : Line) (o : List Line) (msg : MessageValue)
   pub ticks : p.did.tick ≤ first.tick + LAST
 
 -- what the post of a correction owes
-pub post_fits : (setting : Setting) (m : ℕ) (p : Line) (o : List Line) (k : PeerId) (msg : MessageValue) → LineFits setting p o → node_of p ≡ m → p.did.deed ≡ Acts (Post (Peer k) (Message msg)) → is_correction msg.kind ≡ true →
+pub post_fits : (setting : Setting) (m : ℕ) (p : Line) (o : List Line) (k : PeerId) (msg : MessageValue) → LineFits setting p o → node_of p ≡ m → p.did.deed ≡
+    Acts (Post (Peer k) (Message msg)) → is_correction msg.kind ≡ true →
     CorrectionFits p.did (view p.port (of m o)) k msg
 post_fits setting m p o k msg f node deed kind =
     subst (λ n. CorrectionFits p.did (view p.port (of n o)) k msg) node
-    (correction_fits (setup_of setting (node_of p) p.port) msg.kind p.did (view p.port (of (node_of p) o)) k msg kind (deed_fits setting p o (Acts (Post (Peer k) (Message msg))) deed f).fits)
+    (correction_fits (setup_of setting (node_of p) p.port) msg.kind p.did (view p.port (of (node_of p) o)) k msg kind
+    (deed_fits setting p o (Acts (Post (Peer k) (Message msg))) deed f).fits)
 
 -- a numbered post that begins no send repeats the open one
-repeats-of : (setup : Setup) (kind : Kind) (here : Did) (seen : List Seen) (p : PeerId) (m : MessageValue) → is_numbered kind ≡ true → MessageFits setup kind here seen p m → acting seen ≡ false → RepeatFits here seen p m
+repeats-of : (setup : Setup) (kind : Kind) (here : Did) (seen : List Seen) (p : PeerId) (m : MessageValue) → is_numbered kind ≡ true →
+    MessageFits setup kind here seen p m → acting seen ≡ false → RepeatFits here seen p m
 repeats-of setup AdjTime here seen p m n f = f.repeats
 repeats-of setup SetTime here seen p m n f = f.repeats
 repeats-of setup Election here seen p m n f = f.numbered.repeats
@@ -139,20 +156,24 @@ repeats-of setup QuitKind here seen p m n f = f.repeats
 repeats-of setup SetDateReq here seen p m n f = f.numbered.repeats
 repeats-of setup _ here seen p m n f = absurd (true≢false (sym n))
 
-pub repeats_in : (setting : Setting) (m : ℕ) (p : Line) (o : List Line) (k : PeerId) (msg : MessageValue) → LineFits setting p o → node_of p ≡ m → p.did.deed ≡ Acts (Post (Peer k) (Message msg)) → is_numbered msg.kind ≡ true →
+pub repeats_in : (setting : Setting) (m : ℕ) (p : Line) (o : List Line) (k : PeerId) (msg : MessageValue) → LineFits setting p o → node_of p ≡ m → p.did.deed ≡
+    Acts (Post (Peer k) (Message msg)) → is_numbered msg.kind ≡ true →
     acting (view p.port (of m o)) ≡ false → RepeatFits p.did (view p.port (of m o)) k msg
 repeats_in setting m p o k msg f node deed kind =
     subst (λ n. acting (view p.port (of n o)) ≡ false → RepeatFits p.did (view p.port (of n o)) k msg) node
-    (repeats-of (setup_of setting (node_of p) p.port) msg.kind p.did (view p.port (of (node_of p) o)) k msg kind (deed_fits setting p o (Acts (Post (Peer k) (Message msg))) deed f).fits)
+    (repeats-of (setup_of setting (node_of p) p.port) msg.kind p.did (view p.port (of (node_of p) o)) k msg kind
+    (deed_fits setting p o (Acts (Post (Peer k) (Message msg))) deed f).fits)
 
 pub not-shared : (d : Did) (to : Place) (datagram : Datagram) → d.deed ≡ Acts (Post to datagram) → is_shared d.deed ≡ false
 not-shared d to datagram e = rw e refl
 
-pub send_place : (setting : Setting) (m k : ℕ) (p : Line) (o : List Line) (msg : MessageValue) → Fits setting (p ∷ o) → node_of p ≡ m → p.did.deed ≡ Acts (Post (Peer (peer_of k)) (Message msg)) → is_numbered msg.kind ≡ true →
+pub send_place : (setting : Setting) (m k : ℕ) (p : Line) (o : List Line) (msg : MessageValue) → Fits setting (p ∷ o) → node_of p ≡ m → p.did.deed ≡
+    Acts (Post (Peer (peer_of k)) (Message msg)) → is_numbered msg.kind ≡ true →
     SendPlace m k p o msg
 send_place setting m k p o msg f node deed kind =
     let d = send_is (peer_of k) p.did (view p.port (of m o)) msg deed kind (repeats_in setting m p o (peer_of k) msg f.0 node deed kind) in
-    let at : Within (Here d.first ∷ d.older) (view p.port (of m (p ∷ o))) = subst (λ s. Within (Here d.first ∷ d.older) s) (sym (view-line m p o node)) d.place in
+    let at : Within (Here d.first ∷ d.older) (view p.port (of m (p ∷ o))) = subst (λ s. Within (Here d.first ∷ d.older) s) (sym (view-line m p o node)) d.place
+    in
     let l = locate m p.port (p ∷ o) d.first d.older (not-shared d.first (Peer (peer_of k)) (Message msg) d.same) at in
     let after : d.first.step.at ≤ p.did.step.at = place-time setting (line_on p.port d.first ∷ l.older) (p ∷ o) f l.place in
     let n = near setting m d.first.step.at p.did.step.at after in
@@ -181,7 +202,8 @@ posted-mono s [] e = subst (λ w. posted (dids w) ≤ 0) (sym e) (omega arith)
 posted-mono s (l ∷ t) (inl e) = subst (λ w. posted (dids w) ≤ posted (dids (l ∷ t))) (sym e) (omega arith)
 posted-mono s (l ∷ t) (inr p) = omega (arith, posted-mono s t p, posted-deed l.did.deed (posted (dids t)))
 
-pub posted-post : (q : Line) (b : List Line) (to : Place) (datagram : Datagram) → q.did.deed ≡ Acts (Post to datagram) → posted (dids (q ∷ b)) ≡ posted (dids b) + 1
+pub posted-post : (q : Line) (b : List Line) (to : Place) (datagram : Datagram) → q.did.deed ≡ Acts (Post to datagram) → posted (dids (q ∷ b)) ≡
+    posted (dids b) + 1
 posted-post q b to datagram e = rw e refl
 
 -- a step comes by one datagram

@@ -1,5 +1,6 @@
 -- Sends: where the last one to a peer began, and which one a post belongs to.
-use Rattle.std.proofs.Common.{sym, ap, arith, subst, inl, inr, eq-eqb, true≢false, ◌∙◌, ◌≡◌, ◌==◌, ◌&&◌, cond, Bool, true, false, ℕ, ◌+◌, ◌≤◌, ◌⊎◌, List, [], ◌∷◌, refl}
+use Rattle.std.proofs.Common.{sym, ap, arith, subst, inl, inr, eq-eqb, true≢false, ◌∙◌, ◌≡◌, ◌==◌, ◌&&◌, cond, Bool, true, false, ℕ, ◌+◌, ◌≤◌, ◌⊎◌, List, []}
+use Rattle.std.proofs.Common.{◌∷◌, refl}
 use Rattle.std.proofs.lemmas.Bool.{and_parts}
 use Rattle.tsp_rules.specs.Values.{Boot, Post, Become, Acked, Gave, Message, Kind, AdjTime, SetTime, PeerId, Peer, LAST}
 use Rattle.tsp_base.specs.Words.{Acts, Deed, Did, Seen, Here, Elsewhere, MessageValue, Within, acting, begun_to, begun_to_after, is_correction, is_numbered}
@@ -28,7 +29,8 @@ numbered _ e = absurd (true≢false (sym e))
 pub corrects-sends : (p : PeerId) (m : MessageValue) (first : Did) (older : List Seen) → CorrectsTo p m first older → BeginsSend p m first older
 corrects-sends p m first older c = record { deed = c.deed; kind = numbered m.kind c.kind; begins = c.begins }
 
-pub sends-correct : (p : PeerId) (m : MessageValue) (first : Did) (older : List Seen) → BeginsSend p m first older → is_correction m.kind ≡ true → CorrectsTo p m first older
+pub sends-correct : (p : PeerId) (m : MessageValue) (first : Did) (older : List Seen) → BeginsSend p m first older → is_correction m.kind ≡ true →
+    CorrectsTo p m first older
 sends-correct p m first older b kind = record { deed = b.deed; kind = kind; begins = b.begins }
 
 pub number-same : (m n : ℕ) → peer_of m ≡ peer_of n → m ≡ n
@@ -138,12 +140,15 @@ starts_late l m t b (Here d ∷ x) first older c (inr w) e = elim (l.here d x fi
 pub begun_at : (p : PeerId) (seen : List Seen) (first : Did) (older : List Seen) → begun_to p seen ≡ Here first ∷ older → Opened is_numbered p first older seen
 begun_at p seen first older e = starts_at (begun_of p) seen first older e
 
-open-if : (b : Bool) (here now began : List Seen) (s : Seen) (older : List Seen) → (now ≡ s ∷ older → began ≡ s ∷ older) → cond b here now ≡ s ∷ older → cond b here began ≡ s ∷ older
+open-if : (b : Bool) (here now began : List Seen) (s : Seen) (older : List Seen) → (now ≡ s ∷ older → began ≡ s ∷ older) → cond b here now ≡ s ∷ older →
+    cond b here began ≡ s ∷ older
 open-if true here now began s older h e = e
 open-if false here now began s older h e = h e
 
-open-deed : (p : PeerId) (d : Did) (before : List Seen) (s : Seen) (older : List Seen) (deed : Deed) → (open_to p before ≡ s ∷ older → begun_to p before ≡ s ∷ older) →
-    open_to_after p deed (acting before) (Here d ∷ before) (open_to p before) ≡ s ∷ older → begun_to_after p deed (acting before) (Here d ∷ before) (begun_to p before) ≡ s ∷ older
+open-deed : (p : PeerId) (d : Did) (before : List Seen) (s : Seen) (older : List Seen) (deed : Deed) → (open_to p before ≡ s ∷ older → begun_to p before ≡ s ∷
+    older) →
+    open_to_after p deed (acting before) (Here d ∷ before) (open_to p before) ≡ s ∷ older →
+    begun_to_after p deed (acting before) (Here d ∷ before) (begun_to p before) ≡ s ∷ older
 open-deed p d before s older (Acts Boot) h e = nil-cons s older e
 open-deed p d before s older (Acts (Become r)) h e = nil-cons s older e
 open-deed p d before s older (Acts (Post (Peer q) (Message m))) h e = open-if _ (Here d ∷ before) (open_to p before) (begun_to p before) s older h e
@@ -170,7 +175,8 @@ pub record SendIs (p : PeerId) (post : Did) (before : List Seen) (m : MessageVal
   pub same : first.deed ≡ Acts (Post (Peer p) (Message m))
   pub soon : post.tick ≤ first.tick + LAST
 
-pub send_is : (p : PeerId) (post : Did) (before : List Seen) (m : MessageValue) → post.deed ≡ Acts (Post (Peer p) (Message m)) → is_numbered m.kind ≡ true → (acting before ≡ false → RepeatFits post before p m) → SendIs p post before m
+pub send_is : (p : PeerId) (post : Did) (before : List Seen) (m : MessageValue) → post.deed ≡ Acts (Post (Peer p) (Message m)) → is_numbered m.kind ≡ true →
+    (acting before ≡ false → RepeatFits post before p m) → SendIs p post before m
 send_is p post before m is kind repeats = by-case (acting before) refl where
   by-case : (b : Bool) → acting before ≡ b → SendIs p post before m
   by-case true e =

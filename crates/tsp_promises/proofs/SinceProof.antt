@@ -3,7 +3,8 @@
 use Rattle.std.proofs.Common.{sym, arith, subst, inl, inr, ℕ, ◌+◌, ◌≤◌, List, [], ◌∷◌, refl, ◌∙◌, ◌≡◌, ◌==◌, ◌||◌, ◌⊎◌, Bool, true, false, cond, Option, Some}
 use Rattle.std.proofs.lemmas.Bool.{cases_lt}
 use Rattle.tsp_rules.specs.Values.{Boot, Correct, Port, GAP, QUIET, Back, Quit, PeerId, HOLD}
-use Rattle.tsp_base.specs.Words.{Did, Deed, Acts, Line, dids, view, is_shared, all_corrects, boot_tick, last_correct, last_correct_after, time_of, tick_of, Within, Setup, Seen, Here, seen_as, lives, lives_after, held}
+use Rattle.tsp_base.specs.Words.{Did, Deed, Acts, Line, dids, view, is_shared, all_corrects, boot_tick, last_correct, last_correct_after, time_of, tick_of}
+use Rattle.tsp_base.specs.Words.{Within, Setup, Seen, Here, seen_as, lives, lives_after, held}
 use Rattle.tsp_base.proofs.{ViewPlaces.sees-own, Views.plain_view}
 use Rattle.tsp_base.specs.{Hold.Held, Words.Elsewhere, Words.held_after}
 use Rattle.tsp_promises.specs.{Fits.node_of, Fits.Sees, OwnFits.OwnFits, OwnFits.OwnLineFits, Setting.Setting, Setting.setup_of}
@@ -28,7 +29,8 @@ apart-deed setup (Acts (Correct amount stepped shown)) here q own f =
 apart-deed setup _ here q own f = tt
 
 pub apart_if : (setting : Setting) (l : Line) (before : List Line) → OwnLineFits setting l before → ApartIf l.did.deed l.did (dids before)
-apart_if setting l before f = apart-deed (setup_of setting (node_of l) l.port) l.did.deed l.did l.port before (f.deeds l.port (sees-own l.port (is_shared l.did.deed)))
+apart_if setting l before f = apart-deed (setup_of setting (node_of l) l.port) l.did.deed l.did l.port before
+    (f.deeds l.port (sees-own l.port (is_shared l.did.deed)))
 
 last-deed : (deed : Deed) (last x y : ℕ) → last ≤ x → x ≤ y → last_correct_after deed y last ≤ y
 last-deed (Acts Boot) last x y h k = omega arith
@@ -77,7 +79,14 @@ Since-deed s t d (Acts (Correct amount stepped shown)) time tick f h = record {
   lasts = omega (arith, h.lasts, f.gap);
   lives = h.lives;
   life = elim h.life [
-    | inl o ↦ inl (record { lives = o.lives; word = o.word; wall = o.wall; boot = o.boot; corrects = omega (arith, o.corrects); still = λ e. absurd (omega (arith, h.all)) })
+    | inl o ↦ inl (record {
+      lives = o.lives;
+      word = o.word;
+      wall = o.wall;
+      boot = o.boot;
+      corrects = omega (arith, o.corrects);
+      still = λ e. absurd (omega (arith, h.all));
+    })
     | inr b ↦ inr (record { lives = b.lives; boot = b.boot })
   ];
 }
@@ -119,7 +128,8 @@ pub later-if : (b : Bool) (was : Option ℕ) (x y : ℕ) → x ≤ y → NotBefo
 later-if true was x y by h = record { at = y; is = refl; by = by }
 later-if false was x y by h = h
 
-back-deed : (setup : Setup) (d : Did) (deed : Deed) (seen : List Seen) (x y n : ℕ) (c : PeerId) → DeedFits setup deed d seen → lives_after deed n ≡ n → y ≤ d.tick → BackedLate seen x y c →
+back-deed : (setup : Setup) (d : Did) (deed : Deed) (seen : List Seen) (x y n : ℕ) (c : PeerId) → DeedFits setup deed d seen → lives_after deed n ≡ n →
+    y ≤ d.tick → BackedLate seen x y c →
     BackedLate (Here (record { step = d.step; tick = d.tick; deed = deed }) ∷ seen) x d.tick c
 back-deed setup d (Acts Boot) seen x y n c f v by h = absurd (omega arith)
 back-deed setup d (Acts (Back p)) seen x y n c f v by h = record {
@@ -141,7 +151,8 @@ quit-deed (Acts (Quit p)) was x y n v by h = record { at = y; is = refl; by = by
 quit-deed _ was x y n v by h = h
 
 -- the node didn't boot in this line
-pub still-lives : (setting : Setting) (s : List Line) (l : Line) (t : List Line) → OwnFits setting (l ∷ t) → Within s t → lives (dids s) ≡ lives (dids (l ∷ t)) →
+pub still-lives : (setting : Setting) (s : List Line) (l : Line) (t : List Line) → OwnFits setting (l ∷ t) → Within s t → lives (dids s) ≡
+    lives (dids (l ∷ t)) →
     (lives (dids s) ≡ lives (dids t)) × (lives_after l.did.deed (lives (dids t)) ≡ lives (dids t))
 still-lives setting s l t f w e =
     let i = since setting s t f.1 w in
@@ -176,7 +187,8 @@ lasting_seen setting q P x rest t f sees w v here more other =
     by-port l t k by h true = more l.did (view q t) (lives (dids t)) k by h
     by-port l t k by h false = other l.did (view q t) h
 
-pub back_late : (setting : Setting) (q : Port) (c : PeerId) (x : Line) (rest t : List Line) → OwnFits setting t → x.did.deed ≡ Acts (Back c) → Sees q x → Within (x ∷ rest) t →
+pub back_late : (setting : Setting) (q : Port) (c : PeerId) (x : Line) (rest t : List Line) → OwnFits setting t → x.did.deed ≡ Acts (Back c) → Sees q x →
+    Within (x ∷ rest) t →
     lives (dids (x ∷ rest)) ≡ lives (dids t) → BackedLate (view q t) x.did.tick (tick_of (dids t)) c
 back_late setting q c x rest t f deed sees w v =
     lasting setting (λ t. BackedLate (view q t) x.did.tick (tick_of (dids t)) c) (x ∷ rest) t f w v
@@ -191,7 +203,8 @@ back_late setting q c x rest t f deed sees w v =
     more l t o k h false e = record { at = h.at; last = h.last; is = h.is; by = h.by; upto = omega (arith, h.upto, o.tick); holds = h.holds }
 
 -- the last Quit that a port has seen isn't before one
-pub quit_late : (setting : Setting) (q : Port) (c : PeerId) (x : Line) (rest t : List Line) → OwnFits setting t → x.did.deed ≡ Acts (Quit c) → Sees q x → Within (x ∷ rest) t →
+pub quit_late : (setting : Setting) (q : Port) (c : PeerId) (x : Line) (rest t : List Line) → OwnFits setting t → x.did.deed ≡ Acts (Quit c) → Sees q x →
+    Within (x ∷ rest) t →
     lives (dids (x ∷ rest)) ≡ lives (dids t) → NotBefore (held (view q t)).quit x.did.tick
 quit_late setting q c x rest t f deed sees w v = lasting_seen setting q (λ s. NotBefore (held s).quit x.did.tick) x rest t f sees w v
     (record { at = x.did.tick; is = rw deed refl; by = omega arith }) (λ d s n k by h. quit-deed d.deed (held s) x.did.tick d.tick n k by h) (λ d s h. h)

@@ -1,13 +1,18 @@
 -- The rows of a port that is Loose or follows keep what is known of it.
-use Rattle.std.proofs.Common.{sym, subst, inl, inr, ap, arith, true≢false, eqb-true, ◌∙◌, ◌≡◌, ◌≢◌, ◌⊎◌, ◌≤◌, ℕ, ◌+◌, ◌==◌, ℤ, ◌-ℤ◌, Bool, true, false, ◌||◌, if◌then◌else◌, List, [], ◌∷◌, Option, None, Some, refl}
+use Rattle.std.proofs.Common.{sym, subst, inl, inr, ap, arith, true≢false, eqb-true, ◌∙◌, ◌≡◌, ◌≢◌, ◌⊎◌, ◌≤◌, ℕ, ◌+◌, ◌==◌, ℤ, ◌-ℤ◌, Bool, true, false, ◌||◌}
+use Rattle.std.proofs.Common.{if◌then◌else◌, List, [], ◌∷◌, Option, None, Some, refl}
 use Rattle.std.proofs.lemmas.Bool.{and_parts}
-use Rattle.tsp_rules.specs.Values.{Boot, Post, Back, Correct, Quit, Search, Message, Good, Kind, Accept, Ack, AdjTime, Conflict, Election, QuitKind, Refuse, SetTime, PeerId, Peer, Role, Loose, Follow, Candidate, GAP, QUIET, Taken}
+use Rattle.tsp_rules.specs.Values.{Boot, Post, Back, Correct, Quit, Search, Message, Good, Kind, Accept, Ack, AdjTime, Conflict, Election, QuitKind, Refuse}
+use Rattle.tsp_rules.specs.Values.{SetTime, PeerId, Peer, Role, Loose, Follow, Candidate, GAP, QUIET, Taken}
 use Rattle.tsp_rules.{specs.ClockRows.adjusts, specs.ClockRows.sets, specs.ClockRows.can_adjust, specs.ClockRows.is_step, proofs.Asides.now}
 use Rattle.tsp_rules.specs.CommonRows.{arms_elect, tells_ticket, follow_row, quits, follows_unless}
 use Rattle.tsp_rules.specs.{SendRows.begins, SendRows.is_free, Guards.role_at, Guards.is_armed, Guards.is_clock_value, Guards.may_back_at}
-use Rattle.tsp_rules.specs.SlaveRows.{reports_conflict, masterup_in, masterack_in, election_of, is_next, is_by, is_repeated, acks_repeat, confirms, takes_amount, adjtime_of, takes_value, settime_of, from_master}
+use Rattle.tsp_rules.specs.SlaveRows.{reports_conflict, masterup_in, masterack_in, election_of, is_next, is_by, is_repeated, acks_repeat, confirms}
+use Rattle.tsp_rules.specs.SlaveRows.{takes_amount, adjtime_of, takes_value, settime_of, from_master}
 use Rattle.tsp_rules.proofs.GuardFacts.{past_is, back_is, same_peer}
-use Rattle.tsp_base.specs.Words.{Deed, Acts, Did, Seen, Past, plain, is_past, Leads, MessageValue, boot_tick, boot_after, ticket, target, last_correct, last_correct_after, correct_place, correct_place_after, correct_tick, shown, tick_in, Received, Said, role, said, held, armed, Row, grown, nothing, puts, ◌followed_by◌, reading, bare, posts, is_correction, Correcting, correcting_of, last_taken, time_in}
+use Rattle.tsp_base.specs.Words.{Deed, Acts, Did, Seen, Past, plain, is_past, Leads, MessageValue, boot_tick, boot_after, ticket, target, last_correct}
+use Rattle.tsp_base.specs.Words.{last_correct_after, correct_place, correct_place_after, correct_tick, shown, tick_in, Received, Said, role, said, held, armed}
+use Rattle.tsp_base.specs.Words.{Row, grown, nothing, puts, ◌followed_by◌, reading, bare, posts, is_correction, Correcting, correcting_of, last_taken, time_in}
 use Rattle.tsp_base.proofs.LeadsLemmas.{Leads_then, Leads_either, Leads_reading, Leads_nothing, Leads_puts, Leads_from, Leads_to}
 use Rattle.tsp_promises.{specs.AckFits.Answers, proofs.PostLeaves.Leads_posts, proofs.PostLeaves.post_knows, proofs.PostLeaves.post_message}
 use Rattle.tsp_promises.specs.CorrectFits.{ByMaster, amount_of, sets_time}
@@ -69,7 +74,8 @@ record Staying (due : Option Said) (T : Option Received → Option Received → 
 -- an election is answered by a port that isn't a candidate itself
 pub election_leads : {r : Role} (p : PeerId) (m : MessageValue) → m.kind ≡ Election → r ≢ Candidate → Leads (HeardIn p m r) (election_of p m.number) Rests
 unfolding election_of
-election_leads p m kind other = Leads_either (may_back_at p) (puts (Back p) followed_by (arms_elect followed_by posts p Accept m.number)) (posts p Refuse m.number)
+election_leads p m kind other = Leads_either (may_back_at p) (puts (Back p) followed_by (arms_elect followed_by posts p Accept m.number))
+    (posts p Refuse m.number)
     (Leads_then {Q = Backing p (Says p m)} (puts (Back p)) (arms_elect followed_by posts p Accept m.number)
     (Leads_puts (Back p) (λ x past h. record {
       free = back_other p (λ c. other (sym h.0.1 ∙ c)) (record {
@@ -80,7 +86,13 @@ election_leads p m kind other = Leads_either (may_back_at p) (puts (Back p) foll
     }))
     (Leads_then {Q = Backing p (Says p m)} arms_elect (posts p Accept m.number)
     (arms_elect_keeps (λ x past at h. record { free = arm_elect at h.free; backed_is = h.backed_is }))
-    (Leads_posts p Accept m.number (λ x past h. rests_of (post_message p (bare Accept m.number past.name) refl (record { backs = h.backed_is; message = m; took = h.free.took; kind = kind; number_is = refl }) h.free)))))
+    (Leads_posts p Accept m.number (λ x past h. rests_of (post_message p (bare Accept m.number past.name) refl (record {
+      backs = h.backed_is;
+      message = m;
+      took = h.free.took;
+      kind = kind;
+      number_is = refl;
+    }) h.free)))))
     (Leads_posts p Refuse m.number (λ x past h. rests_of (post_message p (bare Refuse m.number past.name) refl tt h.0.0.just.free)))
 
 -- the last correction's tick, where there was one since the boot
@@ -88,20 +100,23 @@ correct-cases : (ds : List Did) → ((correct_tick ds ≡ None) × (last_correct
 correct-cases [] = inl (refl, refl)
 correct-cases (d ∷ before) = by_deed d.deed (correct-cases before) where
   by_deed : (deed : Deed) → ((correct_tick before ≡ None) × (last_correct before ≡ boot_tick before)) ⊎ (correct_tick before ≡ Some (last_correct before)) →
-      ((tick_in (correct_place_after deed (d ∷ before) (correct_place before)) ≡ None) × (last_correct_after deed d.tick (last_correct before) ≡ boot_after deed d.tick (boot_tick before)))
+      ((tick_in (correct_place_after deed (d ∷ before) (correct_place before)) ≡ None) × (last_correct_after deed d.tick (last_correct before) ≡
+      boot_after deed d.tick (boot_tick before)))
       ⊎ (tick_in (correct_place_after deed (d ∷ before) (correct_place before)) ≡ Some (last_correct_after deed d.tick (last_correct before)))
   by_deed (Acts Boot) h = inl (refl, refl)
   by_deed (Acts (Correct amount stepped shown)) h = inr refl
   by_deed _ h = h
 
-pub gap_of : (x : ℕ) (past : Past) → is_past (correct_tick (plain past.seen)) GAP x ≡ true → boot_tick (plain past.seen) + QUIET ≤ x → last_correct (plain past.seen) + GAP ≤ x
+pub gap_of : (x : ℕ) (past : Past) → is_past (correct_tick (plain past.seen)) GAP x ≡ true → boot_tick (plain past.seen) + QUIET ≤ x →
+    last_correct (plain past.seen) + GAP ≤ x
 gap_of x past e rested = elim (correct-cases (plain past.seen)) [
   | inl h ↦ let same = h.1 in omega (arith, same, rested)
   | inr h ↦ past_is (correct_tick (plain past.seen)) GAP x e (last_correct (plain past.seen)) h
 ]
 
 -- a follower has no round
-no_close : (x : ℕ) (past : Past) (q : PeerId) → role past.seen ≡ Follow q → {T : Option Received → Option Received → Type 0} → Free T x past → (o : Option ℕ) → (armed past.seen).close ≡ o → (armed past.seen).close ≡ None
+no_close : (x : ℕ) (past : Past) (q : PeerId) → role past.seen ≡ Follow q → {T : Option Received → Option Received → Type 0} → Free T x past → (o : Option ℕ) →
+    (armed past.seen).close ≡ o → (armed past.seen).close ≡ None
 no_close x past q r h None e = e
 no_close x past q r h (Some at) e = let leads = (h.knows.round.closes refl at e).leads in let bad : ⊥ = cc in absurd bad
 
@@ -119,7 +134,8 @@ module _ {p : PeerId} {m : MessageValue} where
   obeyed_ack kind = Leads_posts p Ack m.number (λ x past h.
       rests_of (post_message p (bare Ack m.number past.name) refl (ack_fits (Peer p) m past.seen h.free.took (answer m.kind kind past.seen h.taken_is)) h.free))
     where
-      answer : (k : Kind) → is_correction k ≡ true → (seen : List Seen) → last_taken seen ≡ Some (record { from = p; number = m.number }) → Answers k (Peer p) seen m.number
+      answer : (k : Kind) → is_correction k ≡ true → (seen : List Seen) → last_taken seen ≡ Some (record { from = p; number = m.number }) →
+          Answers k (Peer p) seen m.number
       answer AdjTime c seen t = t
       answer SetTime c seen t = t
       answer _ c seen t = absurd (true≢false (sym c))
@@ -130,15 +146,18 @@ module _ {p : PeerId} {m : MessageValue} where
       (arms_elect_keeps (λ x past at h. record { free = arm_elect at h.free; taken_is = h.taken_is }))
       (obeyed_ack kind)
 
-  pub acks_repeat_leads : is_correction m.kind ≡ true → {P : ℕ → Past → Type 0} → ((x : ℕ) (past : Past) → P x past → Heard p (Good (Message m)) x past) → Leads P (acks_repeat p m.number) Rests
+  pub acks_repeat_leads : is_correction m.kind ≡ true → {P : ℕ → Past → Type 0} → ((x : ℕ) (past : Past) → P x past → Heard p (Good (Message m)) x past) →
+      Leads P (acks_repeat p m.number) Rests
   unfolding acks_repeat
   acks_repeat_leads kind k = Leads_either (is_repeated p m.number) (posts p Ack m.number) nothing
       (Leads_from (λ x past h. record { free = (k x past h.0).just.free; taken_is = is_by-is p m.number (last_taken past.seen) h.1 }) (obeyed_ack kind))
       (idle_heard (λ x past h. k x past h.0))
 
   -- a correction of the followed master is obeyed
-  obeys : (x : ℕ) (past : Past) (amount : ℤ) (stepped : Bool) (printed : ℤ) (sets : Bool) → is_correction m.kind ≡ true → HeardIn p m (Follow p) x past → is_next m.number x past ≡ true →
-      amount ≡ amount_of m.kind (time_in m.body) (target (plain past.seen) x) → sets_time m.kind ≡ sets → stepped ≡ (sets || is_step amount) → printed ≡ shown (now x past (Correct amount stepped printed) ∷ plain past.seen) x →
+  obeys : (x : ℕ) (past : Past) (amount : ℤ) (stepped : Bool) (printed : ℤ) (sets : Bool) → is_correction m.kind ≡ true → HeardIn p m (Follow p) x past →
+      is_next m.number x past ≡ true →
+      amount ≡ amount_of m.kind (time_in m.body) (target (plain past.seen) x) → sets_time m.kind ≡ sets → stepped ≡ (sets || is_step amount) → printed ≡
+      shown (now x past (Correct amount stepped printed) ∷ plain past.seen) x →
       Obeyed p m.number (Says p m) x (grown x past (Correct amount stepped printed ∷ []))
   obeys x past amount stepped printed sets kind h next amount_is sets_is steps prints =
       let free = h.0.just.free in
@@ -176,7 +195,8 @@ module _ {p : PeerId} {m : MessageValue} where
       (record {
         run = λ x past h.
             let both = and_parts (is_next m.number x past) (can_adjust (time_in m.body) x past) h.1 in
-            obeys x past (time_in m.body) (is_step (time_in m.body)) _ false kind h.0 both.0 (sym (ap (λ i. amount_of i (time_in m.body) (target (plain past.seen) x)) k))
+            obeys x past (time_in m.body) (is_step (time_in m.body)) _ false kind h.0 both.0
+            (sym (ap (λ i. amount_of i (time_in m.body) (target (plain past.seen) x)) k))
             (ap sets_time k) refl (adjusts_prints x past (time_in m.body) (is_step (time_in m.body)));
       })
       (confirms_lead kind))
@@ -191,34 +211,49 @@ module _ {p : PeerId} {m : MessageValue} where
       (record {
         run = λ x past h.
             let both = and_parts (is_next m.number x past) (is_clock_value (time_in m.body)) h.1 in
-            obeys x past (time_in m.body -ℤ target (plain past.seen) x) true (time_in m.body) true kind h.0 both.0 (sym (ap (λ i. amount_of i (time_in m.body) (target (plain past.seen) x)) k))
+            obeys x past (time_in m.body -ℤ target (plain past.seen) x) true (time_in m.body) true kind h.0 both.0
+            (sym (ap (λ i. amount_of i (time_in m.body) (target (plain past.seen) x)) k))
             (ap sets_time k) refl (sets_prints x past (time_in m.body));
       })
       (confirms_lead kind))
       (acks_repeat_leads kind (λ x past h. h.0.0))
 
-  pub from_master_leads : (row : Row) → Leads (HeardIn p m (Follow p)) row Rests → (r : Role) → Leads (λ x past. Heard p (Good (Message m)) x past × (role_at x past ≡ r)) (from_master p row r) Rests
+  pub from_master_leads : (row : Row) → Leads (HeardIn p m (Follow p)) row Rests → (r : Role) → Leads (λ x past. Heard p (Good (Message m)) x past ×
+      (role_at x past ≡ r)) (from_master p row r) Rests
   unfolding from_master
   from_master_leads row k (Follow q) = by_case (q.0 == p.0) refl where
-    by_case : (b : Bool) → (q.0 == p.0) ≡ b → Leads (λ x past. Heard p (Good (Message m)) x past × (role_at x past ≡ Follow q)) (if b then row else nothing) Rests
+    by_case : (b : Bool) → (q.0 == p.0) ≡ b → Leads (λ x past. Heard p (Good (Message m)) x past × (role_at x past ≡ Follow q)) (if b then row else nothing)
+        Rests
     by_case true e = Leads_from (λ x past h. (h.0, h.1 ∙ ap Follow (same_peer q p e))) k
     by_case false e = idle_heard (λ x past h. h.0)
   from_master_leads row k _ = idle_heard (λ x past h. h.0)
 
-  stays : (q : PeerId) (x : ℕ) (past : Past) → HeardIn p m (Follow q) x past → m.kind ≡ QuitKind → Staying (Some (record { from = p; message = m })) (Says p m) q x (grown x past (Quit p ∷ []))
+  stays : (q : PeerId) (x : ℕ) (past : Past) → HeardIn p m (Follow q) x past → m.kind ≡ QuitKind →
+      Staying (Some (record { from = p; message = m })) (Says p m) q x (grown x past (Quit p ∷ []))
   stays q x past h k =
       let f = h.0.just.free in
       let v = f.knows.vote in
       record {
-        quitting = quit_taken p (Some (record { from = p; message = m })) [] (quits_now x past k h.0) (ap said f.took) (ap (λ i. owes_after (Acts (Quit p)) i (owes past.seen)) h.1 ∙ f.owed) f;
-        knows = record { times = f.knows.times; quiet = f.knows.quiet; vote = record { stands = λ c. not-standing q (sym h.1 ∙ c); windows = v.windows; votes = v.votes }; round = f.knows.round };
+        quitting = quit_taken p (Some (record { from = p; message = m })) [] (quits_now x past k h.0) (ap said f.took)
+            (ap (λ i. owes_after (Acts (Quit p)) i (owes past.seen)) h.1 ∙ f.owed) f;
+        knows = record {
+          times = f.knows.times;
+          quiet = f.knows.quiet;
+          vote = record {
+            stands = λ c. not-standing q (sym h.1 ∙ c);
+            windows = v.windows;
+            votes = v.votes;
+          };
+          round = f.knows.round;
+        };
         role_is = h.1;
       }
     where
       not-standing : {B : Type 0} (q : PeerId) → Follow q ≡ Candidate → B
       not-standing q e = let bad : ⊥ = cc in absurd bad
 
-  acks-quit : (q : PeerId) (x : ℕ) (past : Past) → m.kind ≡ QuitKind → Staying (Some (record { from = p; message = m })) (Says p m) q x past → Staying None (Says p m) q x (grown x past (Post (Peer p) (Message (bare Ack m.number past.name)) ∷ []))
+  acks-quit : (q : PeerId) (x : ℕ) (past : Past) → m.kind ≡ QuitKind → Staying (Some (record { from = p; message = m })) (Says p m) q x past →
+      Staying None (Says p m) q x (grown x past (Post (Peer p) (Message (bare Ack m.number past.name)) ∷ []))
   acks-quit q x past k h = record {
     quitting = quit_acked p m (bare Ack m.number past.name) refl refl (quit_ack past k h.quitting.took) h.quitting;
     knows = post_knows x past p (bare Ack m.number past.name) (λ r e. absurd (true≢false (sym e))) h.quitting.rested h.knows;
@@ -227,12 +262,19 @@ module _ {p : PeerId} {m : MessageValue} where
 
   stays_follow : (q : PeerId) (x : ℕ) (past : Past) → Staying None (Says p m) q x past → Rests x (grown x past (follows_unless p (Follow q) x past))
   unfolding follows_unless nothing
-  stays_follow q x past h = record { fits = h.quitting.fits; knows = h.knows; backs = h.quitting.backs; follows = λ r e. none-among r h.quitting.owed e; paid = h.quitting.paid }
+  stays_follow q x past h = record {
+    fits = h.quitting.fits;
+    knows = h.knows;
+    backs = h.quitting.backs;
+    follows = λ r e. none-among r h.quitting.owed e;
+    paid = h.quitting.paid;
+  }
 
   -- a follower takes a QUIT, and goes on following
   pub quit_follower : (q : PeerId) → m.kind ≡ QuitKind → Leads (HeardIn p m (Follow q)) (quits p m.number) Rests
   unfolding quits
-  quit_follower q k = Leads_then {Q = Staying (Some (record { from = p; message = m })) (Says p m) q} (puts (Quit p)) (posts p Ack m.number followed_by reading role_at (follows_unless p))
+  quit_follower q k = Leads_then {Q = Staying (Some (record { from = p; message = m })) (Says p m) q} (puts (Quit p))
+      (posts p Ack m.number followed_by reading role_at (follows_unless p))
       (Leads_puts (Quit p) (λ x past h. stays q x past h k))
       (Leads_then {Q = Staying None (Says p m) q} (posts p Ack m.number) (reading role_at (follows_unless p))
       (Leads_posts p Ack m.number (λ x past h. acks-quit q x past k h))

@@ -1,22 +1,30 @@
 -- What follows for each row from how it is made: it keeps a port sound.
-use Rattle.std.proofs.Common.{sym, arith, true≢false, ◌≡◌, ◌<◌, ◌^◌, ℕ, ◌+◌, ℤ, ◌-ℤ◌, Bool, true, false, List, [], ◌∷◌, map, Option, None, Some, refl, subst, ap, zero, suc, pos, negsuc, ◌*ℤ◌, ◌≤ℤ◌, if◌then◌else◌}
+use Rattle.std.proofs.Common.{sym, arith, true≢false, ◌≡◌, ◌<◌, ◌^◌, ℕ, ◌+◌, ℤ, ◌-ℤ◌, Bool, true, false, List, [], ◌∷◌, map, Option, None, Some, refl, subst}
+use Rattle.std.proofs.Common.{ap, zero, suc, pos, negsuc, ◌*ℤ◌, ◌≤ℤ◌, if◌then◌else◌}
 use Rattle.std.proofs.{Math.Nat.mod-lt, lemmas.List.Elements.All-nil, lemmas.List.Elements.All-cons, lemmas.List.Elements.All-filter}
 use Rattle.std.{specs.List.All, specs.List.fold, proofs.lemmas.Int.ints}
-use Rattle.tsp_rules.specs.Values.{Act, Boot, Took, Post, Abandon, Sample, Ring, CloseAlarm, Message, Stamp, Taken, Good, Bad, Kind, Ack, AdjTime, Date, DateReq, LoopKind, SetDate, SetDateReq, SetTime, Nothing, TimeBody, PeerId, Port, Role, Follow, Master, Request, Reply, SPAN}
+use Rattle.tsp_rules.specs.Values.{Act, Boot, Took, Post, Abandon, Sample, Ring, CloseAlarm, Message, Stamp, Taken, Good, Bad, Kind, Ack, AdjTime, Date}
+use Rattle.tsp_rules.specs.Values.{DateReq, LoopKind, SetDate, SetDateReq, SetTime, Nothing, TimeBody, PeerId, Port, Role, Follow, Master, Request, Reply, SPAN}
 use Rattle.tsp_rules.{specs.ClockRows.can_adjust, proofs.BuiltAnswers.Owes, specs.SendRows.open_at, specs.SendRows.repeats}
 use Rattle.tsp_rules.specs.{CommonRows.master_name_in, GateRows.loop_to, GateRows.repost, GateRows.reposts, GateRows.sends_loops}
 use Rattle.tsp_rules.{specs.Guards.role_at, proofs.Emits.Sort}
-use Rattle.tsp_rules.specs.RoundRows.{Standing, abandons, close_act, closes, closes_with, corrects_by, corrects_peer, estimates, is_near, mean_by, measured_at, moves, round_at, standing, diff_before, near_diffs}
+use Rattle.tsp_rules.specs.RoundRows.{Standing, abandons, close_act, closes, closes_with, corrects_by, corrects_peer, estimates, is_near, mean_by, measured_at}
+use Rattle.tsp_rules.specs.RoundRows.{moves, round_at, standing, diff_before, near_diffs}
 use Rattle.tsp_rules.proofs.Unchanged.{no_unchanged, told_unchanged, unchanged, yes_unchanged}
-use Rattle.tsp_rules.proofs.RowCodes.{Value, ANumber, ATicket, ATime, AStamp, AName, ASend, AMessage, APlace, ATaken, Owed, Leaf, Puts, Takes, Arms, Posts, ToOthers, PostsBack, PostsTime, PostsReply, PostsName, Repeats, SettimeBegins, Loops, Reposts, Asks, Samples, Adjusts, Sets, Valued, TicketAt, NextNumber, MasterName, is_bare, is_plain, is_timed}
+use Rattle.tsp_rules.proofs.RowCodes.{Value, ANumber, ATicket, ATime, AStamp, AName, ASend, AMessage, APlace, ATaken, Owed, Leaf, Puts, Takes, Arms, Posts}
+use Rattle.tsp_rules.proofs.RowCodes.{ToOthers, PostsBack, PostsTime, PostsReply, PostsName, Repeats, SettimeBegins, Loops, Reposts, Asks, Samples, Adjusts}
+use Rattle.tsp_rules.proofs.RowCodes.{Sets, Valued, TicketAt, NextNumber, MasterName, is_bare, is_plain, is_timed}
 use Rattle.tsp_rules.proofs.Built.{Built, Corrects, Empty, At, Then, Either, If, Reading, ReadingValue, Each, EachSend, Closes, More, Wider}
-use Rattle.tsp_base.specs.Words.{Acts, Cause, MessageValue, Past, grown, others, Seen, plain, body_fits, carries_hops, carries_time, Estimate, IsMicros, IsName, Row, Sending, begun, for_each, nothing, puts, reading, word, word_after}
+use Rattle.tsp_base.specs.Words.{Acts, Cause, MessageValue, Past, grown, others, Seen, plain, body_fits, carries_hops, carries_time, Estimate, IsMicros, IsName}
+use Rattle.tsp_base.specs.Words.{Row, Sending, begun, for_each, nothing, puts, reading, word, word_after}
 use Rattle.tsp_base.proofs.LeadsLemmas.{Leads_then, Leads_nothing, Leads_each}
 use Rattle.tsp_group.specs.Groups.{group_of, is_member, members, group_from, goes_before, better, no_group, try_lo, floor_div, mean_of}
 use Rattle.tsp_group.{specs.Values.IsNear, proofs.Means.floor_div_fits}
 use Rattle.tsp_group.{specs.declared.group.Group.Group, proofs.Majority.near_sum, proofs.Sums.near_total-low, proofs.Sums.near_total-high}
 use Rattle.tsp_promises.specs.Sound.{AreSound, IsSound, IsSoundAct, IsSoundTaken, SoundPast}
-use Rattle.tsp_promises.proofs.SoundFacts.{IsSoundEstimate, of_both, estimate_sound, kept_sound, no_name, open_sound, time_sound, Soundly, bare_sound, sound_act, sound_adjusts, sound_arms, sound_asks, sound_begins_settime, sound_either, sound_posts, sound_posts_back, sound_posts_time, sound_posts_to_others, sound_puts, sound_reading, sound_replies, sound_sets, ticket_small}
+use Rattle.tsp_promises.proofs.SoundFacts.{IsSoundEstimate, of_both, estimate_sound, kept_sound, no_name, open_sound, time_sound, Soundly, bare_sound}
+use Rattle.tsp_promises.proofs.SoundFacts.{sound_act, sound_adjusts, sound_arms, sound_asks, sound_begins_settime, sound_either, sound_posts, sound_posts_back}
+use Rattle.tsp_promises.proofs.SoundFacts.{sound_posts_time, sound_posts_to_others, sound_puts, sound_reading, sound_replies, sound_sets, ticket_small}
 
 -- the mean of a round's differences is near, as they are
 
@@ -53,7 +61,8 @@ better-near g h n k = of_both IsNearGroup (goes_before h g) h g k n
 
 fold-near : (span : ℕ) (values rest : List ℤ) (g : Group) → All IsNear values → IsNearGroup g → IsNearGroup (fold (try_lo span values) g rest)
 fold-near span values [] g h n = n
-fold-near span values (lo ∷ rest) g h n = fold-near span values rest (better g (group_from span values lo)) h (better-near g (group_from span values lo) n (from-near span values lo h))
+fold-near span values (lo ∷ rest) g h n = fold-near span values rest (better g (group_from span values lo)) h
+    (better-near g (group_from span values lo) n (from-near span values lo h))
 
 zero-sum : (s : ℤ) (n : ℕ) → n ≡ 0 → (negsuc 1073741823999998 *ℤ pos n) ≤ℤ s → s ≤ℤ (pos 1073741823999999 *ℤ pos n) → s ≡ pos 0
 zero-sum s n e low high =
@@ -67,21 +76,28 @@ mean-cases g zero e n =
     let count : pos g.count ≡ pos 0 = ap pos e in
     let none : g.sum ≡ pos 0 = zero-sum g.sum g.count e n.low n.high in
     subst (λ z. (negsuc 1073741823999999 ≤ℤ floor_div z g.count) × (floor_div z g.count ≤ℤ pos 1073741823999999)) (sym none)
-    (subst (λ k. (negsuc 1073741823999999 ≤ℤ floor_div (pos 0) k) × (floor_div (pos 0) k ≤ℤ pos 1073741823999999)) (sym e) (omega (arith, ints), omega (arith, ints)))
+    (subst (λ k. (negsuc 1073741823999999 ≤ℤ floor_div (pos 0) k) × (floor_div (pos 0) k ≤ℤ pos 1073741823999999)) (sym e) (
+      omega (arith, ints),
+      omega (arith, ints),
+    ))
 mean-cases g (suc n) e near =
     let low = near.low in
     let high = near.high in
     floor_div_fits g.sum g.count (omega (arith, e)) (near_sum g.sum g.count (omega (arith, e)) low high)
 
-pub mean_near : (span : ℕ) (round : List Standing) → (negsuc 1073741823999999 ≤ℤ mean_of (group_of span (estimates round))) × (mean_of (group_of span (estimates round)) ≤ℤ pos 1073741823999999)
+pub mean_near : (span : ℕ) (round : List Standing) → (negsuc 1073741823999999 ≤ℤ mean_of (group_of span (estimates round))) ×
+    (mean_of (group_of span (estimates round)) ≤ℤ pos 1073741823999999)
 mean_near span round =
     let none : IsNearGroup no_group = record { low = omega (arith, ints); high = omega (arith, ints) } in
     mean-cases (group_of span (estimates round)) _ refl (fold-near span (estimates round) (estimates round) no_group (estimates-near round) none)
 
 -- what brings a near difference to the mean is a time
-pub correction_time : (own : Bool) (span : ℕ) (round : List Standing) (diff : ℤ) → is_near diff ≡ true → IsMicros (mean_by own (group_of span (estimates round)) -ℤ diff)
-correction_time true span round diff e = let m = mean_near span round in let low = m.0 in let high = m.1 in let near = near_is diff e in let a = near.low in let b = near.high in record { low = omega (arith, ints, low, high, a, b); high = omega (arith, ints, low, high, a, b) }
-correction_time false span round diff e = let near = near_is diff e in let a = near.low in let b = near.high in record { low = omega (arith, ints, a, b); high = omega (arith, ints, a, b) }
+pub correction_time : (own : Bool) (span : ℕ) (round : List Standing) (diff : ℤ) → is_near diff ≡ true →
+    IsMicros (mean_by own (group_of span (estimates round)) -ℤ diff)
+correction_time true span round diff e = let m = mean_near span round in let low = m.0 in let high = m.1 in let near = near_is diff e in let a = near.low in
+    let b = near.high in record { low = omega (arith, ints, low, high, a, b); high = omega (arith, ints, low, high, a, b) }
+correction_time false span round diff e = let near = near_is diff e in let a = near.low in let b = near.high in
+    record { low = omega (arith, ints, a, b); high = omega (arith, ints, a, b) }
 
 -- the ranges of the values in acts
 abbrev pub InRange : Value → Type 0
@@ -140,7 +156,8 @@ plain-sound _ e = tt
 loop-sound : (q : Port) (ps : List PeerId) (x : ℕ) (past : Past) → q.0 < 2 ^ 16 → SoundPast past → SoundPast (grown x past (map (loop_to q past.name) ps))
 unfolding body_fits carries_time carries_hops
 loop-sound q [] x past few s = s
-loop-sound q (p ∷ ps) x past few s = loop-sound q ps x (grown x past (loop_to q past.name p ∷ [])) few (sound_act x past (loop_to q past.name p) (λ c n. refl) (few, refl, s.name, omega arith) s)
+loop-sound q (p ∷ ps) x past few s = loop-sound q ps x (grown x past (loop_to q past.name p ∷ [])) few (sound_act x past (loop_to q past.name p) (λ c n. refl)
+    (few, refl, s.name, omega arith) s)
 
 repost-sound : (m : MessageValue) (ps : List PeerId) (x : ℕ) (past : Past) → IsSound (Message m) → SoundPast past → SoundPast (grown x past (map (repost m) ps))
 repost-sound m [] x past sound s = s
@@ -175,17 +192,20 @@ send-sound : (p : PeerId) (past : Past) → SoundPast past → (s : Option Sendi
 send-sound p past h None e = tt
 send-sound p past h (Some s) e = open_sound p past.seen s h.acts e
 
-value-sound : {A : Type 0} {f : A → A} {value : A → Value} {fact fact' : ℕ → Past → A} → Valued unchanged A f value fact fact' → (x : ℕ) (past : Past) → SoundPast past → InRange (value (fact x past))
+value-sound : {A : Type 0} {f : A → A} {value : A → Value} {fact fact' : ℕ → Past → A} → Valued unchanged A f value fact fact' → (x : ℕ) (past : Past) →
+    SoundPast past → InRange (value (fact x past))
 value-sound TicketAt x past h = let small = ticket_small x past in omega (arith, small)
 value-sound NextNumber x past h = let small = mod-lt (word (plain past.seen) + begun past.seen) {m = 32768} (omega arith) in omega (arith, small)
 value-sound MasterName x past h = name-sound (role_at x past) past.name _ h.name (kept_sound past.seen h.acts)
 
-reading-sound : {A : Type 0} {f : A → A} {value : A → Value} {fact fact' : ℕ → Past → A} (rows : A → Row) → Valued unchanged A f value fact fact' → ((a : A) → InRange (value a) → Soundly (rows a)) → Soundly (reading fact rows)
+reading-sound : {A : Type 0} {f : A → A} {value : A → Value} {fact fact' : ℕ → Past → A} (rows : A → Row) → Valued unchanged A f value fact fact' →
+    ((a : A) → InRange (value a) → Soundly (rows a)) → Soundly (reading fact rows)
 unfolding reading
 reading-sound {fact = fact} rows f k = record { run = λ x past h. (k (fact x past) (value-sound f x past h)).run x past h }
 
 -- a row about a peer's open send, which does nothing if there is none
-open-row : (p : PeerId) (row : Option Sending → Row) → row None ≡ nothing → ((s : Sending) → InRange (ASend (Some s)) → Soundly (row (Some s))) → Soundly (reading (open_at p) row)
+open-row : (p : PeerId) (row : Option Sending → Row) → row None ≡ nothing → ((s : Sending) → InRange (ASend (Some s)) → Soundly (row (Some s))) →
+    Soundly (reading (open_at p) row)
 unfolding reading
 open-row p row none d = record { run = λ x past h. (by_send (open_at p x past) (send-sound p past h (open_at p x past) refl)).run x past h } where
   by_send : (q : Option Sending) → InRange (ASend q) → Soundly (row q)
@@ -201,15 +221,19 @@ standings-sound : (seen : List Seen) (ps : List PeerId) → AreSound seen → Ar
 standings-sound seen [] h = tt
 standings-sound seen (p ∷ ps) h = (estimate_sound p seen h, standings-sound seen ps h)
 
-correct-owed : (mean : ℤ) (best : Option Estimate) → ((diff : ℤ) → is_near diff ≡ true → IsMicros (mean -ℤ diff)) → IsSoundEstimate best → Corrects ranges_owed mean best
+correct-owed : (mean : ℤ) (best : Option Estimate) → ((diff : ℤ) → is_near diff ≡ true → IsMicros (mean -ℤ diff)) → IsSoundEstimate best →
+    Corrects ranges_owed mean best
 correct-owed mean None time h = tt
 correct-owed mean (Some b) time h = (omega (arith, h), time b.diff)
 
-module _ (own : Bool) (moved : (mean : ℤ) → Soundly (moves own mean)) (corrected : (mean : ℤ) (p : PeerId) (best : Option Estimate) → Corrects ranges_owed mean best → Soundly (corrects_by mean p best)) where
-  each-sound : (mean : ℤ) (round : List Standing) → ((diff : ℤ) → is_near diff ≡ true → IsMicros (mean -ℤ diff)) → AreSoundStandings round → Soundly (for_each (corrects_peer mean) round)
+module _ (own : Bool) (moved : (mean : ℤ) → Soundly (moves own mean)) (corrected : (mean : ℤ) (p : PeerId) (best : Option Estimate) →
+    Corrects ranges_owed mean best → Soundly (corrects_by mean p best)) where
+  each-sound : (mean : ℤ) (round : List Standing) → ((diff : ℤ) → is_near diff ≡ true → IsMicros (mean -ℤ diff)) → AreSoundStandings round →
+      Soundly (for_each (corrects_peer mean) round)
   unfolding for_each corrects_peer
   each-sound mean [] time h = Leads_nothing
-  each-sound mean (s ∷ rest) time h = Leads_then (corrects_peer mean s) (for_each (corrects_peer mean) rest) (corrected mean s.peer s.best (correct-owed mean s.best time h.0)) (each-sound mean rest time h.1)
+  each-sound mean (s ∷ rest) time h = Leads_then (corrects_peer mean s) (for_each (corrects_peer mean) rest)
+      (corrected mean s.peer s.best (correct-owed mean s.best time h.0)) (each-sound mean rest time h.1)
 
   closes-with-sound : (round : List Standing) → AreSoundStandings round → Soundly (closes own round)
   unfolding closes closes_with abandons
@@ -219,7 +243,8 @@ module _ (own : Bool) (moved : (mean : ℤ) → Soundly (moves own mean)) (corre
       Leads_then (puts (Ring CloseAlarm)) _ (sound_puts (Ring CloseAlarm) (λ c n. refl) tt)
       (sound_either (can_adjust mean) _ (puts Abandon)
       (Leads_then (puts (close_act own g)) _ (sound_puts (close_act own g) (λ c n. refl) tt)
-      (Leads_then (moves own mean) (for_each (corrects_peer mean) round) (moved mean) (each-sound mean round (λ diff e. correction_time own SPAN round diff e) h)))
+      (Leads_then (moves own mean) (for_each (corrects_peer mean) round) (moved mean) (each-sound mean round (λ diff e. correction_time own SPAN round diff e)
+      h)))
       (sound_puts Abandon (λ c n. refl) tt))
 
   closes-sound : Soundly (reading round_at (closes own))

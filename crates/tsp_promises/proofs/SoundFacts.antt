@@ -1,11 +1,17 @@
 -- What the facts of a sound past hand on is sound.
-use Rattle.std.proofs.Common.{subst, arith, rules, ◌≡◌, ◌<◌, ℕ, ◌==◌, Bool, true, false, cond, int_lt, List, [], ◌∷◌, Option, None, Some, sym, ◌^◌, ◌+◌, ℤ, refl}
+use Rattle.std.proofs.Common.{subst, arith, rules, ◌≡◌, ◌<◌, ℕ, ◌==◌, Bool, true, false, cond, int_lt, List, [], ◌∷◌, Option, None, Some, sym, ◌^◌, ◌+◌, ℤ}
+use Rattle.std.proofs.Common.{refl}
 use Rattle.std.proofs.{lemmas.Int.ints, Math.Nat.mod-lt, lemmas.Bool.and_parts}
-use Rattle.tsp_rules.specs.Values.{Boot, Took, Post, Become, Arm, Sample, Acked, Gave, CloseAlarm, Message, Stamp, Taken, Good, Bad, Body, Nothing, TimeBody, PeerId, Peer, Follow, Act, Alarm, Kind, SetTime, Place}
+use Rattle.tsp_rules.specs.Values.{Boot, Took, Post, Become, Arm, Sample, Acked, Gave, CloseAlarm, Message, Stamp, Taken, Good, Bad, Body, Nothing, TimeBody}
+use Rattle.tsp_rules.specs.Values.{PeerId, Peer, Follow, Act, Alarm, Kind, SetTime, Place}
 use Rattle.tsp_rules.specs.ClockRows.{adjusts, sets}
 use Rattle.tsp_rules.specs.{CommonRows.posts_reply, CommonRows.replies, SendRows.may_correct, SendRows.may_set, SendRows.begins_settime}
 use Rattle.tsp_rules.specs.{RoundRows.asks, Guards.ticket_at, Guards.target_at, Guards.is_clock_value, Guards.is_in_range}
-use Rattle.tsp_base.specs.Words.{Deed, Begins, Acts, Did, Seen, Here, Elsewhere, IsName, Received, acting, taken, taken_after, message_in, name_of, name_in, kept_name, kept_name_after, Sampled, Estimate, best, best_after, better, estimate, estimate_of, Sending, open_send, open_to, open_to_after, posts_of, sending_at, sending_of, message_of, time_in, IsMicros, Cause, Past, plain, carries_time, carries_hops, Leads, body_fits, word, word_after, corrects, Row, grown, nothing, puts, either_by, reading, arms, bare, timed, posts, posts_to_others, posts_back, posts_time, IsReply, asked}
+use Rattle.tsp_base.specs.Words.{Deed, Begins, Acts, Did, Seen, Here, Elsewhere, IsName, Received, acting, taken, taken_after, message_in, name_of, name_in}
+use Rattle.tsp_base.specs.Words.{kept_name, kept_name_after, Sampled, Estimate, best, best_after, better, estimate, estimate_of, Sending, open_send, open_to}
+use Rattle.tsp_base.specs.Words.{open_to_after, posts_of, sending_at, sending_of, message_of, time_in, IsMicros, Cause, Past, plain, carries_time, carries_hops}
+use Rattle.tsp_base.specs.Words.{Leads, body_fits, word, word_after, corrects, Row, grown, nothing, puts, either_by, reading, arms, bare, timed, posts}
+use Rattle.tsp_base.specs.Words.{posts_to_others, posts_back, posts_time, IsReply, asked}
 use Rattle.tsp_base.proofs.LeadsLemmas.{Leads_either, Leads_reading, Leads_nothing, Leads_puts, Leads_from}
 use Rattle.tsp_promises.specs.Sound.{IsSound, IsSoundBody, IsSoundTaken, IsSoundDeed, AreSound, IsSoundAct, SoundPast}
 use Rattle.tsp_promises.proofs.Leaves.{none-some, some-same}
@@ -59,7 +65,8 @@ pub of_both : {A : Type 0} (P : A → Type 0) (b : Bool) (x y : A) → P x → P
 of_both P true x y h k = h
 of_both P false x y h k = k
 
-open-deed : (p : PeerId) (d : Did) (before : List Seen) (deed : Deed) (begins : Bool) (was : List Seen) → IsSoundDeed d.deed → IsSoundHead was → IsSoundHead (open_to_after p deed begins (Here d ∷ before) was)
+open-deed : (p : PeerId) (d : Did) (before : List Seen) (deed : Deed) (begins : Bool) (was : List Seen) → IsSoundDeed d.deed → IsSoundHead was →
+    IsSoundHead (open_to_after p deed begins (Here d ∷ before) was)
 open-deed p d before (Acts Boot) begins was s k = tt
 open-deed p d before (Acts (Become r)) begins was s k = tt
 open-deed p d before (Acts (Post (Peer q) (Message m))) begins was s k = of_both IsSoundHead _ (Here d ∷ before) was s k
@@ -97,7 +104,8 @@ better-sound : (o : Option Sampled) (late : Sampled) → HasTicket o → late.ti
 better-sound None late k h = h
 better-sound (Some early) late k h = of_both (λ (s : Sampled). s.ticket < 32768) (int_lt late.trip early.trip) late early h k
 
-best-deed : (p : PeerId) (deed : Deed) (here before : List Seen) (was : Option Sampled) → IsSoundDeed deed → HasTicket was → HasTicket (best_after p deed here before was)
+best-deed : (p : PeerId) (deed : Deed) (here before : List Seen) (was : Option Sampled) → IsSoundDeed deed → HasTicket was →
+    HasTicket (best_after p deed here before was)
 best-deed p (Acts Boot) here before was s k = tt
 best-deed p (Acts (Become r)) here before was s k = tt
 best-deed p (Acts (Arm CloseAlarm at)) here before was s k = tt
@@ -143,8 +151,13 @@ pub sound_reading : {A : Type 0} (fact : ℕ → Past → A) (rows : A → Row) 
 sound_reading fact rows k = Leads_reading fact rows (λ a. Leads_from (λ x past h. h.0) (k a))
 
 -- an act that isn't a boot
-pub sound_act : (x : ℕ) (past : Past) (a : Act) → ((c : Cause) (n : ℕ) → word_after (Acts a) c n ≡ n) → IsSoundAct a → SoundPast past → SoundPast (grown x past (a ∷ []))
-sound_act x past a stays s h = record { name = h.name; word_fits = subst (λ n. n < 2 ^ 64) (sym (stays past.step.cause (word (plain past.seen)))) h.word_fits; acts = (s, h.acts) }
+pub sound_act : (x : ℕ) (past : Past) (a : Act) → ((c : Cause) (n : ℕ) → word_after (Acts a) c n ≡ n) → IsSoundAct a → SoundPast past →
+    SoundPast (grown x past (a ∷ []))
+sound_act x past a stays s h = record {
+  name = h.name;
+  word_fits = subst (λ n. n < 2 ^ 64) (sym (stays past.step.cause (word (plain past.seen)))) h.word_fits;
+  acts = (s, h.acts);
+}
 
 pub sound_puts : (a : Act) → ((c : Cause) (n : ℕ) → word_after (Acts a) c n ≡ n) → IsSoundAct a → Soundly (puts a)
 sound_puts a stays s = Leads_puts a (λ x past h. sound_act x past a stays s h)
@@ -153,24 +166,31 @@ pub sound_arms : (alarm : Alarm) (long : ℕ) → Soundly (arms alarm long)
 sound_arms alarm long = Leads_arms alarm long (λ x past h. sound_act x past _ (λ c n. refl) tt h)
 
 -- a message without a body
-pub bare_sound : (kind : Kind) (number : ℕ) (name : List ℕ) → body_fits kind Nothing ≡ true → number < 2 ^ 16 → IsName name → IsSound (Message (bare kind number name))
+pub bare_sound : (kind : Kind) (number : ℕ) (name : List ℕ) → body_fits kind Nothing ≡ true → number < 2 ^ 16 → IsName name →
+    IsSound (Message (bare kind number name))
 bare_sound kind number name carries few is = (few, carries, is, tt)
 
 pub sound_posts : (p : PeerId) (kind : Kind) (number : ℕ) → body_fits kind Nothing ≡ true → number < 2 ^ 16 → Soundly (posts p kind number)
-sound_posts p kind number carries few = Leads_posts p kind number (λ x past h. sound_act x past _ (λ c n. refl) (bare_sound kind number past.name carries few h.name) h)
+sound_posts p kind number carries few = Leads_posts p kind number (λ x past h. sound_act x past _ (λ c n. refl)
+    (bare_sound kind number past.name carries few h.name) h)
 
 pub sound_posts_back : (from : Place) (kind : Kind) (number : ℕ) → body_fits kind Nothing ≡ true → number < 2 ^ 16 → Soundly (posts_back from kind number)
-sound_posts_back from kind number carries few = Leads_posts_back from kind number (λ x past h. sound_act x past _ (λ c n. refl) (bare_sound kind number past.name carries few h.name) h)
+sound_posts_back from kind number carries few = Leads_posts_back from kind number
+    (λ x past h. sound_act x past _ (λ c n. refl) (bare_sound kind number past.name carries few h.name) h)
 
 pub sound_posts_to_others : (kind : Kind) (number : ℕ) → body_fits kind Nothing ≡ true → number < 2 ^ 16 → Soundly (posts_to_others kind number)
-sound_posts_to_others kind number carries few = Leads_others kind number (λ x past p h. sound_act x past _ (λ c n. refl) (bare_sound kind number past.name carries few h.name) h)
+sound_posts_to_others kind number carries few = Leads_others kind number (λ x past p h. sound_act x past _ (λ c n. refl)
+    (bare_sound kind number past.name carries few h.name) h)
 
 -- a message with a time
-pub timed_sound : (kind : Kind) (number : ℕ) (time : ℤ) (name : List ℕ) → body_fits kind (TimeBody time) ≡ true → number < 2 ^ 16 → IsMicros time → IsName name → IsSound (Message (timed kind number time name))
+pub timed_sound : (kind : Kind) (number : ℕ) (time : ℤ) (name : List ℕ) → body_fits kind (TimeBody time) ≡ true → number < 2 ^ 16 → IsMicros time →
+    IsName name → IsSound (Message (timed kind number time name))
 timed_sound kind number time name carries few is named = (few, carries, named, is)
 
-pub sound_posts_time : (p : PeerId) (kind : Kind) (number : ℕ) (time : ℤ) → body_fits kind (TimeBody time) ≡ true → number < 2 ^ 16 → IsMicros time → Soundly (posts_time p kind number time)
-sound_posts_time p kind number time carries few is = Leads_posts_time p kind number time (λ x past h. sound_act x past _ (λ c n. refl) (timed_sound kind number time past.name carries few is h.name) h)
+pub sound_posts_time : (p : PeerId) (kind : Kind) (number : ℕ) (time : ℤ) → body_fits kind (TimeBody time) ≡ true → number < 2 ^ 16 → IsMicros time →
+    Soundly (posts_time p kind number time)
+sound_posts_time p kind number time carries few is = Leads_posts_time p kind number time
+    (λ x past h. sound_act x past _ (λ c n. refl) (timed_sound kind number time past.name carries few is h.name) h)
 
 -- the ticket is one
 pub ticket_small : (x : ℕ) (past : Past) → ticket_at x past < 32768
@@ -207,5 +227,6 @@ unfolding begins_settime body_fits carries_time carries_hops
 sound_begins_settime p number few = Leads_either (may_set p number) (reading target_at (posts_time p SetTime number)) nothing
     (Leads_reading target_at (posts_time p SetTime number) (λ t. Leads_posts_time p SetTime number t (λ x past h.
     let may = and_parts (may_correct p number x past) (is_in_range x past) h.0.1 in
-    sound_act x past _ (λ c n. refl) (timed_sound SetTime number t past.name refl few (subst IsMicros h.1 (clock_time (target_at x past) may.1)) h.0.0.name) h.0.0)))
+    sound_act x past _ (λ c n. refl) (timed_sound SetTime number t past.name refl few (subst IsMicros h.1 (clock_time (target_at x past) may.1)) h.0.0.name)
+    h.0.0)))
     (Leads_from (λ x past h. h.0) Leads_nothing)

@@ -16,14 +16,16 @@ sound_due_sends = sound_built built_due_sends
 pub sound_upsetting : (row : Row) → Soundly row → Soundly (upsetting row)
 unfolding upsetting
 sound_upsetting row k = record { run = λ x past h. ended x past (k.run x past h) (corrects (row x past)) } where
-  ended : (x : ℕ) (past : Past) → SoundPast (grown x past (row x past)) → (b : Bool) → SoundPast (grown x past (row x past ++ (if b then abandons_going x (grown x past (row x past)) else [])))
+  ended : (x : ℕ) (past : Past) → SoundPast (grown x past (row x past)) → (b : Bool) →
+      SoundPast (grown x past (row x past ++ (if b then abandons_going x (grown x past (row x past)) else [])))
   ended x past h false = subst (λ acts. SoundPast (grown x past acts)) (sym (append-nil (row x past))) h
   ended x past h true = rw added_append ((sound_built built_abandons_going).run x (grown x past (row x past)) h)
 
 -- what the rules post is sound
 pub answers-sound : AnswersAreSound
 unfolding answers input_row
-answers-sound Turn x past s h = (Leads_then due_sends (due_alarms followed_by nothing) sound_due_sends (Leads_then due_alarms nothing sound_alarms Leads_nothing)).run x past h
+answers-sound Turn x past s h = (Leads_then due_sends (due_alarms followed_by nothing) sound_due_sends
+    (Leads_then due_alarms nothing sound_alarms Leads_nothing)).run x past h
 answers-sound (Got from t) x past s h = (Leads_then due_sends (due_alarms followed_by upsetting (takes true true from t)) sound_due_sends
     (Leads_then due_alarms (upsetting (takes true true from t)) sound_alarms
     (sound_upsetting (takes true true from t) (sound_built (built_takes true true from t (comes_unchanged from) s tt (taken_ranges t s)))))).run x past h

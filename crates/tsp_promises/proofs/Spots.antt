@@ -3,7 +3,8 @@
 use Rattle.std.proofs.lemmas.{Bool.ltb-true, Int.ints}
 use Rattle.std.proofs.Common.{int_lt, nat_lt, ◌≤◌, ◌≤ℤ◌, sym, ap, subst, ◌∙◌, ◌≡◌, ◌-◌, true, ℕ, suc, ℤ, pos, List, ◌∷◌, Some, is_some, length, inr}
 use Rattle.tsp_rules.specs.Values.{Post, Close, Correct, Datagram, Message, Stamp, AdjTime, PeerId, Peer, Place, Port, Stranger, Request}
-use Rattle.tsp_base.specs.Words.{Came, Cause, Acts, acting, Deed, Line, Seen, Here, all_corrects, dids, from_act, lives, of, view, MessageValue, message_of, Within, Sampled, best, begun_to, is_numbered, heard, peer_of, posted}
+use Rattle.tsp_base.specs.Words.{Came, Cause, Acts, acting, Deed, Line, Seen, Here, all_corrects, dids, from_act, lives, of, view, MessageValue, message_of}
+use Rattle.tsp_base.specs.Words.{Within, Sampled, best, begun_to, is_numbered, heard, peer_of, posted}
 use Rattle.tsp_promises.specs.{Agreed.FromRound, Agreed.ReadingOf, Agreed.Unchanged, Agreed.UnchangedBut, Fits.node_of, StepFacts.closed}
 use Rattle.tsp_promises.specs.{Chained.Hop, Estimates.CloseBegins, Estimates.Estimate, Kept.Spot}
 use Rattle.tsp_promises.proofs.Debts.{behind, line_in, message_or, sample_in, shown_in, stepped_in}

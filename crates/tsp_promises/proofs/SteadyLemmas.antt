@@ -1,7 +1,8 @@
 -- What corrects a clock and is no date is taken by a follower, which stays one.
 use Rattle.std.proofs.Common.{ap, inl, inr, true≢false, ◌≡◌, ◌⊎◌, ℕ, ◌==◌, ℤ, Bool, true, false, if◌then◌else◌, List, [], ◌∷◌, ◌++◌, refl}
 use Rattle.std.proofs.lemmas.Bool.{and_parts, or_parts}
-use Rattle.tsp_rules.specs.Values.{Act, Took, Message, Taken, Good, Kind, AdjTime, Date, DateAck, DateReq, LoopKind, Msite, MsiteReq, SetDate, SetDateReq, SetTime, Test, TraceOff, TraceOn, PeerId, Place, Peer, Stranger, Role, Starting, Follow, Candidate, Master}
+use Rattle.tsp_rules.specs.Values.{Act, Took, Message, Taken, Good, Kind, AdjTime, Date, DateAck, DateReq, LoopKind, Msite, MsiteReq, SetDate, SetDateReq}
+use Rattle.tsp_rules.specs.Values.{SetTime, Test, TraceOff, TraceOn, PeerId, Place, Peer, Stranger, Role, Starting, Follow, Candidate, Master}
 use Rattle.tsp_rules.specs.Answers.{says_in, peer_says, from_peer, handles_kind, is_left, handles, takes}
 use Rattle.tsp_rules.{specs.CandidateRows.candidate_takes, proofs.BuiltAnswers.built_date_acked, specs.MasterRows.master_takes}
 use Rattle.tsp_rules.{proofs.Emits.Sort, proofs.Emits.Moving, proofs.Emits.is_in, specs.ClockRows.adjusts, specs.ClockRows.sets}
@@ -41,7 +42,13 @@ still-then r s p q = record { run = λ x past. corrects-append (r x past) (s x (
 
 still-either : (test : ℕ → Past → Bool) (r s : Row) → Still r → Still s → Still (either_by test r s)
 unfolding either_by
-still-either test r s p q = record { run = λ x past. elim (test x past) as (λ b. corrects (if b then r x past else s x past) ≡ false) [ true ↦ p.run x past | false ↦ q.run x past ] }
+still-either test r s p q = record {
+  run = λ x past. elim (test x past) as (λ b. corrects (if b then r x past else s x past) ≡ false) [
+    | true ↦
+        p.run x past
+    | false ↦ q.run x past
+  ];
+}
 
 still-made : {sorts : List Sort} {k c : ℕ} {r r' : Row} → is_in Moving sorts ≡ false → Built unchanged (answers_owed true) sorts k c r r' → Still r
 still-made none d = still_calm true _ _ _ (calm_unmoving none d)
@@ -61,9 +68,16 @@ steady-still row s = record { run = λ x past h. inl (s.run x past) }
 
 steady-either : {P : ℕ → Past → Type 0} (test : ℕ → Past → Bool) (r s : Row) → Steady P r → Steady P s → Steady P (either_by test r s)
 unfolding either_by
-steady-either test r s p q = record { run = λ x past h. elim (test x past) as (λ b. SteadyAfter x past (if b then r x past else s x past)) [ true ↦ p.run x past h | false ↦ q.run x past h ] }
+steady-either test r s p q = record {
+  run = λ x past h. elim (test x past) as (λ b. SteadyAfter x past (if b then r x past else s x past)) [
+    | true ↦
+        p.run x past h
+    | false ↦ q.run x past h
+  ];
+}
 
-steady-role : {P : ℕ → Past → Type 0} (rows : Role → Row) → ((r : Role) → Steady (λ x past. P x past × (role_at x past ≡ r)) (rows r)) → Steady P (reading role_at rows)
+steady-role : {P : ℕ → Past → Type 0} (rows : Role → Row) → ((r : Role) → Steady (λ x past. P x past × (role_at x past ≡ r)) (rows r)) →
+    Steady P (reading role_at rows)
 unfolding reading
 steady-role rows k = record { run = λ x past h. (k (role_at x past)).run x past (h, refl) }
 
@@ -89,8 +103,10 @@ steady-from p row k _ = steady-still nothing still-nothing
 
 steady-slave : (p : PeerId) (m : MessageValue) (k : Kind) → Steady Any (slave_takes_kind p m k)
 unfolding slave_takes_kind
-steady-slave p m AdjTime = steady-role (from_master p (adjtime_of p m.number (time_in m.body))) (steady-from p (adjtime_of p m.number (time_in m.body)) (steady-adjtime p m.number (time_in m.body)))
-steady-slave p m SetTime = steady-role (from_master p (settime_of p m.number (time_in m.body))) (steady-from p (settime_of p m.number (time_in m.body)) (steady-settime p m.number (time_in m.body)))
+steady-slave p m AdjTime = steady-role (from_master p (adjtime_of p m.number (time_in m.body))) (steady-from p (adjtime_of p m.number (time_in m.body))
+    (steady-adjtime p m.number (time_in m.body)))
+steady-slave p m SetTime = steady-role (from_master p (settime_of p m.number (time_in m.body))) (steady-from p (settime_of p m.number (time_in m.body))
+    (steady-settime p m.number (time_in m.body)))
 steady-slave p m k = steady-still _ (still-made refl (built_slave_takes_kind p m k tt tt))
 
 steady-in : (p : PeerId) (m : MessageValue) (r : Role) → Steady Any (says_in p m r)
@@ -129,8 +145,10 @@ steady-kind from m _ e = steady-peer from (peer_says m) (steady-says m)
 pub steady_takes : (from : Place) (m : MessageValue) → sets_date m.kind ≡ false → Steady Any (takes true true from (Good (Message m)))
 unfolding takes handles ◌followed_by◌ puts
 steady_takes from m e =
-    let handled = steady-either (is_left true m.kind) nothing (handles_kind true from m m.kind) (steady-still nothing still-nothing) (steady-kind from m m.kind e) in
-    let row = steady-either (is_own from) nothing (either_by (is_left true m.kind) nothing (handles_kind true from m m.kind)) (steady-still nothing still-nothing) handled in
+    let handled = steady-either (is_left true m.kind) nothing (handles_kind true from m m.kind) (steady-still nothing still-nothing)
+    (steady-kind from m m.kind e) in
+    let row = steady-either (is_own from) nothing (either_by (is_left true m.kind) nothing (handles_kind true from m m.kind))
+    (steady-still nothing still-nothing) handled in
     record { run = λ x past h. row.run x (grown x past (Took from (Good (Message m)) ∷ [])) tt }
 
 still-took : (from : Place) (t : Taken) → Still (puts (Took from t))

@@ -1,11 +1,13 @@
 -- What a step owes at its end, read from a history by computing.
-use Rattle.std.proofs.Common.{sym, ap, arith, subst, eqb-true, true≢false, ◌∙◌, ◌≡◌, ◌==◌, ◌||◌, ◌&&◌, nat_lt, cond, Bool, true, false, ℕ, zero, suc, if◌then◌else◌, List, [], ◌∷◌, Option, None, Some, is_some, refl}
+use Rattle.std.proofs.Common.{sym, ap, arith, subst, eqb-true, true≢false, ◌∙◌, ◌≡◌, ◌==◌, ◌||◌, ◌&&◌, nat_lt, cond, Bool, true, false, ℕ, zero, suc}
+use Rattle.std.proofs.Common.{if◌then◌else◌, List, [], ◌∷◌, Option, None, Some, is_some, refl}
 use Rattle.std.proofs.lemmas.Bool.{ltb-true, and_parts}
 use Rattle.tsp_promises.proofs.{SendProof.if-nil, Leaves.none-among, Leaves.nil-cons}
 use Rattle.tsp_promises.specs.StepFacts.{StepEnds, is_unbacked, owes, unacknowledged, unheeded}
 use Rattle.tsp_rules.specs.Values.{Boot, Post, Become, Arm, Ring, Late, Abandon, Correct, Sample, CloseAlarm, Stamp, PeerId, Peer, Port, Role, Follow, Request}
 use Rattle.tsp_rules.proofs.GuardFacts.{same_peer}
-use Rattle.tsp_base.specs.Words.{Begins, Acts, Deed, Did, Line, Seen, Here, Elsewhere, plain, view, seen_as, is_shared, is_among, role, exchange, exchange_after, Setup, Undisturbed}
+use Rattle.tsp_base.specs.Words.{Begins, Acts, Deed, Did, Line, Seen, Here, Elsewhere, plain, view, seen_as, is_shared, is_among, role, exchange}
+use Rattle.tsp_base.specs.Words.{exchange_after, Setup, Undisturbed}
 
 abbrev asks_after : Deed → Bool → Bool
 asks_after (Acts Boot) was = false
@@ -44,7 +46,8 @@ if-none : (b : Bool) (was : List Seen) → was ≡ [] → cond b [] was ≡ []
 if-none true was e = refl
 if-none false was e = e
 
-none-deed : (p : PeerId) (c : ℕ) (deed : Deed) (here before : List Seen) → (asks before ≡ false → exchange p c before ≡ []) → asks_after deed (asks before) ≡ false → exchange_after p c deed here (exchange p c before) ≡ []
+none-deed : (p : PeerId) (c : ℕ) (deed : Deed) (here before : List Seen) → (asks before ≡ false → exchange p c before ≡ []) → asks_after deed (asks before) ≡
+    false → exchange_after p c deed here (exchange p c before) ≡ []
 none-deed p c (Acts Boot) here before h e = refl
 none-deed p c (Acts (Become r)) here before h e = refl
 none-deed p c (Acts (Arm CloseAlarm at)) here before h e = refl
@@ -64,15 +67,20 @@ none-open p c (Here d ∷ before) e = none-deed p c d.deed (Here d ∷ before) b
 abbrev Quiet : PeerId → ℕ → List Seen → Type 0
 Quiet p c seen = (request : Did) (older : List Seen) → exchange p c seen ≡ Here request ∷ older → Undisturbed (plain older) (plain seen)
 
-no-open : (p : PeerId) (c : ℕ) (before : List Seen) (request : Did) (older : List Seen) (asking was : Bool) → (asking ≡ false → exchange p c before ≡ []) → (if asking then false else was) ≡ true → exchange p c before ≡ Here request ∷ older → ⊥
+no-open : (p : PeerId) (c : ℕ) (before : List Seen) (request : Did) (older : List Seen) (asking was : Bool) → (asking ≡ false → exchange p c before ≡ []) →
+    (if asking then false else was) ≡ true → exchange p c before ≡ Here request ∷ older → ⊥
 no-open p c before request older true was h e open_is = true≢false (sym e)
 no-open p c before request older false was h e open_is = nil-cons (Here request) older (sym (h refl) ∙ open_is)
 
-quiet-post : (d : Did) (before : List Seen) (request : Did) (older was : List Seen) (b : Bool) → (was ≡ Here request ∷ older → Undisturbed (plain older) (plain before)) → cond b (Here d ∷ before) was ≡ Here request ∷ older → Undisturbed (plain older) (plain before)
-quiet-post d before request older was true h e = let same : before ≡ older = cc in subst (λ z. Undisturbed (plain z) (plain before)) same (record { corrects = refl; lives = refl })
+quiet-post : (d : Did) (before : List Seen) (request : Did) (older was : List Seen) (b : Bool) →
+    (was ≡ Here request ∷ older → Undisturbed (plain older) (plain before)) → cond b (Here d ∷ before) was ≡ Here request ∷ older →
+    Undisturbed (plain older) (plain before)
+quiet-post d before request older was true h e = let same : before ≡ older = cc in
+    subst (λ z. Undisturbed (plain z) (plain before)) same (record { corrects = refl; lives = refl })
 quiet-post d before request older was false h e = h e
 
-quiet-deed : (p : PeerId) (c : ℕ) (d : Did) (deed : Deed) (before : List Seen) → deed ≡ d.deed → (rests before ≡ true → Quiet p c before) → rests_after deed (asks before) (rests before) ≡ true → (request : Did) (older : List Seen) →
+quiet-deed : (p : PeerId) (c : ℕ) (d : Did) (deed : Deed) (before : List Seen) → deed ≡ d.deed → (rests before ≡ true → Quiet p c before) →
+    rests_after deed (asks before) (rests before) ≡ true → (request : Did) (older : List Seen) →
     exchange_after p c deed (Here d ∷ before) (exchange p c before) ≡ Here request ∷ older → Undisturbed (plain older) (plain (Here d ∷ before))
 quiet-deed p c d (Acts Boot) before is h r request older e = nil-cons (Here request) older e
 quiet-deed p c d (Acts (Become role)) before is h r request older e = nil-cons (Here request) older e
@@ -80,20 +88,31 @@ quiet-deed p c d (Acts (Arm CloseAlarm at)) before is h r request older e = nil-
 quiet-deed p c d (Acts (Ring CloseAlarm)) before is h r request older e = nil-cons (Here request) older e
 quiet-deed p c d (Acts (Late CloseAlarm)) before is h r request older e = nil-cons (Here request) older e
 quiet-deed p c d (Acts Abandon) before is h r request older e = nil-cons (Here request) older e
-quiet-deed p c d (Acts (Correct amount stepped shown)) before is h r request older e = absurd (no-open p c before request older (asks before) (rests before) (none-open p c before) r e)
+quiet-deed p c d (Acts (Correct amount stepped shown)) before is h r request older e =
+    absurd (no-open p c before request older (asks before) (rests before) (none-open p c before) r e)
 quiet-deed p c d (Acts (Post (Peer q) (Stamp (Request word counter)))) before is h r request older e =
     let u = quiet-post d before request older (exchange p c before) ((q.0 == p.0) && (counter == c)) (h r request older) e in
     record { corrects = u.corrects ∙ rw (sym is) refl; lives = u.lives ∙ rw (sym is) refl }
 quiet-deed p c d (Acts (Sample q counter diff err ticket)) before is h r request older e =
     let u = h r request older (if-nil ((q.0 == p.0) && (counter == c)) (exchange p c before) (Here request) older e) in
     record { corrects = u.corrects ∙ rw (sym is) refl; lives = u.lives ∙ rw (sym is) refl }
-quiet-deed p c d _ before is h r request older e = let u = h r request older e in record { corrects = u.corrects ∙ rw (sym is) refl; lives = u.lives ∙ rw (sym is) refl }
+quiet-deed p c d _ before is h r request older e = let u = h r request older e in record {
+  corrects = u.corrects ∙ rw (sym is) refl;
+  lives = u.lives ∙
+      rw (sym is) refl;
+}
 
-quiet-elsewhere : (p : PeerId) (c : ℕ) (d : Did) (deed : Deed) (before : List Seen) → deed ≡ d.deed → (rests before ≡ true → Quiet p c before) → rests_elsewhere deed (asks before) (rests before) ≡ true → (request : Did) (older : List Seen) →
+quiet-elsewhere : (p : PeerId) (c : ℕ) (d : Did) (deed : Deed) (before : List Seen) → deed ≡ d.deed → (rests before ≡ true → Quiet p c before) →
+    rests_elsewhere deed (asks before) (rests before) ≡ true → (request : Did) (older : List Seen) →
     exchange p c before ≡ Here request ∷ older → Undisturbed (plain older) (plain (Elsewhere d ∷ before))
 quiet-elsewhere p c d (Acts Boot) before is h r request older e = absurd (true≢false (sym r))
-quiet-elsewhere p c d (Acts (Correct amount stepped shown)) before is h r request older e = absurd (no-open p c before request older (asks before) (rests before) (none-open p c before) r e)
-quiet-elsewhere p c d _ before is h r request older e = let u = h r request older e in record { corrects = u.corrects ∙ rw (sym is) refl; lives = u.lives ∙ rw (sym is) refl }
+quiet-elsewhere p c d (Acts (Correct amount stepped shown)) before is h r request older e =
+    absurd (no-open p c before request older (asks before) (rests before) (none-open p c before) r e)
+quiet-elsewhere p c d _ before is h r request older e = let u = h r request older e in record {
+  corrects = u.corrects ∙ rw (sym is) refl;
+  lives = u.lives ∙
+      rw (sym is) refl;
+}
 
 quiet : (p : PeerId) (c : ℕ) (seen : List Seen) → rests seen ≡ true → Quiet p c seen
 quiet p c [] r request older e = nil-cons (Here request) older e
@@ -126,15 +145,24 @@ none-such (Some a) e = absurd (true≢false (sym e))
 
 -- whether all is paid that a port owes at a step's end
 abbrev pub paid : List PeerId → List Seen → Bool
-paid peers seen = cond (is_some (unheeded peers seen)) false true && (cond (is_unbacked seen) false true && (met (owes seen) (role seen) && (cond (is_some (unacknowledged seen)) false true && rests seen)))
+paid peers seen = cond (is_some (unheeded peers seen)) false true && (cond (is_unbacked seen) false true &&
+    (met (owes seen) (role seen) && (cond (is_some (unacknowledged seen)) false true && rests seen)))
 
 paid-ends : (setup : Setup) (seen : List Seen) → paid setup.peers seen ≡ true → StepEnds setup seen
 paid-ends setup seen e =
-    let h = and_parts (cond (is_some (unheeded setup.peers seen)) false true) (cond (is_unbacked seen) false true && (met (owes seen) (role seen) && (cond (is_some (unacknowledged seen)) false true && rests seen))) e in
-    let a = and_parts (cond (is_unbacked seen) false true) (met (owes seen) (role seen) && (cond (is_some (unacknowledged seen)) false true && rests seen)) h.1 in
+    let h = and_parts (cond (is_some (unheeded setup.peers seen)) false true) (cond (is_unbacked seen) false true &&
+    (met (owes seen) (role seen) && (cond (is_some (unacknowledged seen)) false true && rests seen))) e in
+    let a = and_parts (cond (is_unbacked seen) false true) (met (owes seen) (role seen) && (cond (is_some (unacknowledged seen)) false true && rests seen)) h.1
+    in
     let b = and_parts (met (owes seen) (role seen)) (cond (is_some (unacknowledged seen)) false true && rests seen) a.1 in
     let c = and_parts (cond (is_some (unacknowledged seen)) false true) (rests seen) b.1 in
-    record { backs = not-so (is_unbacked seen) a.0; heeds = none-such (unheeded setup.peers seen) h.0; follows = met-by (owes seen) (role seen) b.0; acknowledged = none-such (unacknowledged seen) c.0; exchanges = λ p i. quiet p i seen c.1 }
+    record {
+      backs = not-so (is_unbacked seen) a.0;
+      heeds = none-such (unheeded setup.peers seen) h.0;
+      follows = met-by (owes seen) (role seen) b.0;
+      acknowledged = none-such (unacknowledged seen) c.0;
+      exchanges = λ p i. quiet p i seen c.1;
+    }
 
 -- lines on ports 0 and 1 alone
 abbrev pub on_two : List Line → Bool
@@ -151,8 +179,20 @@ pub record Empty (seen : List Seen) : Type 0 where
 
 -- a port that its node doesn't have sees marks and boots alone
 pub far-deed : (b : Bool) (d : Did) (deed : Deed) (seen : List Seen) → deed ≡ d.deed → (false || is_shared deed) ≡ b → Empty seen → Empty (seen_as b d ∷ seen)
-far-deed true d Begins seen is e h = record { backs = rw (sym is) refl; none = rw (sym is) refl; heeded = rw (sym is) refl; untaken = λ peers. rw (sym is) refl; shut = λ p c. rw (sym is) (h.shut p c) }
-far-deed true d (Acts Boot) seen is e h = record { backs = rw (sym is) h.backs; none = rw (sym is) h.none; heeded = rw (sym is) h.heeded; untaken = λ peers. rw (sym is) (h.untaken peers); shut = λ p c. rw (sym is) refl }
+far-deed true d Begins seen is e h = record {
+  backs = rw (sym is) refl;
+  none = rw (sym is) refl;
+  heeded = rw (sym is) refl;
+  untaken = λ peers. rw (sym is) refl;
+  shut = λ p c. rw (sym is) (h.shut p c);
+}
+far-deed true d (Acts Boot) seen is e h = record {
+  backs = rw (sym is) h.backs;
+  none = rw (sym is) h.none;
+  heeded = rw (sym is) h.heeded;
+  untaken = λ peers. rw (sym is) (h.untaken peers);
+  shut = λ p c. rw (sym is) refl;
+}
 far-deed true d _ seen is e h = let bad : ⊥ = cc in absurd bad
 far-deed false d deed seen is e h = record { backs = h.backs; none = h.none; heeded = h.heeded; untaken = h.untaken; shut = h.shut }
 
@@ -178,7 +218,13 @@ abbrev pub settled : (Port → List PeerId) → List Line → Bool
 settled peers own = on_two own && (paid (peers port0) (view port0 own) && paid (peers port1) (view port1 own))
 
 pub far-ends : (setup : Setup) (seen : List Seen) → Empty seen → StepEnds setup seen
-far-ends setup seen h = record { backs = h.backs; heeds = h.untaken setup.peers; follows = λ p e. none-among p h.none e; acknowledged = h.heeded; exchanges = λ p c request older e. nil-cons (Here request) older (sym (h.shut p c) ∙ e) }
+far-ends setup seen h = record {
+  backs = h.backs;
+  heeds = h.untaken setup.peers;
+  follows = λ p e. none-among p h.none e;
+  acknowledged = h.heeded;
+  exchanges = λ p c request older e. nil-cons (Here request) older (sym (h.shut p c) ∙ e);
+}
 
 pub settled-ends : (setups : Port → Setup) (own : List Line) → settled (λ q. (setups q).peers) own ≡ true → (q : Port) → StepEnds (setups q) (view q own)
 settled-ends setups own e q =
@@ -186,7 +232,10 @@ settled-ends setups own e q =
     let b = and_parts (paid (setups port0).peers (view port0 own)) (paid (setups port1).peers (view port1 own)) a.1 in
     by-port a.0 b.0 b.1 q.0 refl
   where
-    by-port : on_two own ≡ true → paid (setups port0).peers (view port0 own) ≡ true → paid (setups port1).peers (view port1 own) ≡ true → (k : ℕ) → q.0 ≡ k → StepEnds (setups q) (view q own)
-    by-port two zero_is one_is zero is = subst (λ z. StepEnds (setups z) (view z own)) (ap (λ k. let r : Port = record { 0 = k } in r) (sym is)) (paid-ends (setups port0) (view port0 own) zero_is)
-    by-port two zero_is one_is (suc zero) is = subst (λ z. StepEnds (setups z) (view z own)) (ap (λ k. let r : Port = record { 0 = k } in r) (sym is)) (paid-ends (setups port1) (view port1 own) one_is)
+    by-port : on_two own ≡ true → paid (setups port0).peers (view port0 own) ≡ true → paid (setups port1).peers (view port1 own) ≡ true → (k : ℕ) → q.0 ≡ k →
+        StepEnds (setups q) (view q own)
+    by-port two zero_is one_is zero is = subst (λ z. StepEnds (setups z) (view z own)) (ap (λ k. let r : Port = record { 0 = k } in r) (sym is))
+        (paid-ends (setups port0) (view port0 own) zero_is)
+    by-port two zero_is one_is (suc zero) is = subst (λ z. StepEnds (setups z) (view z own)) (ap (λ k. let r : Port = record { 0 = k } in r) (sym is))
+        (paid-ends (setups port1) (view port1 own) one_is)
     by-port two zero_is one_is (suc (suc k)) is = far-ends (setups q) (view q own) (far q k own is two)

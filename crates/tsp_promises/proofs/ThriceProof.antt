@@ -1,7 +1,9 @@
 -- A numbered send has few posts.
-use Rattle.std.proofs.Common.{sym, ap, arith, subst, inl, inr, eq-eqb, ◌∙◌, ◌≡◌, ◌≤◌, ◌⊎◌, ℕ, ◌+◌, ◌==◌, ◌&&◌, if◌then◌else◌, Bool, true, false, List, [], ◌∷◌, refl}
+use Rattle.std.proofs.Common.{sym, ap, arith, subst, inl, inr, eq-eqb, ◌∙◌, ◌≡◌, ◌≤◌, ◌⊎◌, ℕ, ◌+◌, ◌==◌, ◌&&◌, if◌then◌else◌, Bool, true, false, List, [], ◌∷◌}
+use Rattle.std.proofs.Common.{refl}
 use Rattle.tsp_rules.specs.Values.{Boot, Post, Become, Acked, Gave, Message, PeerId, Peer, TRIES}
-use Rattle.tsp_base.specs.Words.{Deed, Acts, Did, Line, Seen, Here, Elsewhere, of, view, MessageValue, acting, begun_to, is_numbered, open_to, open_to_after, posts_of, posts_of_after}
+use Rattle.tsp_base.specs.Words.{Deed, Acts, Did, Line, Seen, Here, Elsewhere, of, view, MessageValue, acting, begun_to, is_numbered, open_to, open_to_after}
+use Rattle.tsp_base.specs.Words.{posts_of, posts_of_after}
 use Rattle.tsp_promises.specs.{Fits.Fits, Fits.node_of, Setting.Setting, Thrice.Thrice, Thrice.ThriceAt, Thrice.sent, Thrice.sent_after}
 use Rattle.tsp_promises.{proofs.EverywhereLemmas.Everywhere-from, proofs.HistoryPlaces.line_on, specs.CorrectionFits.RepeatFits}
 use Rattle.tsp_promises.proofs.{Leaves.nil-cons, OwnFitsProof.view-line, OwnFitsProof.fits_at, SendPlaces.repeats_in, SendPlaces.send_place}
@@ -17,7 +19,8 @@ ended false was had posts h = h
 
 -- a post of the send, its first one or a repeat, or of another
 posted : (mine numbered begins : Bool) (here was : List Seen) (had posts : ℕ) → Counted was had posts →
-    Counted (if mine && (numbered && begins) then here else was) (if mine && numbered then (if begins then 1 else had + 1) else had) (if mine && numbered then (if begins then 1 else posts + 1) else posts)
+    Counted (if mine && (numbered && begins) then here else was) (if mine && numbered then (if begins then 1 else had + 1) else had)
+    (if mine && numbered then (if begins then 1 else posts + 1) else posts)
 posted true true true here was had posts h = inr refl
 posted true true false here was had posts h = elim h [
   | inl e ↦ inl e
@@ -27,10 +30,12 @@ posted true false begins here was had posts h = h
 posted false numbered begins here was had posts h = h
 
 counted-deed : (p : PeerId) (d : Did) (before : List Seen) (deed : Deed) → Counted (open_to p before) (sent p before) (posts_of p before) →
-    Counted (open_to_after p deed (acting before) (Here d ∷ before) (open_to p before)) (sent_after p deed (acting before) (sent p before)) (posts_of_after p deed (acting before) (posts_of p before))
+    Counted (open_to_after p deed (acting before) (Here d ∷ before) (open_to p before)) (sent_after p deed (acting before) (sent p before))
+    (posts_of_after p deed (acting before) (posts_of p before))
 counted-deed p d before (Acts Boot) h = inl refl
 counted-deed p d before (Acts (Become r)) h = inl refl
-counted-deed p d before (Acts (Post (Peer q) (Message m))) h = posted (q.0 == p.0) (is_numbered m.kind) (acting before) (Here d ∷ before) (open_to p before) (sent p before) (posts_of p before) h
+counted-deed p d before (Acts (Post (Peer q) (Message m))) h = posted (q.0 == p.0) (is_numbered m.kind) (acting before) (Here d ∷
+    before) (open_to p before) (sent p before) (posts_of p before) h
 counted-deed p d before (Acts (Acked q)) h = ended (q.0 == p.0) (open_to p before) (sent p before) (posts_of p before) h
 counted-deed p d before (Acts (Gave q)) h = ended (q.0 == p.0) (open_to p before) (sent p before) (posts_of p before) h
 counted-deed p d before _ h = h
@@ -47,7 +52,8 @@ open-had p seen first older e = elim (counted p seen) [
   | inr same ↦ same
 ]
 
-few-posts : (p : PeerId) (m : MessageValue) (post : Did) (before : List Seen) → post.deed ≡ Acts (Post (Peer p) (Message m)) → is_numbered m.kind ≡ true → (acting before ≡ false → RepeatFits post before p m) → sent p (Here post ∷ before) ≤ TRIES
+few-posts : (p : PeerId) (m : MessageValue) (post : Did) (before : List Seen) → post.deed ≡ Acts (Post (Peer p) (Message m)) → is_numbered m.kind ≡ true →
+    (acting before ≡ false → RepeatFits post before p m) → sent p (Here post ∷ before) ≤ TRIES
 few-posts p m post before is kind repeats = by-case (acting before) refl where
   by-case : (b : Bool) → acting before ≡ b → sent p (Here post ∷ before) ≤ TRIES
   by-case true e =
@@ -76,5 +82,6 @@ thrice setting whole h = Everywhere-from ThriceAt whole (λ l world w p m is kin
       is = ap (begun_to p) seen ∙ s.is;
       same = s.sends.deed ∙ sym is;
       soon = s.ticks;
-      few = subst (λ k. sent p k ≤ TRIES) (sym seen) (few-posts p m l.did (view l.port (of n world)) is kind (repeats_in setting n l world p m f.0 refl is kind));
+      few = subst (λ k. sent p k ≤ TRIES) (sym seen) (few-posts p m l.did (view l.port (of n world)) is kind
+          (repeats_in setting n l world p m f.0 refl is kind));
     })

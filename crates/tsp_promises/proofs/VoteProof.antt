@@ -54,12 +54,15 @@ pub record Vote (setting : Setting) (a : ℕ) (q : Port) (x : Did) (xo : List Li
   pub early : y.did.step.at ≤ e.did.step.at + LIFE
 
 -- the ACCEPT fits
-accept_fits : (setting : Setting) (y : Line) (yo : List Line) (to : PeerId) (answer : MessageValue) → ElectsAt setting y yo → y.did.deed ≡ Acts (Post (Peer to) (Message answer)) → answer.kind ≡ Accept → AcceptFits (view y.port (of (node_of y) yo)) to answer.number
+accept_fits : (setting : Setting) (y : Line) (yo : List Line) (to : PeerId) (answer : MessageValue) → ElectsAt setting y yo → y.did.deed ≡
+    Acts (Post (Peer to) (Message answer)) → answer.kind ≡ Accept → AcceptFits (view y.port (of (node_of y) yo)) to answer.number
 accept_fits setting y yo to answer f deed kind =
-    let one : VoteFits answer.kind (view y.port (of (node_of y) yo)) to answer = subst (λ k. ElectFits (setup_of setting (node_of y) y.port) k y.did (view y.port (of (node_of y) yo))) deed f in
+    let one : VoteFits answer.kind (view y.port (of (node_of y) yo)) to answer = subst (λ k. ElectFits (setup_of setting (node_of y) y.port) k y.did
+    (view y.port (of (node_of y) yo))) deed f in
     subst (λ k. VoteFits k (view y.port (of (node_of y) yo)) to answer) kind one
 
-pub vote_of : (setting : Setting) (a : ℕ) (q : Port) (x : Did) (xo : List Line) (p : PeerId) (answer : MessageValue) → Polled setting (line_on q x ∷ xo) → x.step.node ≡ a → x.deed ≡ Acts (Backer p) →
+pub vote_of : (setting : Setting) (a : ℕ) (q : Port) (x : Did) (xo : List Line) (p : PeerId) (answer : MessageValue) → Polled setting (line_on q x ∷ xo) →
+    x.step.node ≡ a → x.deed ≡ Acts (Backer p) →
     Receives (view q (of a xo)) p (Message answer) → answer.kind ≡ Accept → Vote setting a q x xo p answer.number
 vote_of setting a q x xo p answer w node deed took kind =
     let took' : Receives (view q (of x.step.node xo)) p (Message answer) = subst (λ n. Receives (view q (of n xo)) p (Message answer)) (sym node) took in
@@ -67,7 +70,8 @@ vote_of setting a q x xo p answer w node deed took kind =
     let wx = polled_at setting xo (line_on q x ∷ xo) w (inr (Within-all xo)) in
     let wy = polled_at setting (k.post ∷ k.older) xo wx k.place in
     let acc = accept_fits setting k.post k.older (peer_of x.step.node) answer wy.elects.0 k.deed kind in
-    let j = known setting k.post k.older (Post (Peer (peer_of x.step.node)) (Message answer)) (peer_of x.step.node) (Message acc.message) wy.fits wy.honest k.deed acc.took in
+    let j = known setting k.post k.older (Post (Peer (peer_of x.step.node)) (Message answer)) (peer_of x.step.node) (Message acc.message) wy.fits wy.honest
+    k.deed acc.took in
     let asker : node_of j.post ≡ x.step.node = ap (λ (z : PeerId). z.0) {x = peer_of (node_of j.post)} j.node in
     let net : setting.net (node_of j.post) j.post.port ≡ setting.net x.step.node q = ◌∙◌ {a = setting.net (node_of j.post) j.post.port} j.net k.net in
     record {
@@ -120,8 +124,10 @@ back_at setting q p t f e = step_at setting _ (λ t. backed (view q t) ≡ Some 
   split l t e = port_split q (Back p) (λ s. backed s ≡ Some p) l t refl (λ e. by-deed l.did.deed (backed (view q t)) e) (λ e. e) e
 
 -- the Back in the step of an ACCEPT
-pub back_of : (setting : Setting) (a : ℕ) (net : Network) (from upto : ℕ) (y : Line) (yo world : List Line) (answer : MessageValue) → Fits setting world → Within (y ∷ yo) world → y.did.deed ≡ Acts (Post (Peer (peer_of a)) (Message answer)) →
-    backed (view y.port (of (node_of y) yo)) ≡ Some (peer_of a) → setting.net (node_of y) y.port ≡ net → from ≤ y.did.step.at → y.did.step.at ≤ upto → Backed setting (node_of y) a net from upto world
+pub back_of : (setting : Setting) (a : ℕ) (net : Network) (from upto : ℕ) (y : Line) (yo world : List Line) (answer : MessageValue) → Fits setting world →
+    Within (y ∷ yo) world → y.did.deed ≡ Acts (Post (Peer (peer_of a)) (Message answer)) →
+    backed (view y.port (of (node_of y) yo)) ≡ Some (peer_of a) → setting.net (node_of y) y.port ≡ net → from ≤ y.did.step.at → y.did.step.at ≤ upto →
+    Backed setting (node_of y) a net from upto world
 back_of setting a net from upto y yo world answer f w deed backs net_is after by =
     let fy = fits_at setting (y ∷ yo) world f w in
     let own = own_fits setting (node_of y) yo fy.1 in
@@ -142,16 +148,20 @@ back_of setting a net from upto y yo world answer f w deed backs net_is after by
     }
 
 -- the number of an ELECTION that begins
-asking_number : (setting : Setting) (n : ℕ) (q : Port) (d : Did) (older world : List Line) (p : PeerId) (m : MessageValue) → Elects setting world → Within (line_on q d ∷ older) world → d.step.node ≡ n →
-    d.deed ≡ Acts (Post (Peer p) (Message m)) → m.kind ≡ Election → acting (view q (of n older)) ≡ true → m.number ≡ 32768 + (word (dids (of n older)) + begun (view q (of n older))) % 32768
+asking_number : (setting : Setting) (n : ℕ) (q : Port) (d : Did) (older world : List Line) (p : PeerId) (m : MessageValue) → Elects setting world →
+    Within (line_on q d ∷ older) world → d.step.node ≡ n →
+    d.deed ≡ Acts (Post (Peer p) (Message m)) → m.kind ≡ Election → acting (view q (of n older)) ≡ true → m.number ≡
+    32768 + (word (dids (of n older)) + begun (view q (of n older))) % 32768
 asking_number setting n q d older world p m f w node deed kind acts =
     let own = Everywhere-at (ElectsAt setting) (line_on q d) older world f w in
-    let here : ElectFits (setup_of setting n q) d.deed d (view q (of n older)) = subst (λ k. ElectFits (setup_of setting k q) d.deed d (view q (of k older))) node own in
+    let here : ElectFits (setup_of setting n q) d.deed d (view q (of n older)) = subst (λ k. ElectFits (setup_of setting k q) d.deed d (view q (of k older)))
+    node own in
     let one : VoteFits m.kind (view q (of n older)) p m = subst (λ k. ElectFits (setup_of setting n q) k d (view q (of n older))) deed here in
     let a : AskFits (view q (of n older)) m.number = subst (λ k. VoteFits k (view q (of n older)) p m) kind one in
     a.next acts ∙ ap (λ k. 32768 + (k + begun (view q (of n older))) % 32768) (ap word (plain_view q (of n older)))
 
-few_in : (n : ℕ) (q : Port) (d : Did) (older world : List Line) (p : PeerId) → Few world → Within (line_on q d ∷ older) world → d.step.node ≡ n → Asks p d (view q (of n older)) → begun (view q (of n older)) < 32767
+few_in : (n : ℕ) (q : Port) (d : Did) (older world : List Line) (p : PeerId) → Few world → Within (line_on q d ∷ older) world → d.step.node ≡ n →
+    Asks p d (view q (of n older)) → begun (view q (of n older)) < 32767
 few_in n q d older world p few w node a =
     let one = Everywhere-at FewAt (line_on q d) older world few w in
     let two : begun (view q (of n (line_on q d ∷ older))) < 32768 = subst (λ k. begun (view q (of k (line_on q d ∷ older))) < 32768) node one in
@@ -159,15 +169,19 @@ few_in n q d older world p few w node a =
     let count = begun_asks p d (view q (of n older)) a in
     omega (arith, three, count)
 
-same_word : (setting : Setting) (n : ℕ) (s t : List Line) → Fits setting t → Within s t → lives (dids (of n s)) ≡ lives (dids (of n t)) → word (dids (of n s)) ≡ word (dids (of n t))
+same_word : (setting : Setting) (n : ℕ) (s t : List Line) → Fits setting t → Within s t → lives (dids (of n s)) ≡ lives (dids (of n t)) → word (dids (of n s)) ≡
+    word (dids (of n t))
 same_word setting n s t f w e =
     let i = since setting (of n s) (of n t) (own_fits setting n t f) (Within-of n s t w) in
     elim i.life [ inl one ↦ one.word | inr new ↦ absurd (omega (arith, new.lives, e)) ]
 
 -- by their numbers two ELECTIONs of one life are one
-same_asking : (setting : Setting) (n : ℕ) (q : Port) (p : PeerId) (g f : Did) (gw fw world : List Line) (mg mf : MessageValue) → Polled setting world → Within (line_on q g ∷ gw) world → Within (line_on q f ∷ fw) world →
-    g.step.node ≡ n → f.step.node ≡ n → g.deed ≡ Acts (Post (Peer p) (Message mg)) → f.deed ≡ Acts (Post (Peer p) (Message mf)) → mg.kind ≡ Election → mf.kind ≡ Election → acting (view q (of n gw)) ≡ true → acting (view q (of n fw)) ≡ true →
-    mg.number ≡ mf.number → lives (dids (of n gw)) ≡ lives (dids (of n world)) → lives (dids (of n fw)) ≡ lives (dids (of n world)) → Here g ∷ view q (of n gw) ≡ Here f ∷ view q (of n fw)
+same_asking : (setting : Setting) (n : ℕ) (q : Port) (p : PeerId) (g f : Did) (gw fw world : List Line) (mg mf : MessageValue) → Polled setting world →
+    Within (line_on q g ∷ gw) world → Within (line_on q f ∷ fw) world →
+    g.step.node ≡ n → f.step.node ≡ n → g.deed ≡ Acts (Post (Peer p) (Message mg)) → f.deed ≡ Acts (Post (Peer p) (Message mf)) → mg.kind ≡ Election → mf.kind ≡
+    Election → acting (view q (of n gw)) ≡ true → acting (view q (of n fw)) ≡ true →
+    mg.number ≡ mf.number → lives (dids (of n gw)) ≡ lives (dids (of n world)) → lives (dids (of n fw)) ≡ lives (dids (of n world)) → Here g ∷
+    view q (of n gw) ≡ Here f ∷ view q (of n fw)
 same_asking setting n q p g f gw fw world mg mf w g_in f_in g_node f_node g_deed f_deed g_kind f_kind g_acts f_acts number g_life f_life =
     let a : Asks p g (view q (of n gw)) = record { message = mg; deed = g_deed; kind = g_kind; begins = g_acts } in
     let b : Asks p f (view q (of n fw)) = record { message = mf; deed = f_deed; kind = f_kind; begins = f_acts } in
@@ -179,8 +193,10 @@ same_asking setting n q p g f gw fw world mg mf w g_in f_in g_node f_node g_deed
     let f_few = few_in n q f fw world p w.few f_in f_node b in
     let same : begun (view q (of n gw)) ≡ begun (view q (of n fw)) = omega (arith, one, two, g_word, f_word, g_few, f_few, number) in
     let life : boots (Here g ∷ view q (of n gw)) ≡ boots (Here f ∷ view q (of n fw)) =
-    asks_life p g (view q (of n gw)) a ∙ (boots_view q (of n gw) ∙ (g_life ∙ (sym f_life ∙ (sym (boots_view q (of n fw)) ∙ sym (asks_life p f (view q (of n fw)) b))))) in
-    one_asking p g f (view q (of n gw)) (view q (of n fw)) (view q (of n world)) a b (seen_in n (line_on q g) gw world g_node g_in) (seen_in n (line_on q f) fw world f_node f_in) life same
+    asks_life p g (view q (of n gw)) a ∙ (boots_view q (of n gw) ∙ (g_life ∙ (sym f_life ∙
+    (sym (boots_view q (of n fw)) ∙ sym (asks_life p f (view q (of n fw)) b))))) in
+    one_asking p g f (view q (of n gw)) (view q (of n fw)) (view q (of n world)) a b (seen_in n (line_on q g) gw world g_node g_in)
+    (seen_in n (line_on q f) fw world f_node f_in) life same
 
 -- where the send begins that an ELECTION belongs to
 record AskPlace (setting : Setting) (a : ℕ) (q : Port) (e : Line) (eo : List Line) (to : PeerId) (m : MessageValue) : Type 0 where
@@ -192,15 +208,26 @@ record AskPlace (setting : Setting) (a : ℕ) (q : Port) (e : Line) (eo : List L
   pub begins : acting (view q (of a gw)) ≡ true
   pub soon : e.did.tick ≤ g.tick + LAST
 
-ask_place : (setting : Setting) (a : ℕ) (q : Port) (e : Line) (eo : List Line) (to : PeerId) (m : MessageValue) → Fits setting (e ∷ eo) → node_of e ≡ a → e.port ≡ q → e.did.deed ≡ Acts (Post (Peer to) (Message m)) → m.kind ≡ Election → AskPlace setting a q e eo to m
+ask_place : (setting : Setting) (a : ℕ) (q : Port) (e : Line) (eo : List Line) (to : PeerId) (m : MessageValue) → Fits setting (e ∷ eo) → node_of e ≡ a →
+    e.port ≡ q → e.did.deed ≡ Acts (Post (Peer to) (Message m)) → m.kind ≡ Election → AskPlace setting a q e eo to m
 ask_place setting a q e eo to m f node port deed kind =
     let own = deed_fits setting e eo (Acts (Post (Peer to) (Message m))) deed f.0 in
-    let asks : ElectionFits e.did (view e.port (of (node_of e) eo)) to m = subst (λ k. MessageFits (setup_of setting (node_of e) e.port) k e.did (view e.port (of (node_of e) eo)) to m) kind own.fits in
+    let asks : ElectionFits e.did (view e.port (of (node_of e) eo)) to m = subst (λ k. MessageFits (setup_of setting (node_of e) e.port) k e.did
+    (view e.port (of (node_of e) eo)) to m) kind own.fits in
     let here : ElectionFits e.did (view q (of a eo)) to m = subst₂ (λ n r. ElectionFits e.did (view r (of n eo)) to m) node port asks in
     let d = send_is to e.did (view q (of a eo)) m deed (ap is_numbered kind) here.numbered.repeats in
-    let line : view q (of a (e ∷ eo)) ≡ Here e.did ∷ view q (of a eo) = subst (λ r. view r (of a (e ∷ eo)) ≡ Here e.did ∷ view r (of a eo)) port (view-line a e eo node) in
+    let line : view q (of a (e ∷ eo)) ≡ Here e.did ∷ view q (of a eo) = subst (λ r. view r (of a (e ∷ eo)) ≡ Here e.did ∷
+    view r (of a eo)) port (view-line a e eo node) in
     let l = locate a q (e ∷ eo) d.first d.older (rw d.same refl) (subst (λ s. Within (Here d.first ∷ d.older) s) (sym line) d.place) in
-    record { g = d.first; gw = l.older; place = l.place; node = l.node; deed = d.same; begins = subst (λ s. acting s ≡ true) (sym l.before) d.begins; soon = d.soon }
+    record {
+      g = d.first;
+      gw = l.older;
+      place = l.place;
+      node = l.node;
+      deed = d.same;
+      begins = subst (λ s. acting s ≡ true) (sym l.before) d.begins;
+      soon = d.soon;
+    }
 
 -- the open ELECTION of a candidature that x ends
 pub record OpenPlace (a : ℕ) (q : Port) (xo : List Line) (start : Did) (p : PeerId) (number : ℕ) : Type 0 where
@@ -217,12 +244,14 @@ pub record OpenPlace (a : ℕ) (q : Port) (xo : List Line) (start : Did) (p : Pe
   pub so : List Line
   pub after : Within (line_on q start ∷ so) fw
 
-pub open_place : (a : ℕ) (q : Port) (who : Setup) (x : Did) (xo : List Line) (p : PeerId) (vs : List Seen) (start : Did) (idle : List Seen) → view q (of a xo) ≡ vs → (b : BackerFits who x vs p) → stood vs ≡ Here start ∷ idle → is_shared start.deed ≡ false →
+pub open_place : (a : ℕ) (q : Port) (who : Setup) (x : Did) (xo : List Line) (p : PeerId) (vs : List Seen) (start : Did) (idle : List Seen) → view q (of a xo) ≡
+    vs → (b : BackerFits who x vs p) → stood vs ≡ Here start ∷ idle → is_shared start.deed ≡ false →
     OpenPlace a q xo start p b.answer.number
 open_place a q who x xo p vs start idle seen b stands own =
     let o = open_at p b.past b.first b.older b.ends in
     let k = opened p b.past b.first b.older b.ends in
-    let acked : stood_after b.acked.deed (Here b.acked ∷ b.past) (stood b.past) ≡ stood b.past = ap (λ d. stood_after d (Here b.acked ∷ b.past) (stood b.past)) b.deed in
+    let acked : stood_after b.acked.deed (Here b.acked ∷ b.past) (stood b.past) ≡ stood b.past =
+    ap (λ d. stood_after d (Here b.acked ∷ b.past) (stood b.past)) b.deed in
     let still : lives_after b.acked.deed (boots b.past) ≡ boots b.past = ap (λ d. lives_after d (boots b.past)) b.deed in
     let role : stood b.past ≡ Here start ∷ idle = sym acked ∙ (ap stood (sym b.is) ∙ stands) in
     let in_vs : Within (Here b.first ∷ b.older) vs = subst (λ s. Within (Here b.first ∷ b.older) s) (sym b.is) (inr o.place) in
@@ -241,13 +270,15 @@ open_place a q who x xo p vs start idle seen b stands own =
       kind = b.election;
       begins = subst (λ s. acting s ≡ true) (sym l.before) k.begins.begins;
       number_is = b.number;
-      life = sym (boots_view q (of a l.older)) ∙ (ap boots l.before ∙ (sym (asks_life p b.first b.older asks) ∙ (o.life ∙ (sym still ∙ (ap boots (sym b.is) ∙ (ap boots (sym seen) ∙ boots_view q (of a xo)))))));
+      life = sym (boots_view q (of a l.older)) ∙ (ap boots l.before ∙ (sym (asks_life p b.first b.older asks) ∙
+          (o.life ∙ (sym still ∙ (ap boots (sym b.is) ∙ (ap boots (sym seen) ∙ boots_view q (of a xo)))))));
       so = s.older;
       after = s.place;
     }
 
 -- an ELECTION of the candidature was posted in it
-pub asked_late : (setting : Setting) (a : ℕ) (q : Port) (x : Did) (xo : List Line) (p : PeerId) (number : ℕ) (start : Did) → Polled setting (line_on q x ∷ xo) → x.step.node ≡ a → boot_tick (dids (of a xo)) + 290000000 ≤ x.tick →
+pub asked_late : (setting : Setting) (a : ℕ) (q : Port) (x : Did) (xo : List Line) (p : PeerId) (number : ℕ) (start : Did) → Polled setting (line_on q x ∷ xo) →
+    x.step.node ≡ a → boot_tick (dids (of a xo)) + 290000000 ≤ x.tick →
     (v : Vote setting a q x xo p number) → OpenPlace a q xo start p number → start.step.at ≤ v.e.did.step.at
 asked_late setting a q x xo p number start w node rested v o =
     let wx = polled_at setting xo (line_on q x ∷ xo) w (inr (Within-all xo)) in

@@ -36,13 +36,15 @@ relay_steps =
     turns (at 400000000 0 0) (Ring Round ∷ Arm CloseAlarm 408000000 ∷ Post (Peer (peer_of 1)) (Stamp (Request 7 0)) ∷ []) ∷
     replies (at 400000299 1 0) 6 0 near ∷
     samples (at 400000801 0 0) 7 1 near (negsuc 101) (pos 401) ∷
-    turns (at 408000000 0 0) (Ring CloseAlarm ∷ Close 2 (negsuc 101) (pos 102) (negsuc 50) ∷ Correct (negsuc 50) false (pos 408000000) ∷ Post (Peer (peer_of 1)) (Message (msg AdjTime 10 (TimeBody (pos 51)))) ∷ []) ∷
+    turns (at 408000000 0 0) (Ring CloseAlarm ∷ Close 2 (negsuc 101) (pos 102) (negsuc 50) ∷ Correct (negsuc 50) false (pos 408000000) ∷
+    Post (Peer (peer_of 1)) (Message (msg AdjTime 10 (TimeBody (pos 51)))) ∷ []) ∷
     obeys (at 408000400 1 0) 8 0 (msg AdjTime 10 (TimeBody (pos 51))) (pos 51) false (pos 408000399) ∷
     acked (at 408000700 0 0) 9 1 10 ∷
     turns (at 500000000 1 1) (Ring Round ∷ Arm CloseAlarm 508000000 ∷ Post (Peer (peer_of 3)) (Stamp (Request 9 0)) ∷ []) ∷
     replies (at 500000300 3 0) 10 1 distant ∷
     samples (at 500000801 1 1) 11 3 distant (negsuc 151) (pos 401) ∷
-    turns (at 508000000 1 1) (Ring CloseAlarm ∷ Close 2 (negsuc 151) (pos 152) (pos 0) ∷ Post (Peer (peer_of 3)) (Message (msg AdjTime 12 (TimeBody (pos 152)))) ∷ []) ∷
+    turns (at 508000000 1 1) (Ring CloseAlarm ∷ Close 2 (negsuc 151) (pos 152) (pos 0) ∷
+    Post (Peer (peer_of 3)) (Message (msg AdjTime 12 (TimeBody (pos 152)))) ∷ []) ∷
     obeys (at 508000400 3 0) 12 1 (msg AdjTime 12 (TimeBody (pos 152))) (pos 152) false (pos 508000398) ∷
     acked (at 508000700 1 1) 13 3 12 ∷
     []
@@ -102,7 +104,8 @@ row_steps =
     turns (at 1000000000 3 1) (Ring Round ∷ Arm CloseAlarm 1008000000 ∷ Post (Peer (peer_of 2)) (Stamp (Request 11 0)) ∷ []) ∷
     replies (at 1000000300 2 1) 17 3 last ∷
     samples (at 1000000801 3 1) 18 2 last (negsuc 100) (pos 401) ∷
-    turns (at 1008000000 3 1) (Ring CloseAlarm ∷ Close 2 (negsuc 100) (pos 101) (pos 0) ∷ Post (Peer (peer_of 2)) (Message (msg AdjTime 14 (TimeBody (pos 101)))) ∷ []) ∷
+    turns (at 1008000000 3 1) (Ring CloseAlarm ∷ Close 2 (negsuc 100) (pos 101) (pos 0) ∷
+    Post (Peer (peer_of 2)) (Message (msg AdjTime 14 (TimeBody (pos 101)))) ∷ []) ∷
     obeys (at 1008000400 2 1) 19 3 (msg AdjTime 14 (TimeBody (pos 101))) (pos 101) false (pos 1008000549) ∷
     acked (at 1008000700 3 1) 20 2 14 ∷
     []

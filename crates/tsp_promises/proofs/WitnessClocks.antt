@@ -66,7 +66,8 @@ either a b true late e f o = inl (leb-true a 306000000 e)
 either a b false true e f o = inr (leb-true 386000000 b f)
 either a b false false e f o = let bad : ⊥ = cc in absurd bad
 
-alive-there : (deed : Deed) (d : Did) (before : List Did) → boots_first deed (lives before) ≡ true → Alive (still false) deed d before → Alive wandering deed d before
+alive-there : (deed : Deed) (d : Did) (before : List Did) → boots_first deed (lives before) ≡ true → Alive (still false) deed d before →
+    Alive wandering deed d before
 alive-there Begins d before e a = tt
 alive-there (Acts Boot) d before e a =
     let first : lives before ≡ 0 = eqb-true (lives before) 0 e in
@@ -74,9 +75,20 @@ alive-there (Acts Boot) d before e a =
     (a.0, a.1 ∙ ap (λ w. Booted a.0 (w +ℤ pos d.tick)) (sym wall))
 alive-there (Acts act) d before e a = a
 
-took-there : (cause : Cause) (l : Line) (world : List Line) (from : Place) (taken : Taken) → TookFits cause (still false) l world from taken → TookFits cause wandering l world from taken
+took-there : (cause : Cause) (l : Line) (world : List Line) (from : Place) (taken : Taken) → TookFits cause (still false) l world from taken →
+    TookFits cause wandering l world from taken
 took-there (Came k) l world from taken f =
-    record { post = f.post; older = f.older; place = f.place; number = f.number; datagram = f.datagram; deed = f.deed; net = f.net; from_is = f.from_is; taken_is = f.taken_is }
+    record {
+      post = f.post;
+      older = f.older;
+      place = f.place;
+      number = f.number;
+      datagram = f.datagram;
+      deed = f.deed;
+      net = f.net;
+      from_is = f.from_is;
+      taken_is = f.taken_is;
+    }
 took-there (Booted word wall) l world from taken f = f
 took-there Handed l world from taken f = f
 took-there Turned l world from taken f = f
@@ -142,7 +154,13 @@ wander_use = record {
   history = record {
     setting = wandering;
     world = two_lives;
-    kept = record { fits = lives-fit; finished = all-finished false two_lives refl; honest = honest-by two_lives refl; life = life-by two_lives refl; words = words-by two_lives refl };
+    kept = record {
+      fits = lives-fit;
+      finished = all-finished false two_lives refl;
+      honest = honest-by two_lives refl;
+      life = life-by two_lives refl;
+      words = words-by two_lives refl;
+    };
   };
   later = spot 0 two_lives refl;
   earlier = spot 73 (skip 1 two_lives) refl;

@@ -1,9 +1,12 @@
 -- Dates and LOOPs. A follower passes a client's date on to its master, which sets it. Then either another date comes in the master's next life,
 -- or one in forged octets, after which the first is set again. And a LOOP comes back: node 1 leads on both of its ports, node 2 passes its LOOP on
 -- to the network that it shares with node 3, and that one back.
-use Rattle.std.proofs.Common.{sym, ap, arith, subst, inl, inr, true≢false, eq-eqb, cond, ◌∙◌, ◌≡◌, ◌≢◌, ◌≤◌, ◌==◌, ◌<◌, Bool, ℕ, ◌+◌, ◌-◌, ◌-ℤ◌, Option, None, Some, true, false, ℤ, pos, negsuc, List, [], ◌∷◌, refl}
-use Rattle.tsp_rules.specs.Values.{Took, Post, Become, Correct, Acked, Ring, Back, Window, Elect, Message, Good, Ack, Date, DateAck, SetDateReq, LoopKind, Hops, Nothing, TimeBody, PeerId, Peer, Stranger, Loose, Follow, Candidate, Master, DATEHOLD}
-use Rattle.tsp_base.specs.Words.{Acts, Came, Did, Handed, Here, Turned, Line, MessageValue, Seen, Setup, Dating, Receives, is_date_request, last_date, plain, role, sets_date, taken, target, time_in, of, view, peer_of}
+use Rattle.std.proofs.Common.{sym, ap, arith, subst, inl, inr, true≢false, eq-eqb, cond, ◌∙◌, ◌≡◌, ◌≢◌, ◌≤◌, ◌==◌, ◌<◌, Bool, ℕ, ◌+◌, ◌-◌, ◌-ℤ◌, Option, None}
+use Rattle.std.proofs.Common.{Some, true, false, ℤ, pos, negsuc, List, [], ◌∷◌, refl}
+use Rattle.tsp_rules.specs.Values.{Took, Post, Become, Correct, Acked, Ring, Back, Window, Elect, Message, Good, Ack, Date, DateAck, SetDateReq, LoopKind, Hops}
+use Rattle.tsp_rules.specs.Values.{Nothing, TimeBody, PeerId, Peer, Stranger, Loose, Follow, Candidate, Master, DATEHOLD}
+use Rattle.tsp_base.specs.Words.{Acts, Came, Did, Handed, Here, Turned, Line, MessageValue, Seen, Setup, Dating, Receives, is_date_request, last_date, plain}
+use Rattle.tsp_base.specs.Words.{role, sets_date, taken, target, time_in, of, view, peer_of}
 use Rattle.tsp_promises.proofs.Histories.{does, line, msg, named_msg, on, skip, skipped, step_at, still}
 use Rattle.tsp_promises.proofs.HistoriesFit.{Stage, after, at, stages-fit, skip-fits, ◌also◌, boots, turns, takes, hands, stands, wins, all-finished}
 use Rattle.tsp_promises.specs.{CorrectFits.ByDate, CorrectFits.WhyCorrect, Uses.DateUse, Uses.DatedUse, Uses.ForgedDate, Uses.LoopUse}
@@ -67,11 +70,15 @@ date-acks {before = before} took kind number last same fresh = record {
 abbrev passing_steps : List Stage
 passing_steps =
     turns (at 305000000 1 0) (Become (Follow (peer_of 0)) ∷ []) ∷
-    hands (at 310000000 1 0) Stranger (Message (msg Date 5 (TimeBody (pos 600000000)))) (Post Stranger (Message (named_msg 1 Ack 5 Nothing)) ∷ Post (Peer (peer_of 0)) (Message (msg SetDateReq 32777 (TimeBody (pos 600000000)))) ∷ []) ∷
-    takes (at 310000001 0 0) 1 1 (Message (msg SetDateReq 32777 (TimeBody (pos 600000000)))) (Correct (pos 289999999) true (pos 600000000) ∷ Post (Peer (peer_of 1)) (Message (msg DateAck 32777 Nothing)) ∷ []) ∷
+    hands (at 310000000 1 0) Stranger (Message (msg Date 5 (TimeBody (pos 600000000)))) (Post Stranger (Message (named_msg 1 Ack 5 Nothing)) ∷
+    Post (Peer (peer_of 0)) (Message (msg SetDateReq 32777 (TimeBody (pos 600000000)))) ∷ []) ∷
+    takes (at 310000001 0 0) 1 1 (Message (msg SetDateReq 32777 (TimeBody (pos 600000000)))) (Correct (pos 289999999) true (pos 600000000) ∷
+    Post (Peer (peer_of 1)) (Message (msg DateAck 32777 Nothing)) ∷ []) ∷
     takes (at 310000002 1 0) 2 0 (Message (msg DateAck 32777 Nothing)) (Acked (peer_of 0) ∷ []) ∷
-    hands (at 312000000 0 0) (Peer (peer_of 1)) (Message (msg SetDateReq 100 (TimeBody (pos 500000000)))) (Correct (negsuc 101999998) true (pos 500000000) ∷ Post (Peer (peer_of 1)) (Message (msg DateAck 100 Nothing)) ∷ []) ∷
-    takes (at 314000000 0 0) 1 1 (Message (msg SetDateReq 32777 (TimeBody (pos 600000000)))) (Correct (pos 98000000) true (pos 600000000) ∷ Post (Peer (peer_of 1)) (Message (msg DateAck 32777 Nothing)) ∷ []) ∷
+    hands (at 312000000 0 0) (Peer (peer_of 1)) (Message (msg SetDateReq 100 (TimeBody (pos 500000000)))) (Correct (negsuc 101999998) true (pos 500000000) ∷
+    Post (Peer (peer_of 1)) (Message (msg DateAck 100 Nothing)) ∷ []) ∷
+    takes (at 314000000 0 0) 1 1 (Message (msg SetDateReq 32777 (TimeBody (pos 600000000)))) (Correct (pos 98000000) true (pos 600000000) ∷
+    Post (Peer (peer_of 1)) (Message (msg DateAck 32777 Nothing)) ∷ []) ∷
     []
 
 -- the history after so many steps
@@ -89,8 +96,10 @@ renewed_steps =
     boots 400000000 0 8 ∷
     stands (at 700000000 0 0) ∷
     wins (at 705000000 0 0) ∷
-    hands (at 710000000 1 0) Stranger (Message (msg Date 6 (TimeBody (pos 900000000)))) (Post Stranger (Message (named_msg 1 Ack 6 Nothing)) ∷ Post (Peer (peer_of 0)) (Message (msg SetDateReq 32778 (TimeBody (pos 900000000)))) ∷ []) ∷
-    takes (at 710000001 0 0) 4 1 (Message (msg SetDateReq 32778 (TimeBody (pos 900000000)))) (Correct (pos 189999999) true (pos 900000000) ∷ Post (Peer (peer_of 1)) (Message (msg DateAck 32778 Nothing)) ∷ []) ∷
+    hands (at 710000000 1 0) Stranger (Message (msg Date 6 (TimeBody (pos 900000000)))) (Post Stranger (Message (named_msg 1 Ack 6 Nothing)) ∷
+    Post (Peer (peer_of 0)) (Message (msg SetDateReq 32778 (TimeBody (pos 900000000)))) ∷ []) ∷
+    takes (at 710000001 0 0) 4 1 (Message (msg SetDateReq 32778 (TimeBody (pos 900000000)))) (Correct (pos 189999999) true (pos 900000000) ∷
+    Post (Peer (peer_of 1)) (Message (msg DateAck 32778 Nothing)) ∷ []) ∷
     takes (at 710000002 1 0) 5 0 (Message (msg DateAck 32778 Nothing)) (Acked (peer_of 0) ∷ []) ∷
     []
 
@@ -98,10 +107,34 @@ abbrev passes : Line
 passes = does 310000000 1 Handed (Post (Peer (peer_of 0)) (Message (msg SetDateReq 32777 (TimeBody (pos 600000000)))))
 
 abbrev dates-at : ActsOn (does 310000001 0 (Came 1) (Correct (pos 289999999) true (pos 600000000))) (skip 2 (passing 8)) passes (skip 1 (passing 7))
-dates-at = record { amount = pos 289999999; stepped = true; shown = pos 600000000; correct = refl; brings = record { place = skipped 2 (skip 2 (passing 8)); cause = refl; message = msg SetDateReq 32777 (TimeBody (pos 600000000)); deed = refl }; took = refl }
+dates-at = record {
+  amount = pos 289999999;
+  stepped = true;
+  shown = pos 600000000;
+  correct = refl;
+  brings = record {
+    place = skipped 2 (skip 2 (passing 8));
+    cause = refl;
+    message = msg SetDateReq 32777 (TimeBody (pos 600000000));
+    deed = refl;
+  };
+  took = refl;
+}
 
 abbrev dated-again : ActsOn (does 314000000 0 (Came 1) (Correct (pos 98000000) true (pos 600000000))) (skip 2 (passing 11)) passes (skip 1 (passing 7))
-dated-again = record { amount = pos 98000000; stepped = true; shown = pos 600000000; correct = refl; brings = record { place = skipped 13 (skip 2 (passing 11)); cause = refl; message = msg SetDateReq 32777 (TimeBody (pos 600000000)); deed = refl }; took = refl }
+dated-again = record {
+  amount = pos 98000000;
+  stepped = true;
+  shown = pos 600000000;
+  correct = refl;
+  brings = record {
+    place = skipped 13 (skip 2 (passing 11));
+    cause = refl;
+    message = msg SetDateReq 32777 (TimeBody (pos 600000000));
+    deed = refl;
+  };
+  took = refl;
+}
 
 sends : OfSend 0 passes (skip 1 (passing 7)) passes.did (view port0 (of 1 (skip 1 (passing 7))))
 sends = record { message = msg SetDateReq 32777 (TimeBody (pos 600000000)); deed = refl; numbered = refl; is = refl }
@@ -198,18 +231,37 @@ names-differ x y l e = let same : y ≡ x = cc in not-same x y l (sym same)
 -- in these settings each node has a name of its own
 pub names-by : (strict : Bool) (h : List Line) → NamesApart (still strict) h
 names-by strict [] = tt
-names-by strict (l ∷ t) = (λ other older w e. let named : node_of other ∷ [] ≡ node_of l ∷ [] = e in let same : node_of other ≡ node_of l = cc in same, names-by strict t)
+names-by strict (l ∷ t) = (
+  λ other older w e. let named : node_of other ∷ [] ≡ node_of l ∷ [] = e in let same : node_of other ≡ node_of l = cc in same,
+  names-by strict t,
+)
 
 abbrev circle_steps : List Stage
 circle_steps =
     boots 0 1 7 ∷
     boots 0 2 9 ∷
     boots 0 3 11 ∷
-    record { step = step_at 300000000 1 Turned; acts = on port0 (Ring Elect) ∷ on port0 (Become Candidate) ∷ on port0 (Back (peer_of 1)) ∷ on port1 (Ring Elect) ∷ on port1 (Become Candidate) ∷ on port1 (Back (peer_of 1)) ∷ [] } ∷
-    record { step = step_at 305000000 1 Turned; acts = on port0 (Ring Window) ∷ on port0 (Become Master) ∷ on port1 (Ring Window) ∷ on port1 (Become Master) ∷ [] } ∷
+    record {
+      step = step_at 300000000 1 Turned;
+      acts = on port0 (Ring Elect) ∷ on port0 (Become Candidate) ∷ on port0 (Back (peer_of 1)) ∷
+          on port1 (Ring Elect) ∷ on port1 (Become Candidate) ∷ on port1 (Back (peer_of 1)) ∷ [];
+    } ∷
+    record {
+      step = step_at 305000000 1 Turned;
+      acts = on port0 (Ring Window) ∷ on port0 (Become Master) ∷ on port1 (Ring Window) ∷ on port1 (Become Master) ∷
+          [];
+    } ∷
     turns (at 310000000 1 0) (Post (Peer (peer_of 2)) (Message (loop_with 10)) ∷ []) ∷
-    record { step = step_at 310000001 2 (Came 0); acts = on port0 (Took (Peer (peer_of 1)) (Good (Message (loop_with 10)))) ∷ on port1 (Post (Peer (peer_of 3)) (Message (loop_with 9))) ∷ [] } ∷
-    record { step = step_at 310000002 3 (Came 1); acts = on port1 (Took (Peer (peer_of 2)) (Good (Message (loop_with 9)))) ∷ on port0 (Post (Peer (peer_of 1)) (Message (loop_with 8))) ∷ [] } ∷
+    record {
+      step = step_at 310000001 2 (Came 0);
+      acts = on port0 (Took (Peer (peer_of 1)) (Good (Message (loop_with 10)))) ∷
+          on port1 (Post (Peer (peer_of 3)) (Message (loop_with 9))) ∷ [];
+    } ∷
+    record {
+      step = step_at 310000002 3 (Came 1);
+      acts = on port1 (Took (Peer (peer_of 2)) (Good (Message (loop_with 9)))) ∷
+          on port0 (Post (Peer (peer_of 1)) (Message (loop_with 8))) ∷ [];
+    } ∷
     takes (at 310000003 1 1) 2 3 (Message (loop_with 8)) (Become Loose ∷ []) ∷
     []
 
@@ -220,19 +272,93 @@ circle k = after k circle_steps []
 circle-fits : Fits (still false) (circle 9)
 circle-fits =
     stages-fit false 9 circle_steps [] tt refl ((search debts) also (search debts) also (search debts) also (search debts) also
-    (search debts) also (search debts) also
-    (search debts, ((refl, record { rested = inl (omega arith); fits = inr (record { from = peer_of 1; message = loop_with 10; took = refl; kind = refl; name = refl; number = refl; other = λ e. names-differ 1 2 (omega arith) (sym e); left = 9; came = refl; goes = refl; few = omega arith }) }), tt)) also
-    (search debts, ((refl, record { rested = inl (omega arith); fits = inr (record { from = peer_of 2; message = loop_with 9; took = refl; kind = refl; name = refl; number = refl; other = λ e. names-differ 1 3 (omega arith) (sym e); left = 8; came = refl; goes = refl; few = omega arith }) }), tt)) also
-    (search debts, ((refl, λ leads. record { from = peer_of 3; message = loop_with 8; took = refl; kind = refl; name = refl; number = omega arith }), tt)) also tt)
+    (search debts) also (search debts) also (
+      search debts,
+      (
+        (
+          refl,
+          record {
+            rested = inl (omega arith);
+            fits = inr (record {
+              from = peer_of 1;
+              message = loop_with 10;
+              took = refl;
+              kind = refl;
+              name = refl;
+              number = refl;
+              other = λ e. names-differ 1 2 (omega arith) (sym e);
+              left = 9;
+              came = refl;
+              goes = refl;
+              few = omega arith;
+            });
+          },
+        ),
+        tt,
+      ),
+    ) also (
+      search debts,
+      (
+        (
+          refl,
+          record {
+            rested = inl (omega arith);
+            fits = inr (record {
+              from = peer_of 2;
+              message = loop_with 9;
+              took = refl;
+              kind = refl;
+              name = refl;
+              number = refl;
+              other = λ e. names-differ 1 3 (omega arith) (sym e);
+              left = 8;
+              came = refl;
+              goes = refl;
+              few = omega arith;
+            });
+          },
+        ),
+        tt,
+      ),
+    ) also
+    (search debts, ((refl, λ leads. record { from = peer_of 3; message = loop_with 8; took = refl; kind = refl; name = refl; number = omega arith }), tt)) also
+    tt)
 
 abbrev sets-out : LoopPost
-sets-out = record { post = does 310000000 1 Turned (Post (Peer (peer_of 2)) (Message (loop_with 10))); older = skip 1 (circle 6); to = peer_of 2; message = loop_with 10; deed = refl; kind = refl; hops = 10; hops_is = refl }
+sets-out = record {
+  post = does 310000000 1 Turned (Post (Peer (peer_of 2)) (Message (loop_with 10)));
+  older = skip 1 (circle 6);
+  to = peer_of 2;
+  message = loop_with 10;
+  deed = refl;
+  kind = refl;
+  hops = 10;
+  hops_is = refl;
+}
 
 abbrev goes-on : LoopPost
-goes-on = record { post = line (step_at 310000001 2 (Came 0)) port1 (Post (Peer (peer_of 3)) (Message (loop_with 9))); older = skip 1 (circle 7); to = peer_of 3; message = loop_with 9; deed = refl; kind = refl; hops = 9; hops_is = refl }
+goes-on = record {
+  post = line (step_at 310000001 2 (Came 0)) port1 (Post (Peer (peer_of 3)) (Message (loop_with 9)));
+  older = skip 1 (circle 7);
+  to = peer_of 3;
+  message = loop_with 9;
+  deed = refl;
+  kind = refl;
+  hops = 9;
+  hops_is = refl;
+}
 
 abbrev comes-back : LoopPost
-comes-back = record { post = does 310000002 3 (Came 1) (Post (Peer (peer_of 1)) (Message (loop_with 8))); older = skip 1 (circle 8); to = peer_of 1; message = loop_with 8; deed = refl; kind = refl; hops = 8; hops_is = refl }
+comes-back = record {
+  post = does 310000002 3 (Came 1) (Post (Peer (peer_of 1)) (Message (loop_with 8)));
+  older = skip 1 (circle 8);
+  to = peer_of 1;
+  message = loop_with 8;
+  deed = refl;
+  kind = refl;
+  hops = 8;
+  hops_is = refl;
+}
 
 pub loop_use : LoopUse
 loop_use = record {

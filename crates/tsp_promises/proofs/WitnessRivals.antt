@@ -1,7 +1,8 @@
 -- Elections and answers: rivals that meet, strict elections, a candidate that asks three times, and answers to
 -- strangers.
 use Rattle.std.proofs.Common.{pos, sym, ap, arith, ℕ, ◌≡◌, true, false, List, [], ◌∷◌, refl}
-use Rattle.tsp_rules.specs.Values.{Stamp, Msite, Request, Reply, Post, Become, Ring, Back, Backer, Quit, Acked, Elect, ResolveAlarm, Message, Accept, Ack, Election, QuitKind, Test, Nothing, PeerId, Peer, Stranger, Follow, Candidate}
+use Rattle.tsp_rules.specs.Values.{Stamp, Msite, Request, Reply, Post, Become, Ring, Back, Backer, Quit, Acked, Elect, ResolveAlarm, Message, Accept, Ack}
+use Rattle.tsp_rules.specs.Values.{Election, QuitKind, Test, Nothing, PeerId, Peer, Stranger, Follow, Candidate}
 use Rattle.tsp_base.specs.Words.{ReplyValue, Turned, Line, MessageValue, of, view, peer_of}
 use Rattle.tsp_promises.proofs.Histories.{line, msg, named_msg, skip, skipped, step_at, still}
 use Rattle.tsp_promises.proofs.HistoriesFit.{Stage, after, at, stages-fit, hands, ◌also◌, boots, turns, takes, stands, wins, acked}
@@ -20,7 +21,8 @@ rivals_steps =
     stands (at 360000001 1 0) ∷
     wins (at 365000001 1 0) ∷
     turns (at 400000000 0 0) (Ring ResolveAlarm ∷ Post (Peer (peer_of 1)) (Message (msg QuitKind 32776 Nothing)) ∷ []) ∷
-    takes (at 400000001 1 0) 2 0 (Message (msg QuitKind 32776 Nothing)) (Quit (peer_of 0) ∷ Post (Peer (peer_of 0)) (Message (msg Ack 32776 Nothing)) ∷ Become (Follow (peer_of 0)) ∷ []) ∷
+    takes (at 400000001 1 0) 2 0 (Message (msg QuitKind 32776 Nothing)) (Quit (peer_of 0) ∷ Post (Peer (peer_of 0)) (Message (msg Ack 32776 Nothing)) ∷
+    Become (Follow (peer_of 0)) ∷ []) ∷
     acked (at 400000500 0 0) 3 1 32776 ∷
     stands (at 710000000 1 0) ∷
     wins (at 715000000 1 0) ∷
@@ -117,8 +119,53 @@ votes-fit : Fits (still true) (after 11 votes_steps [])
 votes-fit =
     stages-fit true 11 votes_steps [] tt refl ((search debts) also (search debts) also (search debts) also (search debts) also
     (search debts) also
-    ((search debts) also (search debts) also (refl, record { peer = refl; other = λ e. not-same 0 1 (omega arith) (ap (λ (p : PeerId). p.0) (sym e)); new = refl; answer = (msg Accept 32775 Nothing); took = refl; kind = refl; acked = _; past = _; is = refl; deed = refl; first = _; older = _; ends = refl; message = (msg Election 32775 Nothing); asks = refl; election = refl; number = refl }) also tt) also (search debts) also (search debts) also (search debts) also
-    ((search debts) also (search debts) also (refl, record { peer = refl; other = λ e. not-same 1 2 (omega arith) (ap (λ (p : PeerId). p.0) (sym e)); new = refl; answer = (msg Accept 32777 Nothing); took = refl; kind = refl; acked = _; past = _; is = refl; deed = refl; first = _; older = _; ends = refl; message = (msg Election 32777 Nothing); asks = refl; election = refl; number = refl }) also tt) also (search debts))
+    ((search debts) also (search debts) also (
+      refl,
+      record {
+        peer = refl;
+        other = λ e. not-same 0 1 (omega arith) (ap (λ (p : PeerId). p.0) (sym e));
+        new = refl;
+        answer = (msg Accept 32775 Nothing);
+        took = refl;
+        kind = refl;
+        acked = _;
+        past = _;
+        is = refl;
+        deed = refl;
+        first = _;
+        older = _;
+        ends =
+            refl;
+        message = (msg Election 32775 Nothing);
+        asks = refl;
+        election = refl;
+        number = refl;
+      },
+    ) also tt) also (search debts) also (search debts) also
+    (search debts) also
+    ((search debts) also (search debts) also (
+      refl,
+      record {
+        peer = refl;
+        other = λ e. not-same 1 2 (omega arith) (ap (λ (p : PeerId). p.0) (sym e));
+        new = refl;
+        answer = (msg Accept 32777 Nothing);
+        took = refl;
+        kind = refl;
+        acked = _;
+        past = _;
+        is = refl;
+        deed = refl;
+        first = _;
+        older = _;
+        ends =
+            refl;
+        message = (msg Election 32777 Nothing);
+        asks = refl;
+        election = refl;
+        number = refl;
+      },
+    ) also tt) also (search debts))
 
 -- two nodes win strict elections, 65 s apart
 pub strict_elections : StrictElections

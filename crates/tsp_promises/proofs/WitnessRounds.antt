@@ -68,7 +68,18 @@ ended_use = record {
   ends = refl;
   amount = negsuc 50;
   moved = λ e. omega (arith, ints);
-  moves = record { count = 2; lo = negsuc 100; size = pos 101; mean = negsuc 50; deed = refl; node = refl; stepped = false; shown = pos 408000000; correct = refl; correct_node = refl };
+  moves = record {
+    count = 2;
+    lo = negsuc 100;
+    size = pos 101;
+    mean = negsuc 50;
+    deed = refl;
+    node = refl;
+    stepped = false;
+    shown = pos 408000000;
+    correct = refl;
+    correct_node = refl;
+  };
   sample = sample_in (best (peer_of 1) (view port0 (of 0 (skip 2 (after 7 unheard_steps (lead 5))))));
   reading = does 400000300 1 (Came 3) (Post (Peer (peer_of 0)) (Stamp (Reply reply1)));
   older = skip 1 (after 5 unheard_steps (lead 5));
@@ -83,7 +94,8 @@ twice_steps =
     turns (at 1000000000 0 0) (Ring Round ∷ Arm CloseAlarm 1008000000 ∷ Post (Peer (peer_of 1)) (Stamp (Request 7 2)) ∷ []) ∷
     replies (at 1000000280 1 0) 14 0 next ∷
     samples (at 1000000801 0 0) 15 1 next (negsuc 19) (pos 401) ∷
-    turns (at 1008000000 0 0) (Ring CloseAlarm ∷ Close 2 (negsuc 19) (pos 20) (negsuc 9) ∷ Correct (negsuc 9) false (pos 1007999916) ∷ Post (Peer (peer_of 1)) (Message (msg AdjTime 11 (TimeBody (pos 10)))) ∷ []) ∷
+    turns (at 1008000000 0 0) (Ring CloseAlarm ∷ Close 2 (negsuc 19) (pos 20) (negsuc 9) ∷ Correct (negsuc 9) false (pos 1007999916) ∷
+    Post (Peer (peer_of 1)) (Message (msg AdjTime 11 (TimeBody (pos 10)))) ∷ []) ∷
     obeys (at 1008000400 1 0) 16 0 (msg AdjTime 11 (TimeBody (pos 10))) (pos 10) false (pos 1008000416) ∷
     acked (at 1008000700 0 0) 17 1 11 ∷
     []
@@ -132,7 +144,9 @@ outlier_steps =
     samples (at 400000801 0 0) 8 1 reply1 (negsuc 100) (pos 401) ∷
     replies (at 402000000 2 0) 7 0 late ∷
     samples (at 402000001 0 0) 9 2 late (pos 999999) (pos 1000001) ∷
-    turns (at 408000000 0 0) (Ring CloseAlarm ∷ Close 2 (negsuc 100) (pos 101) (negsuc 50) ∷ Correct (negsuc 50) false (pos 408000000) ∷ Post (Peer (peer_of 1)) (Message (msg AdjTime 10 (TimeBody (pos 50)))) ∷ Post (Peer (peer_of 2)) (Message (msg AdjTime 12 (TimeBody (negsuc 1000049)))) ∷ []) ∷
+    turns (at 408000000 0 0) (Ring CloseAlarm ∷ Close 2 (negsuc 100) (pos 101) (negsuc 50) ∷ Correct (negsuc 50) false (pos 408000000) ∷
+    Post (Peer (peer_of 1)) (Message (msg AdjTime 10 (TimeBody (pos 50)))) ∷ Post (Peer (peer_of 2)) (Message (msg AdjTime 12 (TimeBody (negsuc 1000049))))
+    ∷ []) ∷
     obeys (at 408000400 1 0) 10 0 (msg AdjTime 10 (TimeBody (pos 50))) (pos 50) false (pos 408000399) ∷
     obeys (at 408000500 2 0) 11 0 (msg AdjTime 12 (TimeBody (negsuc 1000049))) (negsuc 1000049) false (pos 408000499) ∷
     acked (at 408000700 0 0) 12 1 10 ∷
@@ -190,7 +204,18 @@ near-agrees mean = record {
 }
 
 pub moves-little : Moves 0 mild-hop.close moves-own (negsuc 50)
-moves-little = record { count = 2; lo = negsuc 100; size = pos 101; mean = negsuc 50; deed = refl; node = refl; stepped = false; shown = pos 408000000; correct = refl; correct_node = refl }
+moves-little = record {
+  count = 2;
+  lo = negsuc 100;
+  size = pos 101;
+  mean = negsuc 50;
+  deed = refl;
+  node = refl;
+  stepped = false;
+  shown = pos 408000000;
+  correct = refl;
+  correct_node = refl;
+}
 
 -- what a peer that agrees takes, where the round ended with this Correct
 abbrev pub peer-corrects : {m : ℕ} {close c l : Line} {cpast past : List Line} {amount : ℤ} → Moves m close c amount →

@@ -2,11 +2,13 @@
 -- then comes a whole round.
 use Rattle.std.proofs.Common.{arith, ◌≡◌, ◌≢◌, ℕ, ◌-◌, Bool, true, false, ℤ, pos, negsuc, List, [], ◌∷◌, is_some, refl}
 use Rattle.std.proofs.lemmas.Int.{ints}
-use Rattle.tsp_rules.specs.Values.{Post, Arm, Ring, Close, Correct, Round, CloseAlarm, Message, Stamp, AdjTime, SetTime, SlaveUp, Nothing, TimeBody, Peer, Request}
+use Rattle.tsp_rules.specs.Values.{Post, Arm, Ring, Close, Correct, Round, CloseAlarm, Message, Stamp, AdjTime, SetTime, SlaveUp, Nothing, TimeBody, Peer}
+use Rattle.tsp_rules.specs.Values.{Request}
 use Rattle.tsp_base.specs.Words.{Came, Turned, Line, ReplyValue, dids, of, view, Within, heard, peer_of}
 use Rattle.tsp_group.specs.Groups.{better, goes_before, group_from}
 use Rattle.tsp_promises.specs.RoundUses.{OrdinaryUse, PrintsUse, SetUse, ShownUse}
-use Rattle.tsp_promises.proofs.HistoriesFit.{Stage, after, at, stages-fit, skip-fits, boots, turns, stands, wins, follows, sets_up, obeys, acked, replies, samples}
+use Rattle.tsp_promises.proofs.HistoriesFit.{Stage, after, at, stages-fit, skip-fits, boots, turns, stands, wins, follows, sets_up, obeys, acked, replies}
+use Rattle.tsp_promises.proofs.HistoriesFit.{samples}
 use Rattle.tsp_promises.proofs.Spots.{Computed, Corrects, but_for, corrects-at, hop_in, spot, untouched}
 use Rattle.tsp_promises.specs.{Chained.Hop, Fits.Fits, Kept.Example, OneError.FromSlaveUp, OneError.Taking}
 use Rattle.tsp_promises.proofs.{Histories.does, Histories.msg, Histories.skip, Histories.skipped, Histories.still, PremiseChecks.kept-by}
@@ -48,12 +50,14 @@ usual_steps =
     sets_up (at 305000004 0 0) 1 2 11 (pos 305000004) ∷
     obeys (at 305000005 2 0) 4 0 (msg SetTime 11 (TimeBody (pos 305000004))) (negsuc 0) true (pos 305000004) ∷
     acked (at 305000006 0 0) 5 2 11 ∷
-    turns (at 400000000 0 0) (Ring Round ∷ Arm CloseAlarm 408000000 ∷ Post (Peer (peer_of 1)) (Stamp (Request 7 0)) ∷ Post (Peer (peer_of 2)) (Stamp (Request 7 1)) ∷ []) ∷
+    turns (at 400000000 0 0) (Ring Round ∷ Arm CloseAlarm 408000000 ∷ Post (Peer (peer_of 1)) (Stamp (Request 7 0)) ∷
+    Post (Peer (peer_of 2)) (Stamp (Request 7 1)) ∷ []) ∷
     replies (at 400000300 1 0) 6 0 reply1 ∷
     replies (at 400000300 2 0) 7 0 reply2 ∷
     samples (at 400000801 0 0) 8 1 reply1 (negsuc 100) (pos 401) ∷
     samples (at 400000900 0 0) 9 2 reply2 (negsuc 150) (pos 450) ∷
-    turns (at 408000000 0 0) (Ring CloseAlarm ∷ Close 3 (negsuc 150) (pos 151) (negsuc 83) ∷ Correct (negsuc 83) false (pos 408000000) ∷ Post (Peer (peer_of 1)) (Message (msg AdjTime 10 (TimeBody (pos 17)))) ∷ Post (Peer (peer_of 2)) (Message (msg AdjTime 12 (TimeBody (pos 67)))) ∷ []) ∷
+    turns (at 408000000 0 0) (Ring CloseAlarm ∷ Close 3 (negsuc 150) (pos 151) (negsuc 83) ∷ Correct (negsuc 83) false (pos 408000000) ∷
+    Post (Peer (peer_of 1)) (Message (msg AdjTime 10 (TimeBody (pos 17)))) ∷ Post (Peer (peer_of 2)) (Message (msg AdjTime 12 (TimeBody (pos 67)))) ∷ []) ∷
     obeys (at 408000400 1 0) 10 0 (msg AdjTime 10 (TimeBody (pos 17))) (pos 17) false (pos 408000399) ∷
     obeys (at 408000500 2 0) 11 0 (msg AdjTime 12 (TimeBody (pos 67))) (pos 67) false (pos 408000499) ∷
     acked (at 408000700 0 0) 12 1 10 ∷
@@ -176,11 +180,19 @@ slaveup = does 305000000 1 Turned (Post (Peer (peer_of 0)) (Message (msg SlaveUp
 abbrev pub set-by : ℤ → Bool → ℤ → Line
 set-by amount stepped shown = does 305000002 1 (Came 2) (Correct amount stepped shown)
 
-abbrev pub set-taking : (amount : ℤ) (stepped : Bool) (shown : ℤ) (past : List Line) → Within (settime ∷ skip 1 (usual 8)) past → is_some (heard (dids (of 1 past))) ≡ true → Taking 0 (set-by amount stepped shown) past
+abbrev pub set-taking : (amount : ℤ) (stepped : Bool) (shown : ℤ) (past : List Line) → Within (settime ∷ skip 1 (usual 8)) past →
+    is_some (heard (dids (of 1 past))) ≡ true → Taking 0 (set-by amount stepped shown) past
 set-taking amount stepped shown past place took = record {
   post = settime;
   before = skip 1 (usual 8);
-  acts = record { amount = amount; stepped = stepped; shown = shown; correct = refl; brings = record { place = place; cause = refl; message = msg SetTime 9 (TimeBody (pos 305000001)); deed = refl }; took = took };
+  acts = record {
+    amount = amount;
+    stepped = stepped;
+    shown = shown;
+    correct = refl;
+    brings = record { place = place; cause = refl; message = msg SetTime 9 (TimeBody (pos 305000001)); deed = refl };
+    took = took;
+  };
   kind = refl;
   node = refl;
   first = settime.did;
@@ -188,7 +200,8 @@ set-taking amount stepped shown past place took = record {
   of_send = record { message = msg SetTime 9 (TimeBody (pos 305000001)); deed = refl; numbered = refl; is = refl };
 }
 
-abbrev pub set-source : (amount : ℤ) (stepped : Bool) (shown : ℤ) (past : List Line) (place : Within (settime ∷ skip 1 (usual 8)) past) (took : is_some (heard (dids (of 1 past))) ≡ true) → Within (slaveup ∷ skip 1 (usual 6)) past →
+abbrev pub set-source : (amount : ℤ) (stepped : Bool) (shown : ℤ) (past : List Line) (place : Within (settime ∷ skip 1 (usual 8)) past)
+    (took : is_some (heard (dids (of 1 past))) ≡ true) → Within (slaveup ∷ skip 1 (usual 6)) past →
     FromSlaveUp 0 (set-by amount stepped shown) past (set-taking amount stepped shown past place took) slaveup (skip 1 (usual 6))
 set-source amount stepped shown past place took up = record {
   message = msg SlaveUp 9 Nothing;

@@ -32,7 +32,8 @@ anew_steps =
     turns (at 1000000000 0 0) (Ring Round ∷ Arm CloseAlarm 1008000000 ∷ Post (Peer (peer_of 1)) (Stamp (Request 7 0)) ∷ []) ∷
     replies (at 1000000299 1 0) 17 0 again ∷
     samples (at 1000000801 0 0) 18 1 again (negsuc 101) (pos 401) ∷
-    turns (at 1008000000 0 0) (Ring CloseAlarm ∷ Close 2 (negsuc 101) (pos 102) (negsuc 50) ∷ Correct (negsuc 50) false (pos 1008000000) ∷ Post (Peer (peer_of 1)) (Message (msg AdjTime 12 (TimeBody (pos 51)))) ∷ []) ∷
+    turns (at 1008000000 0 0) (Ring CloseAlarm ∷ Close 2 (negsuc 101) (pos 102) (negsuc 50) ∷ Correct (negsuc 50) false (pos 1008000000) ∷
+    Post (Peer (peer_of 1)) (Message (msg AdjTime 12 (TimeBody (pos 51)))) ∷ []) ∷
     obeys (at 1008000400 1 0) 19 0 (msg AdjTime 12 (TimeBody (pos 51))) (pos 51) false (pos 1008000399) ∷
     acked (at 1008000700 0 0) 20 1 12 ∷
     []
@@ -43,8 +44,62 @@ anew k = after k anew_steps (usual 23)
 
 again-fits : Fits (still false) (anew 13)
 unfolding group_from goes_before better
-again-fits = stages-fit false 13 anew_steps (usual 23) fits refl
-    (search debts, (search debts, (search debts, (search debts, (search debts, (search debts, (search debts, (search debts, (search debts, (search debts, (((refl, tt), (search debts, (search debts, ((refl, record { rested = inl (omega arith); fits = adjusts-at (omega arith) refl refl refl refl (search debts) refl refl (omega arith) (record { corrects = refl; lives = refl }) refl refl refl refl (search debts) refl refl refl refl }), tt)))), search debts)))))))))))
+again-fits = stages-fit false 13 anew_steps (usual 23) fits refl (
+  search debts,
+  (
+    search debts,
+    (
+      search debts,
+      (
+        search debts,
+        (
+          search debts,
+          (
+            search debts,
+            (
+              search debts,
+              (
+                search debts,
+                (
+                  search debts,
+                  (
+                    search debts,
+                    (
+                      (
+                        (refl, tt),
+                        (
+                          search debts,
+                          (
+                            search debts,
+                            (
+                              (
+                                refl,
+                                record {
+                                  rested = inl (omega arith);
+                                  fits = adjusts-at (omega arith) refl refl refl refl (search debts) refl refl (omega arith) (record {
+                                    corrects = refl;
+                                    lives = refl;
+                                  }) refl refl refl
+                                      refl (search debts) refl refl refl refl;
+                                },
+                              ),
+                              tt,
+                            ),
+                          ),
+                        ),
+                      ),
+                      search debts,
+                    ),
+                  ),
+                ),
+              ),
+            ),
+          ),
+        ),
+      ),
+    ),
+  ),
+)
 
 abbrev again-hop : Hop
 again-hop = hop_in (anew 13) 4 9 15 (pos 401)
@@ -178,7 +233,12 @@ at_once k m = record {
 
 pub looks_use : LooksUse
 looks_use = record {
-  setting = record (still false) { drift = 100; tick = λ n. tick_at (rate_of n); small = omega arith; ticks = λ n. keeps_time (rate_of n) 100 (rates-small n) (omega arith) };
+  setting = record (still false) {
+    drift = 100;
+    tick = λ n. tick_at (rate_of n);
+    small = omega arith;
+    ticks = λ n. keeps_time (rate_of n) 100 (rates-small n) (omega arith);
+  };
   fits = tt;
   drifts = refl;
   fast = at_once 1 0;

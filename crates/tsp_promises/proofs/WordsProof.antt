@@ -25,9 +25,19 @@ pub record BootOf (n : ℕ) (world : List Line) (w count : ℕ) : Type 0 where
   pub lives : lives (dids (line ∷ of n older)) ≡ count
 
 boot-before : (n : ℕ) (l : Line) (world : List Line) (w count : ℕ) → BootOf n world w count → BootOf n (l ∷ world) w count
-boot-before n l world w count b = record { line = b.line; older = b.older; place = inr b.place; node = b.node; deed = b.deed; wall = b.wall; cause = b.cause; lives = b.lives }
+boot-before n l world w count b = record {
+  line = b.line;
+  older = b.older;
+  place = inr b.place;
+  node = b.node;
+  deed = b.deed;
+  wall = b.wall;
+  cause = b.cause;
+  lives = b.lives;
+}
 
-boot-deed : (setting : Setting) (n : ℕ) (l : Line) (world : List Line) (deed : Deed) → deed ≡ l.did.deed → node_of l ≡ n → Alive setting deed l.did (dids (of n world)) →
+boot-deed : (setting : Setting) (n : ℕ) (l : Line) (world : List Line) (deed : Deed) → deed ≡ l.did.deed → node_of l ≡ n →
+    Alive setting deed l.did (dids (of n world)) →
     (up (dids (of n world)) ≡ true → BootOf n world (word (dids (of n world))) (lives (dids (of n world)))) → up_after deed (up (dids (of n world))) ≡ true →
     BootOf n (l ∷ world) (word_after deed l.did.step.cause (word (dids (of n world)))) (lives_after deed (lives (dids (of n world))))
 boot-deed setting n l world Begins is node a h u = boot-before n l world _ _ (h u)
@@ -46,7 +56,8 @@ boot-deed setting n l world (Acts Boot) is node a h u =
 boot-deed setting n l world (Acts act) is node a h u = boot-before n l world _ _ (h a)
 
 -- the last boot of a node that is up
-pub boot_of : (setting : Setting) (n : ℕ) (world : List Line) → Fits setting world → up (dids (of n world)) ≡ true → BootOf n world (word (dids (of n world))) (lives (dids (of n world)))
+pub boot_of : (setting : Setting) (n : ℕ) (world : List Line) → Fits setting world → up (dids (of n world)) ≡ true →
+    BootOf n world (word (dids (of n world))) (lives (dids (of n world)))
 boot_of setting n =
     node_walk setting n (λ world own. up (dids own) ≡ true → BootOf n world (word (dids own)) (lives (dids own))) (λ u. absurd (true≢false (sym u)))
     (λ l world f node h u. boot-deed setting n l world l.did.deed refl node
@@ -57,7 +68,8 @@ pub own_words : (world : List Line) → Words world → OwnWords world
 own_words world words = Everywhere-from OwnWordsAt world (λ l s w other older v u x y same. Everywhere-at WordsAt l s world words w other older v u x y)
 
 -- after a boot the word is another
-pub word_moves : (setting : Setting) (n : ℕ) (s t : List Line) → Fits setting t → OwnWords t → Within s t → Fits setting s → up (dids (of n s)) ≡ true → up (dids (of n t)) ≡ true → lives (dids (of n s)) < lives (dids (of n t)) →
+pub word_moves : (setting : Setting) (n : ℕ) (s t : List Line) → Fits setting t → OwnWords t → Within s t → Fits setting s → up (dids (of n s)) ≡ true →
+    up (dids (of n t)) ≡ true → lives (dids (of n s)) < lives (dids (of n t)) →
     word (dids (of n s)) ≢ word (dids (of n t))
 word_moves setting n s t f words w fs us ut less same =
     let a = boot_of setting n s fs us in
@@ -65,7 +77,8 @@ word_moves setting n s t f words w fs us ut less same =
     let a_in : Within (a.line ∷ a.older) t = Within-through (a.line ∷ a.older) s t a.place w in
     elim (Within-comparable (a.line ∷ a.older) (b.line ∷ b.older) t a_in b.place) [
       | inl (inl e) ↦ absurd (equal a.line b.line a.older b.older e a.lives b.lives)
-      | inl (inr i) ↦ Everywhere-at OwnWordsAt b.line b.older t words b.place a.line a.older (word (dids (of n s))) (word (dids (of n t))) b.wall a.wall (a.node ∙ sym b.node) i b.deed a.deed b.cause a.cause same
+      | inl (inr i) ↦ Everywhere-at OwnWordsAt b.line b.older t words b.place a.line a.older (word (dids (of n s))) (word (dids (of n t))) b.wall a.wall
+          (a.node ∙ sym b.node) i b.deed a.deed b.cause a.cause same
       | inr (inl e) ↦ absurd (equal a.line b.line a.older b.older (sym e) a.lives b.lives)
       | inr (inr i) ↦
           let own = own_fits setting n t f in
@@ -74,9 +87,11 @@ word_moves setting n s t f words w fs us ut less same =
           absurd (omega (arith, o.lives, o2.lives, a.lives, b.lives))
     ]
   where
-    equal : (x y : Line) (p q : List Line) → x ∷ p ≡ y ∷ q → lives (dids (x ∷ of n p)) ≡ lives (dids (of n s)) → lives (dids (y ∷ of n q)) ≡ lives (dids (of n t)) → ⊥
+    equal : (x y : Line) (p q : List Line) → x ∷ p ≡ y ∷ q → lives (dids (x ∷ of n p)) ≡ lives (dids (of n s)) → lives (dids (y ∷ of n q)) ≡
+        lives (dids (of n t)) → ⊥
     equal x y p q e i j =
-        let k : lives (dids (x ∷ of n p)) ≡ lives (dids (y ∷ of n q)) = (let line : x ≡ y = cc in let rest : p ≡ q = cc in subst₂ (λ z r. lives (dids (x ∷ of n p)) ≡ lives (dids (z ∷ of n r))) line rest refl) in
+        let k : lives (dids (x ∷ of n p)) ≡ lives (dids (y ∷ of n q)) = (let line : x ≡ y = cc in let rest : p ≡ q = cc in
+        subst₂ (λ z r. lives (dids (x ∷ of n p)) ≡ lives (dids (z ∷ of n r))) line rest refl) in
         omega arith
 
     own_at2 : (x : Line) (p : List Line) → OwnFits setting (of n t) → node_of x ≡ n → Within (x ∷ p) t → OwnFits setting (x ∷ of n p)
@@ -95,7 +110,8 @@ asked-seen true d seen n m v h = omega (arith, h, asked-deed d.deed n (asked see
 asked-seen false d seen n m v h = h
 
 -- while the node doesn't boot, the number doesn't fall
-pub asked-mono : (setting : Setting) (q : Port) (s t : List Line) → OwnFits setting t → Within s t → lives (dids s) ≡ lives (dids t) → asked (view q s) ≤ asked (view q t)
+pub asked-mono : (setting : Setting) (q : Port) (s t : List Line) → OwnFits setting t → Within s t → lives (dids s) ≡ lives (dids t) →
+    asked (view q s) ≤ asked (view q t)
 asked-mono setting q s [] f w v = subst (λ k. asked (view q k) ≤ 0) (sym w) (omega arith)
 asked-mono setting q s (l ∷ t) f (inl e) v = subst (λ k. asked (view q k) ≤ asked (view q (l ∷ t))) (sym e) (omega arith)
 asked-mono setting q s (l ∷ t) f (inr w) v =
@@ -116,7 +132,8 @@ asked-seen-by : (b : Bool) (d : Did) (seen : List Seen) (n : ℕ) → asked seen
 asked-seen-by true d seen n h = asked-by d.deed (asked seen) n h
 asked-seen-by false d seen n h = posted-by d.deed (asked seen) n h
 
-asked-more : (n : ℕ) (q : Port) (l : Line) (world : List Line) (b : Bool) → (node_of l == n) ≡ b → asked (view q (of n world)) ≤ posted (dids world) → asked (view q (of n (l ∷ world))) ≤ posted (dids (l ∷ world))
+asked-more : (n : ℕ) (q : Port) (l : Line) (world : List Line) (b : Bool) → (node_of l == n) ≡ b → asked (view q (of n world)) ≤ posted (dids world) →
+    asked (view q (of n (l ∷ world))) ≤ posted (dids (l ∷ world))
 asked-more n q l world true e h = rw e (asked-seen-by ((l.port.0 == q.0) || is_shared l.did.deed) l.did (view q (of n world)) (posted (dids world)) h)
 asked-more n q l world false e h = rw e (posted-by l.did.deed (asked (view q (of n world))) (posted (dids world)) h)
 
@@ -130,14 +147,17 @@ pub record Asks (n : ℕ) (line : Line) (p : PeerId) (w c : ℕ) : Type 0 where
   pub node : node_of line ≡ n
   pub deed : line.did.deed ≡ Acts (Post (Peer p) (Stamp (Request w c)))
 
-pub request-fits : (setting : Setting) (n : ℕ) (q : Line) (a : List Line) (p : PeerId) (w c : ℕ) → Asks n q p w c → LineFits setting q a → RequestFits (view q.port (of n a)) w c
-request-fits setting n q a p w c s f = subst (λ k. RequestFits (view q.port (of k a)) w c) s.node (deed_fits setting q a (Acts (Post (Peer p) (Stamp (Request w c)))) s.deed f).fits
+pub request-fits : (setting : Setting) (n : ℕ) (q : Line) (a : List Line) (p : PeerId) (w c : ℕ) → Asks n q p w c → LineFits setting q a →
+    RequestFits (view q.port (of n a)) w c
+request-fits setting n q a p w c s f = subst (λ k. RequestFits (view q.port (of k a)) w c) s.node
+    (deed_fits setting q a (Acts (Post (Peer p) (Stamp (Request w c)))) s.deed f).fits
 
 pub asks-up : (setting : Setting) (n : ℕ) (q : Line) (a : List Line) (p : PeerId) (w c : ℕ) → Asks n q p w c → LineFits setting q a → up (dids (of n a)) ≡ true
 asks-up setting n q a p w c s f = subst (λ k. up (dids (of k a)) ≡ true) s.node (post_up setting q a (Peer p) (Stamp (Request w c)) f s.deed)
 
 -- an earlier request of the same life has another counter
-request-one : (setting : Setting) (n : ℕ) (q t : Line) (a b : List Line) (p r : PeerId) (w c v d : ℕ) → Fits setting (t ∷ b) → Asks n q p w c → Asks n t r v d → q.port ≡ t.port → Within (q ∷ a) b →
+request-one : (setting : Setting) (n : ℕ) (q t : Line) (a b : List Line) (p r : PeerId) (w c v d : ℕ) → Fits setting (t ∷ b) → Asks n q p w c → Asks n t r v d →
+    q.port ≡ t.port → Within (q ∷ a) b →
     lives (dids (of n (q ∷ a))) ≡ lives (dids (of n b)) → c ≡ d → ⊥
 request-one setting n q t a b p r w c v d f x y port i one count =
     let fq = fits_at setting (q ∷ a) b f.1 i in
@@ -157,18 +177,21 @@ request-one setting n q t a b p r w c v d f x y port i one count =
     counters c d x y e g h k s = omega arith
 
 -- no request is posted in the quiet time
-asks-rested : (setting : Setting) (n : ℕ) (t : Line) (b : List Line) (r : PeerId) (v d : ℕ) → Asks n t r v d → LineFits setting t b → boot_tick (dids (of n b)) + QUIET ≤ t.did.tick
+asks-rested : (setting : Setting) (n : ℕ) (t : Line) (b : List Line) (r : PeerId) (v d : ℕ) → Asks n t r v d → LineFits setting t b →
+    boot_tick (dids (of n b)) + QUIET ≤ t.did.tick
 asks-rested setting n t b r v d y f =
     let e = (deed_fits setting t b (Acts (Post (Peer r) (Stamp (Request v d)))) y.deed f).rested in
     let z : boot_tick (plain (view t.port (of (node_of t) b))) + QUIET ≤ t.did.tick = elim e [ inl k ↦ k | inr k ↦ absurd k ] in
     subst (λ k. boot_tick (dids (of k b)) + QUIET ≤ t.did.tick) y.node (subst (λ k. boot_tick k + QUIET ≤ t.did.tick) (plain_view t.port (of (node_of t) b)) z)
 
--- what keeps a request t from being of another life than an earlier one q: it stands at most a minute after that, or has its word where the words of a node's boots differ
+-- what keeps a request t from being of another life than an earlier one q: it stands at most a minute after that, or has its word where the words of a node's
+-- boots differ
 abbrev pub SameLife : Line → Line → List Line → ℕ → ℕ → Type 0
 SameLife q t h w v = (t.did.step.at ≤ q.did.step.at + 60000000) ⊎ (OwnWords h × (w ≡ v))
 
 -- two requests of one word, where the words of boots differ, are of one life
-words-one : (setting : Setting) (n : ℕ) (q t : Line) (a b : List Line) (p r : PeerId) (w c v d : ℕ) → Fits setting (t ∷ b) → OwnWords (t ∷ b) → Asks n q p w c → Asks n t r v d → Within (q ∷ a) b →
+words-one : (setting : Setting) (n : ℕ) (q t : Line) (a b : List Line) (p r : PeerId) (w c v d : ℕ) → Fits setting (t ∷ b) → OwnWords (t ∷ b) → Asks n q p w c →
+    Asks n t r v d → Within (q ∷ a) b →
     lives (dids (of n (q ∷ a))) < lives (dids (of n b)) → w ≡ v → ⊥
 words-one setting n q t a b p r w c v d f words x y i less same =
     let fq = fits_at setting (q ∷ a) b f.1 i in
@@ -181,7 +204,8 @@ words-one setting n q t a b p r w c v d f words x y i less same =
     word_moves setting n (q ∷ a) b f.1 words.1 i fq up_q (asks-up setting n t b r v d y f.0) less (sym word_q ∙ (same ∙ word_t))
 
 -- so they are, where one stands at most a minute after the other
-request-life : (setting : Setting) (n : ℕ) (q t : Line) (a b : List Line) (p r : PeerId) (w c v d : ℕ) → Fits setting (t ∷ b) → Asks n q p w c → Asks n t r v d → Within (q ∷ a) b → SameLife q t (t ∷ b) w v →
+request-life : (setting : Setting) (n : ℕ) (q t : Line) (a b : List Line) (p r : PeerId) (w c v d : ℕ) → Fits setting (t ∷ b) → Asks n q p w c →
+    Asks n t r v d → Within (q ∷ a) b → SameLife q t (t ∷ b) w v →
     lives (dids (of n (q ∷ a))) ≡ lives (dids (of n b))
 request-life setting n q t a b p r w c v d f x y i why =
     let s = since setting (of n (q ∷ a)) (of n b) (own_fits setting n b f.1) (Within-of n (q ∷ a) b i) in
@@ -200,7 +224,8 @@ request-life setting n q t a b p r w c v d f x y i why =
     ]
 
 -- a request of this life of its node is named by its port and counter, among the requests of that life and those that can't be of another one
-pub request_unique : (setting : Setting) (n : ℕ) (q t : Line) (a b h : List Line) (p r : PeerId) (w c v d : ℕ) → Fits setting h → Within (q ∷ a) h → Within (t ∷ b) h → Asks n q p w c → Asks n t r v d → q.port ≡ t.port →
+pub request_unique : (setting : Setting) (n : ℕ) (q t : Line) (a b h : List Line) (p r : PeerId) (w c v d : ℕ) → Fits setting h → Within (q ∷ a) h →
+    Within (t ∷ b) h → Asks n q p w c → Asks n t r v d → q.port ≡ t.port →
     SameLife q t h w v → lives (dids (of n b)) ≡ lives (dids (of n h)) → c ≡ d → q ∷ a ≡ t ∷ b
 request_unique setting n q t a b h p r w c v d f i j x y port why kept g = elim (Within-comparable (q ∷ a) (t ∷ b) h i j) [
   | inl (inl s) ↦ s
@@ -212,7 +237,8 @@ request_unique setting n q t a b h p r w c v d f i j x y port why kept g = elim 
   | inr (inr s) ↦
       let fq = fits_at setting (q ∷ a) h f i in
       let a_h : Within a h = Within-tail q a h i in
-      let b_t = since setting (of n b) (of n (t ∷ b)) (own_fits setting n (t ∷ b) (fits_at setting (t ∷ b) h f j)) (Within-of n b (t ∷ b) (inr (Within-all b))) in
+      let b_t = since setting (of n b) (of n (t ∷ b)) (own_fits setting n (t ∷ b) (fits_at setting (t ∷ b) h f j)) (Within-of n b (t ∷ b) (inr (Within-all b)))
+      in
       let t_a = since setting (of n (t ∷ b)) (of n a) (own_fits setting n a fq.1) (Within-of n (t ∷ b) a s) in
       let a_now = since setting (of n a) (of n h) (own_fits setting n h f) (Within-of n a h a_h) in
       absurd (request-one setting n t q b a r p v d w c fq y x (sym port) s (omega (arith, b_t.lives, t_a.lives, a_now.lives, kept)) (sym g))

@@ -1,6 +1,7 @@
 -- What acknowledgments owe to their port's past: those that are posted and those that are taken.
 use Rattle.std.specs.Prelude.{◌≡◌, ℕ, true, List, ◌∷◌, Some}
-use Rattle.tsp_rules.specs.Values.{Post, Message, Kind, Ack, AdjTime, Conflict, Date, DateAck, Msite, MsiteReq, QuitKind, SetDate, SetDateReq, SetTime, Test, TraceOff, TraceOn, PeerId, Place, Peer, Stranger}
+use Rattle.tsp_rules.specs.Values.{Post, Message, Kind, Ack, AdjTime, Conflict, Date, DateAck, Msite, MsiteReq, QuitKind, SetDate, SetDateReq, SetTime, Test}
+use Rattle.tsp_rules.specs.Values.{TraceOff, TraceOn, PeerId, Place, Peer, Stranger}
 use Rattle.tsp_base.specs.Words.{Did, Acts, Seen, Here, MessageValue, is_correction, open_to, last_taken, Receives, TakesFrom}
 
 -- the node's last Correct took the correction with this number, from that peer and on this port; a stranger's is never
@@ -48,4 +49,5 @@ pub record EndsFits (before : List Seen) (p : PeerId) (m : MessageValue) : Type 
 
 -- what an Acked owes, by the message of the open send to p that it ends
 abbrev pub AckedFits : List Seen → PeerId → Type 0
-AckedFits before p = (first : Did) (older : List Seen) (m : MessageValue) → open_to p before ≡ Here first ∷ older → first.deed ≡ Acts (Post (Peer p) (Message m)) → EndsFits before p m
+AckedFits before p = (first : Did) (older : List Seen) (m : MessageValue) → open_to p before ≡ Here first ∷ older → first.deed ≡
+    Acts (Post (Peer p) (Message m)) → EndsFits before p m

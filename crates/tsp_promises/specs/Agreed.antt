@@ -1,8 +1,10 @@
 -- The promise that the clocks that one round corrected agree.
 use Rattle.std.specs.Prelude.{◌≡◌, ◌⊎◌, ℕ, ◌+◌, ℤ, pos, ◌+ℤ◌, Bool, true, List, ◌∷◌, Some, is_some}
 use Rattle.tsp_rules.specs.Values.{Act, Post, Correct, Datagram, Message, AdjTime, PeerId, Place, Peer, Port}
-use Rattle.tsp_base.specs.Words.{Came, Acts, Did, Seen, Here, Line, from_act, of, dids, view, MessageValue, all_corrects, lives, Within, acting, Sampled, best, Undisturbed, peer_of, posted}
-use Rattle.tsp_promises.specs.{ClockAt.ClocksWithin, ClockAt.drifted, Everywhere.Everywhere, Everywhere.Lasting, Fits.node_of, Once.ActsOn, Once.OfSend, Setting.Setting}
+use Rattle.tsp_base.specs.Words.{Came, Acts, Did, Seen, Here, Line, from_act, of, dids, view, MessageValue, all_corrects, lives, Within, acting, Sampled, best}
+use Rattle.tsp_base.specs.Words.{Undisturbed, peer_of, posted}
+use Rattle.tsp_promises.specs.{ClockAt.ClocksWithin, ClockAt.drifted, Everywhere.Everywhere, Everywhere.Lasting, Fits.node_of, Once.ActsOn, Once.OfSend}
+use Rattle.tsp_promises.specs.{Setting.Setting}
 use Rattle.tsp_promises.specs.StepFacts.{closed}
 
 -- the reading of a sample that port q of m has at a place is r: the post of the reply that the Sample's step took
@@ -70,7 +72,8 @@ pub record UnchangedBut (m : ℕ) (close : Line) (cpast h : List Line) : Type 0 
 -- clocks since, and of their errors and drift. Drift is twice `width` of the time since each reading
 abbrev pub OfPeers : (ℕ → ℕ → ℤ → Type 0) → Setting → List Line → ℕ → Type 0
 OfPeers Holds setting h t = (m : ℕ) (close : Line) (cpast : List Line) (c d : Line) (past qast : List Line) (r q : Line) (rolder qolder : List Line) (e f : ℤ) →
-    FromRound m close cpast c past r rolder e → FromRound m close cpast d qast q qolder f → Unchanged (node_of c) (c ∷ past) h → Unchanged (node_of d) (d ∷ qast) h →
+    FromRound m close cpast c past r rolder e → FromRound m close cpast d qast q qolder f → Unchanged (node_of c) (c ∷ past) h →
+    Unchanged (node_of d) (d ∷ qast) h →
     Holds (node_of c) (node_of d) ((e +ℤ f) +ℤ pos (drifted setting t r + drifted setting t q))
 
 -- the same of a node that a Close corrected and the master that closed, and of the error and drift
@@ -93,7 +96,8 @@ pub record ClocksAgree (setting : Setting) (h : List Line) (t : ℕ) : Type 0 wh
 
 -- an ADJTIME that a Close begins rests on a sample of its addressee's clock
 abbrev pub RestsOnSample : Line → List Seen → Type 0
-RestsOnSample l seen = (p : PeerId) (m : MessageValue) (close : Did) (older : List Seen) → l.did.deed ≡ Acts (Post (Peer p) (Message m)) → m.kind ≡ AdjTime → acting seen ≡ true →
+RestsOnSample l seen = (p : PeerId) (m : MessageValue) (close : Did) (older : List Seen) → l.did.deed ≡ Acts (Post (Peer p) (Message m)) → m.kind ≡ AdjTime →
+    acting seen ≡ true →
     closed seen ≡ Here close ∷ older → is_some (best p older) ≡ true
 
 -- at a line: what it begins rests on a sample, and where it is an act the clocks agree at its time

@@ -8,7 +8,8 @@ use Rattle.tsp_base.specs.Words.{Line, of, dids, last_correct, rest, up}
 -- the shown values of k and l differ by at most b and what is still to be slewed on each; so by at most b, once both
 -- show their targets
 abbrev pub ShownWithin : Setting → List Line → ℕ → ℕ → ℕ → ℤ → Type 0
-ShownWithin setting h t k l b = pos (nat_abs (shown_at setting k h t -ℤ shown_at setting l h t)) ≤ℤ ((b +ℤ pos (nat_abs (left_at setting k h t))) +ℤ pos (nat_abs (left_at setting l h t)))
+ShownWithin setting h t k l b = pos (nat_abs (shown_at setting k h t -ℤ shown_at setting l h t)) ≤ℤ ((b +ℤ pos (nat_abs (left_at setting k h t))) +ℤ pos
+    (nat_abs (left_at setting l h t)))
 
 -- nothing is left to slew on node n at true time t: its clock shows its target
 abbrev pub HasMet : Setting → ℕ → List Line → ℕ → Type 0
@@ -22,7 +23,8 @@ pub record ShownBy (setting : Setting) (h : List Line) (t : ℕ) (k l : ℕ) (b 
 -- after the history h, at true time t: wherever the clocks of two nodes that have booted differ by at most b, so do
 -- their shown values
 abbrev pub ShownAsClocks : Setting → List Line → ℕ → Type 0
-ShownAsClocks setting h t = (k l : ℕ) (b : ℤ) → up (dids (of k h)) ≡ true → up (dids (of l h)) ≡ true → ClocksWithin setting h t k l b → ShownBy setting h t k l b
+ShownAsClocks setting h t = (k l : ℕ) (b : ℤ) → up (dids (of k h)) ≡ true → up (dids (of l h)) ≡ true → ClocksWithin setting h t k l b →
+    ShownBy setting h t k l b
 
 -- after the history h, at true time t, wherever Agreed and Chained have it of clocks: of two peers, of a peer and its master, down a chain,
 -- across two, and over a tree
@@ -45,7 +47,8 @@ ShownNear setting = Everywhere (λ l world. (t : ℕ) → ShownAsClocks setting 
 -- clock in the time d after that. Then l shows at least what k showed at t, plus d, less drift, one in two hundred, and
 -- b
 abbrev pub WaitedFor : Setting → List Line → Type 0
-WaitedFor setting h = (k l : ℕ) (s : List Line) (t d : ℕ) (b : ℤ) → Unstepped l s h → ReadTimes l s h t (t + d) → pos (nat_abs (shown_at setting k s t -ℤ shown_at setting l s t)) ≤ℤ b →
+WaitedFor setting h = (k l : ℕ) (s : List Line) (t d : ℕ) (b : ℤ) → Unstepped l s h → ReadTimes l s h t (t + d) →
+    pos (nat_abs (shown_at setting k s t -ℤ shown_at setting l s t)) ≤ℤ b →
     ((pos d -ℤ pos (shown_width setting.drift d)) -ℤ b) ≤ℤ (shown_at setting l h (t + d) -ℤ shown_at setting k s t)
 
 -- so the stamps are in order after a wait that is long enough to make this more than 0

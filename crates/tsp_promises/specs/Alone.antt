@@ -32,8 +32,10 @@ pub record IsNew (past : NodePast) (s : PortSetup) : Type 0 where
 
 -- after any steps, such a node answers what its only port answers
 abbrev pub AnswersAlone : Type 0
-AnswersAlone = (past : NodePast) (s : PortSetup) (hs : List NodeHappening) (step : Step) (x : ℕ) (g : NodeGiven) → IsNew past s → NodeOrdered s.own.0 1 (record { step = step; tick = x; makes = NodeAnswers g } ∷ hs) →
-    answers_all g x (in_node_step step x (node_ran hs past)) ≡ placed first_port (answers (given_alone g) x (on_port first_port (in_node_step step x (node_ran hs past))))
+AnswersAlone = (past : NodePast) (s : PortSetup) (hs : List NodeHappening) (step : Step) (x : ℕ) (g : NodeGiven) → IsNew past s →
+    NodeOrdered s.own.0 1 (record { step = step; tick = x; makes = NodeAnswers g } ∷ hs) →
+    answers_all g x (in_node_step step x (node_ran hs past)) ≡ placed first_port (answers (given_alone g) x
+    (on_port first_port (in_node_step step x (node_ran hs past))))
 
 -- a node with one port boots as that port does
 abbrev pub BootsAlone : Type 0
@@ -41,4 +43,5 @@ BootsAlone = (x : ℕ) (past : NodePast) (s : PortSetup) → past.ports ≡ s �
 
 -- so it runs as that port does
 abbrev pub RunsAlone : Type 0
-RunsAlone = (past : NodePast) (s : PortSetup) (hs : List NodeHappening) → IsNew past s → NodeOrdered s.own.0 1 hs → on_port first_port (node_ran hs past) ≡ ran (steps_alone hs) (on_port first_port past)
+RunsAlone = (past : NodePast) (s : PortSetup) (hs : List NodeHappening) → IsNew past s → NodeOrdered s.own.0 1 hs → on_port first_port (node_ran hs past) ≡
+    ran (steps_alone hs) (on_port first_port past)

@@ -1,6 +1,7 @@
 -- The promise that what is asked is answered, and that a stranger gets at most one answer for one datagram.
 use Rattle.std.specs.Prelude.{◌≡◌, ◌≤◌, ◌⊎◌, ℕ, ◌+◌, Bool, true, false, List, [], ◌∷◌, None}
-use Rattle.tsp_rules.specs.Values.{Took, Post, Quit, Datagram, Message, Stamp, Taken, Good, Kind, Ack, DateAck, QuitKind, PeerId, Place, Peer, Stranger, Port, Request, Reply}
+use Rattle.tsp_rules.specs.Values.{Took, Post, Quit, Datagram, Message, Stamp, Taken, Good, Kind, Ack, DateAck, QuitKind, PeerId, Place, Peer, Stranger, Port}
+use Rattle.tsp_rules.specs.Values.{Request, Reply}
 use Rattle.tsp_base.specs.Words.{Acts, Begins, Deed, Did, Line, dids, of, view, MessageValue, TakesFrom, heard}
 use Rattle.tsp_promises.specs.{DeedFits.answer_name, Everywhere.Everywhere, Fits.node_of, Setting.Setting, Setting.setup_of}
 use Rattle.tsp_promises.specs.StepFacts.{unacknowledged, unheeded}
@@ -36,7 +37,8 @@ QuitsAt l world = (p : PeerId) → l.did.deed ≡ Acts (Quit p) → HeedsQuit l 
 -- at the end of each step, on each port: the QUIT of a peer that it took in that step, from another than its own node and
 -- while it wasn't Starting, has its Quit after it
 pub record Heeded (setting : Setting) (world : List Line) : Type 0 where
-  pub marks : Everywhere (λ (l : Line) (before : List Line). l.did.deed ≡ Begins → (q : Port) → unheeded (setup_of setting (node_of l) q).peers (view q (of (node_of l) before)) ≡ None) world
+  pub marks : Everywhere (λ (l : Line) (before : List Line). l.did.deed ≡ Begins → (q : Port) →
+      unheeded (setup_of setting (node_of l) q).peers (view q (of (node_of l) before)) ≡ None) world
   pub ends : (n : ℕ) (q : Port) → unheeded (setup_of setting n q).peers (view q (of n world)) ≡ None
 
 -- at the end of each step, on each port: if the step has a Quit, an ACK with the QUIT's number was posted to its sender
@@ -91,7 +93,8 @@ pub record AnswersStranger (setting : Setting) (l : Line) (world : List Line) (d
   pub took : TakesFrom (view l.port (of (node_of l) world)) Stranger asked
   pub answer : AnswersWith asked datagram
   pub first : has_answered (dids (of (node_of l) world)) ≡ false
-  pub named : (m message : MessageValue) → datagram ≡ Message m → asked ≡ Message message → m.name ≡ answer_name message.kind (setup_of setting (node_of l) l.port) (view l.port (of (node_of l) world))
+  pub named : (m message : MessageValue) → datagram ≡ Message m → asked ≡ Message message → m.name ≡
+      answer_name message.kind (setup_of setting (node_of l) l.port) (view l.port (of (node_of l) world))
 
 abbrev pub StrangersAt : Setting → Line → List Line → Type 0
 StrangersAt setting l world = (datagram : Datagram) → l.did.deed ≡ Acts (Post Stranger datagram) → AnswersStranger setting l world datagram

@@ -42,7 +42,8 @@ pub record Hops (m : ℕ) (x : Hop) (h : List Line) : Type 0 where
 -- further links: each rests on a Close of the node that the one before it corrects, after that Correct
 abbrev pub IsChain : Hop → List Hop → List Line → Type 0
 IsChain first [] h = Unit {0}
-IsChain first (x ∷ rest) h = Hops (node_at (last_hop first rest)) x h × Within ((last_hop first rest).correct ∷ (last_hop first rest).past) x.cpast × IsChain first rest h
+IsChain first (x ∷ rest) h = Hops (node_at (last_hop first rest)) x h × Within ((last_hop first rest).correct ∷ (last_hop first rest).past) x.cpast ×
+    IsChain first rest h
 
 -- how far the last node of a chain may be off the one whose Close is the first link's
 abbrev pub chain_bound : Setting → ℕ → Hop → List Hop → ℤ
@@ -55,12 +56,14 @@ OfChain Holds setting h t = (m : ℕ) (first : Hop) (rest : List Hop) → Hops m
 
 -- across: of the last nodes of two chains that begin with one Close; its master may have changed since
 abbrev pub OfChains : (ℕ → ℕ → ℤ → Type 0) → Setting → List Line → ℕ → Type 0
-OfChains Holds setting h t = (m : ℕ) (a b : Hop) (xs ys : List Hop) → Hops m a h → Hops m b h → a.close ≡ b.close → a.cpast ≡ b.cpast → IsChain a xs h → IsChain b ys h →
+OfChains Holds setting h t = (m : ℕ) (a b : Hop) (xs ys : List Hop) → Hops m a h → Hops m b h → a.close ≡ b.close → a.cpast ≡ b.cpast → IsChain a xs h →
+    IsChain b ys h →
     Holds (node_at (last_hop a xs)) (node_at (last_hop b ys)) (chain_bound setting t a xs +ℤ chain_bound setting t b ys)
 
 -- over a tree: of the last nodes of two chains that begin with two Closes of one node, which is left alone since each of them
 abbrev pub OfTree : (ℕ → ℕ → ℤ → Type 0) → Setting → List Line → ℕ → Type 0
-OfTree Holds setting h t = (g : ℕ) (a b : Hop) (xs ys : List Hop) → Hops g a h → Hops g b h → UnchangedBut g a.close a.cpast h → UnchangedBut g b.close b.cpast h → IsChain a xs h → IsChain b ys h →
+OfTree Holds setting h t = (g : ℕ) (a b : Hop) (xs ys : List Hop) → Hops g a h → Hops g b h → UnchangedBut g a.close a.cpast h →
+    UnchangedBut g b.close b.cpast h → IsChain a xs h → IsChain b ys h →
     Holds (node_at (last_hop a xs)) (node_at (last_hop b ys)) (chain_bound setting t a xs +ℤ chain_bound setting t b ys)
 
 -- the clocks of such nodes differ by at most that

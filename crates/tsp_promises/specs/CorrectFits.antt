@@ -1,7 +1,8 @@
 -- What a Correct owes to its port's past.
 use Rattle.std.specs.Prelude.{◌≡◌, ◌≤◌, ℕ, ◌+◌, nat_lt, nat_abs, ℤ, ◌-ℤ◌, Bool, true, false, ◌||◌, List, ◌∷◌, Option, None, Some}
 use Rattle.tsp_rules.specs.Values.{Took, Close, Message, Good, Kind, SetTime, PeerId, Place, Peer, Follow, Master, DATEHOLD, GAP, MAXADJ, QUIET}
-use Rattle.tsp_base.specs.Words.{Did, Acts, Seen, Here, plain, MessageValue, last_correct, boot_tick, shown, ticket, target, Received, message_in, role, Dating, is_correction, is_date_request, last_date, sets_date, Setup, heard, time_in}
+use Rattle.tsp_base.specs.Words.{Did, Acts, Seen, Here, plain, MessageValue, last_correct, boot_tick, shown, ticket, target, Received, message_in, role, Dating}
+use Rattle.tsp_base.specs.Words.{is_correction, is_date_request, last_date, sets_date, Setup, heard, time_in}
 use Rattle.tsp_promises.specs.RoundFits.{group_mean}
 
 -- by how many microseconds a correction moves a clock with this target: an ADJTIME carries the amount, a SETTIME the
@@ -49,7 +50,8 @@ pub record TakesDate (here : Did) (before : List Seen) (amount : ℤ) : Type 0 w
   pub kind : sets_date message.kind ≡ true
   pub leads : role before ≡ Master
   pub amount_is : amount ≡ time_in message.body -ℤ target (plain before) here.tick
-  pub again : (p : PeerId) (d : Dating) → from ≡ Peer p → is_date_request message.kind ≡ true → last_date p before ≡ Some d → d.number ≡ message.number → d.at + DATEHOLD ≤ here.tick
+  pub again : (p : PeerId) (d : Dating) → from ≡ Peer p → is_date_request message.kind ≡ true → last_date p before ≡ Some d → d.number ≡ message.number →
+      d.at + DATEHOLD ≤ here.tick
 
 -- why a clock is corrected: by the node's own round, by its master, or by a date
 pub data WhyCorrect (setup : Setup) (here : Did) (before : List Seen) (amount : ℤ) : Type 0 where

@@ -1,7 +1,9 @@
 -- What the post of a correction, an ADJTIME or a SETTIME, owes to its port's past.
 use Rattle.std.specs.Prelude.{◌≡◌, ◌≤◌, ◌<◌, ◌⊎◌, ℕ, ◌+◌, ◌%◌, ℤ, pos, neg_ℤ, ◌-ℤ◌, ◌<ℤ◌, Bool, true, false, List, ◌∷◌, None, Some}
-use Rattle.tsp_rules.specs.Values.{Post, Close, Correct, Message, AdjTime, SetTime, SlaveUp, PeerId, Peer, Master, CLOSE, LAST, LIMIT, QUIET, REUSE, SLACK, TRIES}
-use Rattle.tsp_base.specs.Words.{Did, Acts, Seen, Here, plain, MessageValue, boot_tick, target, Within, role, acting, taken, Sampled, best, started, open_to, posts_of, last_to, last_post, is_acknowledged, Receives, Undisturbed, time_in}
+use Rattle.tsp_rules.specs.Values.{Post, Close, Correct, Message, AdjTime, SetTime, SlaveUp, PeerId, Peer, Master, CLOSE, LAST, LIMIT, QUIET, REUSE, SLACK}
+use Rattle.tsp_rules.specs.Values.{TRIES}
+use Rattle.tsp_base.specs.Words.{Did, Acts, Seen, Here, plain, MessageValue, boot_tick, target, Within, role, acting, taken, Sampled, best, started, open_to}
+use Rattle.tsp_base.specs.Words.{posts_of, last_to, last_post, is_acknowledged, Receives, Undisturbed, time_in}
 use Rattle.tsp_promises.specs.StepFacts.{closed}
 
 -- a repeat posts the message of the open send again, at most LAST ticks after its first post, and that was posted fewer
@@ -32,24 +34,25 @@ pub record FollowedBy (close : Did) (past before : List Seen) (mean : ℤ) : Typ
 
 -- this Close, the last one of the step, begins the correction before the step takes anything. It rests on the best
 -- sample of p in its round: the number is the sample's ticket, and an ADJTIME carries the mean less the sample's diff
-pub record FromClose (here : Did) (before : List Seen) (p : PeerId) (m : MessageValue) (close : Did) (past : List Seen) (mean : ℤ) (sample : Sampled) : Type 0 where
-  pub is : closed before ≡ Here close ∷ past
-  pub count : ℕ
-  pub lo : ℤ
-  pub size : ℤ
-  pub deed : close.deed ≡ Acts (Close count lo size mean)
-  pub at : close.step.at ≡ here.step.at
-  pub start : Did
-  pub idle : List Seen
-  pub start_is : started past ≡ Here start ∷ idle
-  pub soon : close.tick ≤ start.tick + (CLOSE + SLACK)
-  pub undisturbed : Undisturbed (plain idle) (plain past)
-  pub best_is : best p past ≡ Some sample
-  pub number : m.number ≡ sample.ticket
-  pub value : m.kind ≡ AdjTime → time_in m.body ≡ mean -ℤ sample.diff
-  pub untaken : taken before ≡ None
-  -- the clock moved by the mean, or the mean is 0
-  pub followed : (mean ≡ pos 0) ⊎ FollowedBy close past before mean
+pub record FromClose (here : Did) (before : List Seen) (p : PeerId) (m : MessageValue) (close : Did) (past : List Seen) (mean : ℤ) (sample : Sampled) : Type 0
+  where
+    pub is : closed before ≡ Here close ∷ past
+    pub count : ℕ
+    pub lo : ℤ
+    pub size : ℤ
+    pub deed : close.deed ≡ Acts (Close count lo size mean)
+    pub at : close.step.at ≡ here.step.at
+    pub start : Did
+    pub idle : List Seen
+    pub start_is : started past ≡ Here start ∷ idle
+    pub soon : close.tick ≤ start.tick + (CLOSE + SLACK)
+    pub undisturbed : Undisturbed (plain idle) (plain past)
+    pub best_is : best p past ≡ Some sample
+    pub number : m.number ≡ sample.ticket
+    pub value : m.kind ≡ AdjTime → time_in m.body ≡ mean -ℤ sample.diff
+    pub untaken : taken before ≡ None
+    -- the clock moved by the mean, or the mean is 0
+    pub followed : (mean ≡ pos 0) ⊎ FollowedBy close past before mean
 
 -- some Close of the step begins the correction
 pub record AtClose (here : Did) (before : List Seen) (p : PeerId) (m : MessageValue) : Type 0 where

@@ -17,7 +17,8 @@ SetsAt setting l world = (amount : ℤ) (stepped : Bool) (shown : ℤ) (from : P
 
 -- an Acked that ends the send of a date comes after a Correct that takes a post of it
 abbrev pub DateConfirmedAt : Line → List Line → Type 0
-DateConfirmedAt l world = (p : PeerId) (first : Did) (older : List Seen) (m : MessageValue) → l.did.deed ≡ Acts (Acked p) → open_to p (view l.port (of (node_of l) world)) ≡ Here first ∷ older →
+DateConfirmedAt l world = (p : PeerId) (first : Did) (older : List Seen) (m : MessageValue) → l.did.deed ≡ Acts (Acked p) →
+    open_to p (view l.port (of (node_of l) world)) ≡ Here first ∷ older →
     first.deed ≡ Acts (Post (Peer p) (Message m)) → m.kind ≡ SetDateReq → Acted (node_of l) p.0 world first older
 
 -- dates are set so in every history. What is acknowledged was set, if no peer's datagram is forged, none lives longer

@@ -1,7 +1,11 @@
 -- What each deed owes to its port's past, and to what the port is set up with.
 use Rattle.std.specs.Prelude.{◌≡◌, ℕ, ◌≤◌, ◌⊎◌, ◌+◌, ◌%◌, Bool, true, false, if◌then◌else◌, List, None}
-use Rattle.tsp_rules.specs.Values.{Act, Took, Post, Become, Arm, Back, Backer, Close, Correct, Sample, Acked, Quit, CloseAlarm, Datagram, Message, Stamp, Kind, Accept, Ack, AdjTime, Conflict, Date, DateAck, DateReq, Election, LoopKind, MasterAck, MasterReq, MasterUp, Msite, MsiteReq, QuitKind, Refuse, ResolveKind, SetDate, SetDateReq, SetTime, SlaveUp, Test, TraceOff, TraceOn, PeerId, Place, Peer, Stranger, Request, Reply, QUIET}
-use Rattle.tsp_base.specs.Words.{Deed, Begins, Acts, Did, Seen, plain, MessageValue, boot_tick, ticket, word, acting, kept_name, role, taken, begun, Setup, TakesFrom, heard}
+use Rattle.tsp_rules.specs.Values.{Act, Took, Post, Become, Arm, Back, Backer, Close, Correct, Sample, Acked, Quit, CloseAlarm, Datagram, Message, Stamp, Kind}
+use Rattle.tsp_rules.specs.Values.{Accept, Ack, AdjTime, Conflict, Date, DateAck, DateReq, Election, LoopKind, MasterAck, MasterReq, MasterUp, Msite, MsiteReq}
+use Rattle.tsp_rules.specs.Values.{QuitKind, Refuse, ResolveKind, SetDate, SetDateReq, SetTime, SlaveUp, Test, TraceOff, TraceOn, PeerId, Place, Peer, Stranger}
+use Rattle.tsp_rules.specs.Values.{Request, Reply, QUIET}
+use Rattle.tsp_base.specs.Words.{Deed, Begins, Acts, Did, Seen, plain, MessageValue, boot_tick, ticket, word, acting, kept_name, role, taken, begun, Setup}
+use Rattle.tsp_base.specs.Words.{TakesFrom, heard}
 use Rattle.tsp_promises.specs.{AckFits.AckFits, AckFits.AckedFits, CorrectFits.CorrectFits, DateFits.DateAckFits, DateFits.PassOnFits}
 use Rattle.tsp_promises.specs.{CorrectionFits.CorrectionFits, CorrectionFits.RepeatFits, LoopFits.LoopFits, QuitFits.QuitFits}
 use Rattle.tsp_promises.specs.HoldFits.{AcceptFits, BackFits, BackerFits, BecomeFits}

@@ -23,7 +23,8 @@ behind setting m c h t = clock_at setting m h t -ℤ clock_at setting (node_of c
 -- from the Correct on: the clock is behind by the time that the SETTIME was on its way, its repeats counted, give or
 -- take drift
 pub record BehindBy (setting : Setting) (m : ℕ) (c : Line) (past h : List Line) (s : SetBy m c past h) (t : ℕ) : Type 0 where
-  pub near : pos (nat_abs (behind setting m c h t -ℤ pos (on_way m c past h s))) ≤ℤ pos (width setting.drift (t - s.taking.first.step.at) + width setting.drift (t - c.did.step.at))
+  pub near : pos (nat_abs (behind setting m c h t -ℤ pos (on_way m c past h s))) ≤ℤ pos (width setting.drift (t - s.taking.first.step.at) + width setting.drift
+      (t - c.did.step.at))
 
 -- right at the Correct it isn't ahead, and is behind by at most that
 pub record BehindAtOnce (setting : Setting) (m : ℕ) (c : Line) (past h : List Line) (s : SetBy m c past h) : Type 0 where
@@ -41,4 +42,5 @@ FirstSet setting = Everywhere (λ l before. FirstSetAt setting (l ∷ before))
 
 -- if no datagram outlives LIFE, it is behind by at most LAST and LIFE (34 s), and drift
 abbrev pub FirstSetSoon : Setting → List Line → Type 0
-FirstSetSoon setting = Everywhere (λ l before. (m : ℕ) (c : Line) (past : List Line) (s : SetBy m c past (l ∷ before)) → behind setting m c (l ∷ before) c.did.step.at ≤ℤ pos (LAST + LIFE + width setting.drift LIFE))
+FirstSetSoon setting = Everywhere (λ l before. (m : ℕ) (c : Line) (past : List Line) (s : SetBy m c past (l ∷ before)) →
+    behind setting m c (l ∷ before) c.did.step.at ≤ℤ pos (LAST + LIFE + width setting.drift LIFE))

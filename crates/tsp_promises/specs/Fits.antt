@@ -1,7 +1,8 @@
 -- Histories that fit: each line has what a schedule gives it, and does what it owes to the lines before it.
 use Rattle.std.specs.Prelude.{◌≡◌, ◌≤◌, ◌<◌, ℕ, ◌+◌, ◌^◌, ◌==◌, ◌||◌, pos, ◌+ℤ◌, true, List, [], ◌∷◌}
 use Rattle.tsp_rules.specs.Values.{Boot, Took, Post, Datagram, Taken, Good, Place, Peer, Port}
-use Rattle.tsp_base.specs.Words.{Cause, Booted, Turned, Came, Handed, Step, Deed, Begins, Acts, Did, Line, of, dids, lives, view, is_shared, time_of, up, Within, peer_of, posted}
+use Rattle.tsp_base.specs.Words.{Cause, Booted, Turned, Came, Handed, Step, Deed, Begins, Acts, Did, Line, of, dids, lives, view, is_shared, time_of, up}
+use Rattle.tsp_base.specs.Words.{Within, peer_of, posted}
 use Rattle.tsp_promises.specs.{DeedFits.DeedFits, Everywhere.Everywhere, Setting.Setting, Setting.setup_of, StepFacts.StepEnds}
 
 -- the node of a line

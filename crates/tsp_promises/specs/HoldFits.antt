@@ -1,6 +1,7 @@
 -- What backings, votes and changes of the role owe to their port's past.
 use Rattle.std.specs.Prelude.{◌≡◌, ◌≢◌, ◌≤◌, ◌<◌, ◌⊎◌, ℕ, ◌+◌, ◌*◌, true, false, List, ◌∷◌, length, Some}
-use Rattle.tsp_rules.specs.Values.{Post, Acked, Message, Accept, Election, LoopKind, PeerId, Peer, Role, Loose, Candidate, Master, ELECT_MIN, HOLD, QUIET, SLACK, WINDOW}
+use Rattle.tsp_rules.specs.Values.{Post, Acked, Message, Accept, Election, LoopKind, PeerId, Peer, Role, Loose, Candidate, Master, ELECT_MIN, HOLD, QUIET}
+use Rattle.tsp_rules.specs.Values.{SLACK, WINDOW}
 use Rattle.tsp_base.specs.Words.{Acts, Did, Seen, Here, plain, MessageValue, boot_tick, is_among, role, held, backers, stood, open_to, Setup, Receives, peer_of}
 use Rattle.tsp_promises.specs.StepFacts.{backed}
 

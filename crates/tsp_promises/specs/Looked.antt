@@ -28,8 +28,10 @@ width_by_ticks drift x = width drift (x + width drift x)
 -- give or take twice a width
 abbrev pub IsAhead : Setting → {k m : ℕ} {h : List Line} {t : ℕ} → Look k m h t → ℕ → Type 0
 IsAhead setting {k} {m} {h} {t} look w =
-    (((clock_at setting m look.there look.middle -ℤ clock_at setting k look.after look.last) -ℤ pos (2 * w)) ≤ℤ (clock_at setting m h t -ℤ clock_at setting k h t)) ×
-    ((clock_at setting m h t -ℤ clock_at setting k h t) ≤ℤ ((clock_at setting m look.there look.middle -ℤ clock_at setting k look.before look.first) +ℤ pos (2 * w)))
+    (((clock_at setting m look.there look.middle -ℤ clock_at setting k look.after look.last) -ℤ pos (2 * w)) ≤ℤ
+    (clock_at setting m h t -ℤ clock_at setting k h t)) ×
+    ((clock_at setting m h t -ℤ clock_at setting k h t) ≤ℤ ((clock_at setting m look.there look.middle -ℤ clock_at setting k look.before look.first) +ℤ pos
+    (2 * w)))
 
 -- each look bounds how far m's clock is ahead: by the width of the true time since m's clock was read, and, for 100 s of k's own ticks since
 -- its first reading, by what k can reckon from these ticks alone

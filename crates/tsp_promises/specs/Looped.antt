@@ -38,7 +38,8 @@ pub record EndsChain (l : Line) (world : List Line) : Type 0 where
 
 -- a LOOP that is posted has at most HOPS hops, ten
 abbrev pub HopsAt : Line → List Line → Type 0
-HopsAt l world = (to : Place) (m : MessageValue) → l.did.deed ≡ Acts (Post to (Message m)) → m.kind ≡ LoopKind → (hops : ℕ) × ((m.body ≡ Hops hops) × (hops ≤ HOPS))
+HopsAt l world = (to : Place) (m : MessageValue) → l.did.deed ≡ Acts (Post to (Message m)) → m.kind ≡ LoopKind → (hops : ℕ) ×
+    ((m.body ≡ Hops hops) × (hops ≤ HOPS))
 
 -- its post ends a chain
 abbrev pub ChainAt : Line → List Line → Type 0

@@ -1,7 +1,8 @@
 -- What the acts of a measurement owe to their port's past: requests, replies and samples.
 use Rattle.std.specs.Prelude.{◌≡◌, ℕ, ◌%◌, ◌^◌, ℤ, true, List, ◌∷◌}
 use Rattle.tsp_rules.specs.Values.{Stamp, PeerId, Place, Request, Reply}
-use Rattle.tsp_base.specs.Words.{Did, Seen, Here, plain, word, ticket, target, is_going, started, asked, exchange, sample_diff, sample_err, ReplyValue, Receives, TakesFrom, Undisturbed}
+use Rattle.tsp_base.specs.Words.{Did, Seen, Here, plain, word, ticket, target, is_going, started, asked, exchange, sample_diff, sample_err, ReplyValue}
+use Rattle.tsp_base.specs.Words.{Receives, TakesFrom, Undisturbed}
 
 -- a request has the word of the boot, and as its counter the number of requests before it, modulo 2^64
 pub record RequestFits (before : List Seen) (request_word counter : ℕ) : Type 0 where

@@ -1,7 +1,8 @@
 -- The promise that a measurement errs by at most half its round trip.
 use Rattle.std.specs.Prelude.{◌≡◌, ℕ, ℤ, pos, ◌-ℤ◌, ◌≤ℤ◌, nat_abs, true, List, ◌∷◌}
 use Rattle.tsp_rules.specs.Values.{Post, Sample, Stamp, PeerId, Peer, Reply}
-use Rattle.tsp_base.specs.Words.{Came, Acts, Did, Line, Seen, Here, of, dids, plain, view, target, Within, exchange, is_going, half_up, ReplyValue, peer_of, posted}
+use Rattle.tsp_base.specs.Words.{Came, Acts, Did, Line, Seen, Here, of, dids, plain, view, target, Within, exchange, is_going, half_up, ReplyValue, peer_of}
+use Rattle.tsp_base.specs.Words.{posted}
 use Rattle.tsp_promises.specs.{ClockAt.clock, Everywhere.Everywhere, Fits.node_of, Setting.Setting}
 
 -- the reading of a Sample of p: its step takes a reply that p posted to this node, and when that was posted p's clock
@@ -18,7 +19,8 @@ pub record ReadBy (setting : Setting) (l : Line) (world : List Line) (p : PeerId
 
 -- a Sample has a reading, from which it errs by at most its err
 abbrev pub MeasuredAt : Setting → Line → List Line → Type 0
-MeasuredAt setting l world = (p : PeerId) (counter : ℕ) (diff err : ℤ) (number : ℕ) → l.did.deed ≡ Acts (Sample p counter diff err number) → ReadBy setting l world p diff err
+MeasuredAt setting l world = (p : PeerId) (counter : ℕ) (diff err : ℤ) (number : ℕ) → l.did.deed ≡ Acts (Sample p counter diff err number) →
+    ReadBy setting l world p diff err
 
 -- the open exchange of the going round that a Sample ends; err is half the time from its request to the Sample, by the
 -- node's own clock, rounded up
@@ -31,7 +33,8 @@ pub record TripOf (l : Line) (seen : List Seen) (p : PeerId) (counter : ℕ) (er
 
 -- a Sample ends an open exchange, and its err is half of that round trip
 abbrev pub TripAt : Line → List Line → Type 0
-TripAt l world = (p : PeerId) (counter : ℕ) (diff err : ℤ) (number : ℕ) → l.did.deed ≡ Acts (Sample p counter diff err number) → TripOf l (view l.port (of (node_of l) world)) p counter err
+TripAt l world = (p : PeerId) (counter : ℕ) (diff err : ℤ) (number : ℕ) → l.did.deed ≡ Acts (Sample p counter diff err number) →
+    TripOf l (view l.port (of (node_of l) world)) p counter err
 
 -- each measurement errs by at most its err
 abbrev pub Measured : Setting → List Line → Type 0

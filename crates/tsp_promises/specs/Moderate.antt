@@ -5,7 +5,8 @@ use Rattle.std.specs.List.{Contains, count_by}
 use Rattle.tsp_rules.specs.Values.{AdjTime, PeerId, Port, SLEW, SPAN}
 use Rattle.tsp_base.specs.Words.{Here, Line, dids, of, view, rest_at, shown, target, Within, Sampled, best, peer_of, time_in}
 use Rattle.tsp_group.specs.Groups.{Agree}
-use Rattle.tsp_promises.specs.{Agreed.Unchanged, ClockAt.ClocksWithin, ClockAt.drifted, Estimates.CloseBegins, Estimates.Estimate, Estimates.Moves, Fits.node_of}
+use Rattle.tsp_promises.specs.{Agreed.Unchanged, ClockAt.ClocksWithin, ClockAt.drifted, Estimates.CloseBegins, Estimates.Estimate, Estimates.Moves}
+use Rattle.tsp_promises.specs.{Fits.node_of}
 use Rattle.tsp_promises.specs.{Everywhere.Everywhere, Everywhere.Lasting, OneError.Taking, RoundFits.estimates_at, Setting.Setting, Setting.setup_of}
 use Rattle.tsp_promises.specs.StepFacts.{closed}
 
@@ -39,7 +40,8 @@ pub record NearBoth (amount mean value : ℤ) : Type 0 where
 
 -- so do a round's Correct, and the mean that its Close prints, from each estimate of the majority
 abbrev pub MeanNear : Setting → Line → List Line → Type 0
-MeanNear setting l world = (m : ℕ) (close : Line) (cpast : List Line) (amount value : ℤ) → world ≡ (close ∷ cpast) → (v : Moves m close l amount) → Agrees setting m close cpast value → NearBoth amount v.mean value
+MeanNear setting l world = (m : ℕ) (close : Line) (cpast : List Line) (amount value : ℤ) → world ≡ (close ∷ cpast) → (v : Moves m close l amount) →
+    Agrees setting m close cpast value → NearBoth amount v.mean value
 
 -- a Correct by at most twice SPAN, which is slewed
 pub record Little (amount : ℤ) (stepped : Bool) : Type 0 where
@@ -48,11 +50,13 @@ pub record Little (amount : ℤ) (stepped : Bool) : Type 0 where
 
 -- so it moves the master's own clock by little, if that is one of the majority
 abbrev pub OwnNear : Setting → Line → List Line → Type 0
-OwnNear setting l world = (m : ℕ) (close : Line) (cpast : List Line) (amount : ℤ) → world ≡ (close ∷ cpast) → (v : Moves m close l amount) → Agrees setting m close cpast (pos 0) → Little amount v.stepped
+OwnNear setting l world = (m : ℕ) (close : Line) (cpast : List Line) (amount : ℤ) → world ≡ (close ∷ cpast) → (v : Moves m close l amount) →
+    Agrees setting m close cpast (pos 0) → Little amount v.stepped
 
 -- an ADJTIME that the round begins to a peer of the majority carries at most twice SPAN, if a Correct has ended the round
 abbrev pub AdjTimeNear : Setting → Line → List Line → Type 0
-AdjTimeNear setting l world = (m : ℕ) (close c : Line) (cpast : List Line) (mean amount : ℤ) (begins : CloseBegins m close cpast mean l world) → Within (c ∷ (close ∷ cpast)) world → Moves m close c amount →
+AdjTimeNear setting l world = (m : ℕ) (close c : Line) (cpast : List Line) (mean amount : ℤ) (begins : CloseBegins m close cpast mean l world) →
+    Within (c ∷ (close ∷ cpast)) world → Moves m close c amount →
     PeerAgrees setting m begins.peer close cpast → nat_abs (time_in begins.message.body) ≤ 2 * SPAN
 
 -- the Correct of a peer of the majority that takes the ADJTIME which the round begins to it, if a Correct ended the round
@@ -74,7 +78,8 @@ pub record PeerCorrects (setting : Setting) (l : Line) (world : List Line) : Typ
 -- slewed twice SPAN, 8 s of its ticks later, as long as nothing more happens
 pub record PeerNear (setting : Setting) (l : Line) (world : List Line) (p : PeerCorrects setting l world) : Type 0 where
   pub little : Little p.taking.acts.amount p.taking.acts.stepped
-  pub meets : rest_at (dids (of (node_of l) world)) l.did.tick ≡ pos 0 → (x : ℕ) → l.did.tick + 2 * SPAN * SLEW ≤ x → shown (dids (of (node_of l) (l ∷ world))) x ≡ target (dids (of (node_of l) (l ∷ world))) x
+  pub meets : rest_at (dids (of (node_of l) world)) l.did.tick ≡ pos 0 → (x : ℕ) → l.did.tick + 2 * SPAN * SLEW ≤ x →
+      shown (dids (of (node_of l) (l ∷ world))) x ≡ target (dids (of (node_of l) (l ∷ world))) x
 
 -- all of this at a line
 pub record ModerateAt (setting : Setting) (l : Line) (world : List Line) : Type 0 where
@@ -91,7 +96,8 @@ Moderate setting = Everywhere (ModerateAt setting)
 -- after the history h, at true time t: the clock of the master of a round, left alone since its Correct, and each clock
 -- of the majority, left alone since its reading, differ by at most twice SPAN, the error and drift
 abbrev pub WithMajority : Setting → List Line → ℕ → Type 0
-WithMajority setting h t = (m k : ℕ) (close c : Line) (cpast : List Line) (amount : ℤ) (x : Sampled) (r : Line) (older : List Line) → Unchanged m (c ∷ (close ∷ cpast)) h → Moves m close c amount →
+WithMajority setting h t = (m k : ℕ) (close c : Line) (cpast : List Line) (amount : ℤ) (x : Sampled) (r : Line) (older : List Line) →
+    Unchanged m (c ∷ (close ∷ cpast)) h → Moves m close c amount →
     Estimate m k close cpast x r older h → Agrees setting m close cpast x.diff →
     ClocksWithin setting h t m k ((pos (2 * SPAN) +ℤ x.err) +ℤ pos (drifted setting t r))
 

@@ -49,5 +49,7 @@ NodeOrdered n ports (h ∷ before) = (node_tick before ≤ h.tick) × (h.step.no
 -- a node that has done nothing yet, and has its own number on each port, takes any steps by the rules: each deed of
 -- each port does what it owes, for what that port is set up with, and each step ends as it must
 abbrev pub NodesFit : Type 0
-NodesFit = (past : NodePast) (n : ℕ) (hs : List NodeHappening) → past.lines ≡ [] → ((q : Port) → q.0 < length past.ports → (port_setup q past).own.0 ≡ n) → NodeOrdered n (length past.ports) hs →
-    (q : Port) → q.0 < length past.ports → PortFits (setup_in (on_port q past)) (view q (node_ran hs past).lines) × StepEnds (setup_in (on_port q past)) (view q (node_ran hs past).lines)
+NodesFit = (past : NodePast) (n : ℕ) (hs : List NodeHappening) → past.lines ≡ [] → ((q : Port) → q.0 < length past.ports → (port_setup q past).own.0 ≡ n) →
+    NodeOrdered n (length past.ports) hs →
+    (q : Port) → q.0 < length past.ports → PortFits (setup_in (on_port q past)) (view q (node_ran hs past).lines) ×
+    StepEnds (setup_in (on_port q past)) (view q (node_ran hs past).lines)

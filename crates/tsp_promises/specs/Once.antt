@@ -1,7 +1,8 @@
 -- The promise that each correction acts at most once.
 use Rattle.std.specs.Prelude.{◌≡◌, ◌≤◌, ℕ, ◌+◌, ℤ, Bool, true, List, ◌∷◌, is_some}
 use Rattle.tsp_rules.specs.Values.{Post, Correct, Acked, Message, Kind, PeerId, Peer, Follow, GAP}
-use Rattle.tsp_base.specs.Words.{Came, Acts, Did, Seen, Here, Line, of, dids, view, MessageValue, lives, Within, role, begun_to, is_correction, is_numbered, open_to, heard, peer_of, posted, time_in}
+use Rattle.tsp_base.specs.Words.{Came, Acts, Did, Seen, Here, Line, of, dids, view, MessageValue, lives, Within, role, begun_to, is_correction, is_numbered}
+use Rattle.tsp_base.specs.Words.{open_to, heard, peer_of, posted, time_in}
 use Rattle.tsp_promises.specs.{ClockAt.clock_at, CorrectFits.amount_of, Everywhere.Everywhere, Fits.node_of, Setting.Setting}
 
 -- the step of this line is the coming of the message that is posted at that place, to the line's node
@@ -30,12 +31,14 @@ pub record OfSend (k : ℕ) (post : Line) (older : List Line) (first : Did) (beg
 
 -- a node's Correct comes at least GAP ticks (1 s) after each earlier one of that node in this life
 abbrev pub SpacedAt : Line → List Line → Type 0
-SpacedAt l world = (other : Line) (older : List Line) (a b : ℤ) (s t : Bool) (x y : ℤ) → l.did.deed ≡ Acts (Correct a s x) → Within (other ∷ older) world → node_of other ≡ node_of l →
+SpacedAt l world = (other : Line) (older : List Line) (a b : ℤ) (s t : Bool) (x y : ℤ) → l.did.deed ≡ Acts (Correct a s x) → Within (other ∷ older) world →
+    node_of other ≡ node_of l →
     other.did.deed ≡ Acts (Correct b t y) → lives (dids (of (node_of l) older)) ≡ lives (dids (of (node_of l) world)) → other.did.tick + GAP ≤ l.did.tick
 
 -- and at least GAP ticks after each one in an earlier life
 abbrev pub SpacedOverLivesAt : Line → List Line → Type 0
-SpacedOverLivesAt l world = (other : Line) (older : List Line) (a b : ℤ) (s t : Bool) (x y : ℤ) → l.did.deed ≡ Acts (Correct a s x) → Within (other ∷ older) world → node_of other ≡ node_of l →
+SpacedOverLivesAt l world = (other : Line) (older : List Line) (a b : ℤ) (s t : Bool) (x y : ℤ) → l.did.deed ≡ Acts (Correct a s x) →
+    Within (other ∷ older) world → node_of other ≡ node_of l →
     other.did.deed ≡ Acts (Correct b t y) → other.did.tick + GAP ≤ l.did.tick
 
 -- the step of the Correct brings a correction that q posted to its node, and the clock is moved as that says
@@ -49,11 +52,13 @@ pub record Obeys (setting : Setting) (l : Line) (world : List Line) (amount : �
 
 -- a follower's clock is moved only as its master says
 abbrev pub ObeysAt : Setting → Line → List Line → Type 0
-ObeysAt setting l world = (q : PeerId) (amount : ℤ) (stepped : Bool) (shown : ℤ) → l.did.deed ≡ Acts (Correct amount stepped shown) → role (view l.port (of (node_of l) world)) ≡ Follow q → Obeys setting l world amount q
+ObeysAt setting l world = (q : PeerId) (amount : ℤ) (stepped : Bool) (shown : ℤ) → l.did.deed ≡ Acts (Correct amount stepped shown) →
+    role (view l.port (of (node_of l) world)) ≡ Follow q → Obeys setting l world amount q
 
 -- if this Correct takes a post of a send of these kinds, no Correct before it has taken a post of the same send
 abbrev pub OnceAt : (Kind → Bool) → Line → List Line → Type 0
-OnceAt sends l world = (post c other : Line) (older past rest : List Line) (first : Did) (begun : List Seen) → (acts : ActsOn l world post older) → sends acts.brings.message.kind ≡ true →
+OnceAt sends l world = (post c other : Line) (older past rest : List Line) (first : Did) (begun : List Seen) → (acts : ActsOn l world post older) →
+    sends acts.brings.message.kind ≡ true →
     Within (c ∷ past) world → ActsOn c past other rest → OfSend (node_of l) post older first begun → OfSend (node_of c) other rest first begun → ⊥
 
 -- a Correct of k takes a post of m's send that begins at this place
@@ -70,7 +75,8 @@ pub record Acted (m k : ℕ) (world : List Line) (first : Did) (begun : List See
 
 -- an Acked that ends a correction's send comes after a Correct that takes a post of that send
 abbrev pub ConfirmedAt : Line → List Line → Type 0
-ConfirmedAt l world = (p : PeerId) (first : Did) (older : List Seen) (m : MessageValue) → l.did.deed ≡ Acts (Acked p) → open_to p (view l.port (of (node_of l) world)) ≡ Here first ∷ older →
+ConfirmedAt l world = (p : PeerId) (first : Did) (older : List Seen) (m : MessageValue) → l.did.deed ≡ Acts (Acked p) →
+    open_to p (view l.port (of (node_of l) world)) ≡ Here first ∷ older →
     first.deed ≡ Acts (Post (Peer p) (Message m)) → is_correction m.kind ≡ true → Acted (node_of l) p.0 world first older
 
 -- corrections of a clock are apart in one life, from a boot to the next

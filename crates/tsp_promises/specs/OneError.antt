@@ -1,7 +1,8 @@
 -- The promise that no error of a clock is corrected twice.
 use Rattle.std.specs.Prelude.{◌≡◌, ◌⊎◌, ℕ, true, List, ◌∷◌, None, Some}
 use Rattle.tsp_rules.specs.Values.{Post, Datagram, Message, Stamp, AdjTime, SlaveUp, Place, Reply}
-use Rattle.tsp_base.specs.Words.{Came, Acts, Did, Line, Seen, Here, of, dids, view, MessageValue, Within, taken, Sampled, best, is_correction, ReplyValue, Receives, Undisturbed, peer_of, posted}
+use Rattle.tsp_base.specs.Words.{Came, Acts, Did, Line, Seen, Here, of, dids, view, MessageValue, Within, taken, Sampled, best, is_correction, ReplyValue}
+use Rattle.tsp_base.specs.Words.{Receives, Undisturbed, peer_of, posted}
 use Rattle.tsp_promises.specs.{Agreed.ReadingOf, Everywhere.Everywhere, Fits.node_of, Once.ActsOn, Once.OfSend, StepFacts.closed}
 
 -- the Correct c takes a post of a correction of m, an ADJTIME or a SETTIME, whose send begins at this place
@@ -17,15 +18,16 @@ pub record Taking (m : ℕ) (c : Line) (past : List Line) : Type 0 where
 
 -- the send begins at a Close of m: it is an ADJTIME, or its step has taken nothing before it. The source of its number
 -- is r, the reading of the best sample that the Close had of c's node
-pub record FromReading (m : ℕ) (c : Line) (past : List Line) (t : Taking m c past) (close : Line) (cpast : List Line) (r : Line) (older : List Line) : Type 0 where
-  pub none : (t.acts.brings.message.kind ≡ AdjTime) ⊎ (taken t.begun ≡ None)
-  pub closes : Within (close ∷ cpast) past
-  pub close_node : node_of close ≡ m
-  pub close_port : close.port ≡ t.post.port
-  pub close_is : closed t.begun ≡ Here close.did ∷ view t.post.port (of m cpast)
-  pub sample : Sampled
-  pub best_is : best (peer_of (node_of c)) (view t.post.port (of m cpast)) ≡ Some sample
-  pub reading : ReadingOf m t.post.port sample.place past r older
+pub record FromReading (m : ℕ) (c : Line) (past : List Line) (t : Taking m c past) (close : Line) (cpast : List Line) (r : Line) (older : List Line) : Type 0
+  where
+    pub none : (t.acts.brings.message.kind ≡ AdjTime) ⊎ (taken t.begun ≡ None)
+    pub closes : Within (close ∷ cpast) past
+    pub close_node : node_of close ≡ m
+    pub close_port : close.port ≡ t.post.port
+    pub close_is : closed t.begun ≡ Here close.did ∷ view t.post.port (of m cpast)
+    pub sample : Sampled
+    pub best_is : best (peer_of (node_of c)) (view t.post.port (of m cpast)) ≡ Some sample
+    pub reading : ReadingOf m t.post.port sample.place past r older
 
 -- the send begins in a step that took a SLAVEUP of c's node, and has its number. The source of its number is r, the
 -- post of that SLAVEUP
@@ -66,7 +68,8 @@ pub record SourceSlaveUp (m : ℕ) (c : Line) (past : List Line) (t : Taking m c
 -- its clock
 pub record OneErrorAt (l : Line) (world : List Line) : Type 0 where
   pub source : (m : ℕ) (t : Taking m l world) → SourceReading m l world t ⊎ SourceSlaveUp m l world t
-  pub by_reading : (m : ℕ) (t : Taking m l world) (close : Line) (cpast : List Line) (r : Line) (older : List Line) → FromReading m l world t close cpast r older →
+  pub by_reading : (m : ℕ) (t : Taking m l world) (close : Line) (cpast : List Line) (r : Line) (older : List Line) →
+      FromReading m l world t close cpast r older →
       Undisturbed (dids (of (node_of l) (r ∷ older))) (dids (of (node_of l) world))
   pub by_slaveup : (m : ℕ) (t : Taking m l world) (r : Line) (older : List Line) → FromSlaveUp m l world t r older →
       Undisturbed (dids (of (node_of l) (r ∷ older))) (dids (of (node_of l) world))

@@ -13,7 +13,8 @@ Leads l world = role (view l.port (of (node_of l) world)) ≡ Master
 pub record LeadsAt (l : Line) (world : List Line) : Type 0 where
   pub posts : (to : Place) (m : MessageValue) → l.did.deed ≡ Acts (Post to (Message m)) → is_correction m.kind ≡ true → Leads l world
   pub closes : (count : ℕ) (lo size mean : ℤ) → l.did.deed ≡ Acts (Close count lo size mean) → Leads l world
-  pub corrects : (close : Line) (older : List Line) (count : ℕ) (lo size mean amount : ℤ) (stepped : Bool) (shown : ℤ) → from_act world ≡ close ∷ older → close.did.deed ≡ Acts (Close count lo size mean) →
+  pub corrects : (close : Line) (older : List Line) (count : ℕ) (lo size mean amount : ℤ) (stepped : Bool) (shown : ℤ) → from_act world ≡ close ∷ older →
+      close.did.deed ≡ Acts (Close count lo size mean) →
       l.did.deed ≡ Acts (Correct amount stepped shown) → Leads l world
 
 -- only masters correct

@@ -14,7 +14,8 @@ Honest = Everywhere HonestAt
 
 -- what the line's step takes was posted at most `life` microseconds of true time before
 abbrev pub TakenWithinAt : ℕ → Line → List Line → Type 0
-TakenWithinAt life l world = (post : Line) (older : List Line) (to : Place) (datagram : Datagram) → Within (post ∷ older) world → post.did.deed ≡ Acts (Post to datagram) →
+TakenWithinAt life l world = (post : Line) (older : List Line) (to : Place) (datagram : Datagram) → Within (post ∷ older) world → post.did.deed ≡
+    Acts (Post to datagram) →
     l.did.step.cause ≡ Came (posted (dids older)) → l.did.step.at ≤ post.did.step.at + life
 
 -- no datagram lives longer than `life` microseconds of true time
@@ -32,7 +33,8 @@ WordsAt l world = (other : Line) (older : List Line) (v w : ℕ) (x y : ℤ) →
 
 -- the same, of boots of one node alone
 abbrev pub OwnWordsAt : Line → List Line → Type 0
-OwnWordsAt l world = (other : Line) (older : List Line) (v w : ℕ) (x y : ℤ) → node_of other ≡ node_of l → Within (other ∷ older) world → l.did.deed ≡ Acts Boot → other.did.deed ≡ Acts Boot →
+OwnWordsAt l world = (other : Line) (older : List Line) (v w : ℕ) (x y : ℤ) → node_of other ≡ node_of l → Within (other ∷ older) world → l.did.deed ≡
+    Acts Boot → other.did.deed ≡ Acts Boot →
     l.did.step.cause ≡ Booted w x → other.did.step.cause ≡ Booted v y → v ≢ w
 
 -- the words of any two boots of one node differ
@@ -53,7 +55,8 @@ Few = Everywhere FewAt
 
 -- no other node with a line before this one has the name of this line's node
 abbrev pub NamesApartAt : Setting → Line → List Line → Type 0
-NamesApartAt setting l world = (other : Line) (older : List Line) → Within (other ∷ older) world → setting.name (node_of other) ≡ setting.name (node_of l) → node_of other ≡ node_of l
+NamesApartAt setting l world = (other : Line) (older : List Line) → Within (other ∷ older) world → setting.name (node_of other) ≡ setting.name (node_of l) →
+    node_of other ≡ node_of l
 
 -- the names of the nodes differ
 abbrev pub NamesApart : Setting → List Line → Type 0

@@ -21,12 +21,14 @@ YieldsTakenAt peers seen = (p : PeerId) → quits_master peers seen ≡ Some p �
 
 -- so it is at the end of each step
 pub record YieldsTaken (setting : Setting) (world : List Line) : Type 0 where
-  pub marks : Everywhere (λ (l : Line) (before : List Line). l.did.deed ≡ Begins → (q : Port) → YieldsTakenAt (setup_of setting (node_of l) q).peers (view q (of (node_of l) before))) world
+  pub marks : Everywhere (λ (l : Line) (before : List Line). l.did.deed ≡ Begins → (q : Port) →
+      YieldsTakenAt (setup_of setting (node_of l) q).peers (view q (of (node_of l) before))) world
   pub ends : (n : ℕ) (q : Port) → YieldsTakenAt (setup_of setting n q).peers (view q (of n world))
 
 -- after a Quit a port doesn't become master for ELECT_MIN ticks (300 s), even if its node boots between
 abbrev pub QuietAt : Line → List Line → Type 0
-QuietAt l world = (other : Line) (older : List Line) (p : PeerId) → l.did.deed ≡ Acts (Become Master) → Within (other ∷ older) world → node_of other ≡ node_of l → other.port ≡ l.port →
+QuietAt l world = (other : Line) (older : List Line) (p : PeerId) → l.did.deed ≡ Acts (Become Master) → Within (other ∷ older) world → node_of other ≡
+    node_of l → other.port ≡ l.port →
     other.did.deed ≡ Acts (Quit p) → other.did.tick + ELECT_MIN ≤ l.did.tick
 
 abbrev pub StaysQuiet : List Line → Type 0
@@ -53,7 +55,8 @@ pub record TakesQuit (ring : Line) (past : List Line) (x : Line) (xpast : List L
 -- at the end of a step in which the rival y takes a QUIT of this alarm: no rival x that has taken one is a master on
 -- the port on which it took it
 abbrev pub StopsBy : List Line → Type 0
-StopsBy h = (ring x y : Line) (past xpast ypast : List Line) → Within (ring ∷ past) h → ring.did.deed ≡ Acts (Ring ResolveAlarm) → Within (x ∷ xpast) h → TakesQuit ring past x xpast →
+StopsBy h = (ring x y : Line) (past xpast ypast : List Line) → Within (ring ∷ past) h → ring.did.deed ≡ Acts (Ring ResolveAlarm) → Within (x ∷ xpast) h →
+    TakesQuit ring past x xpast →
     Within (y ∷ ypast) h → TakesQuit ring past y ypast → steps (dids (y ∷ ypast)) ≡ steps (dids h) → role (view x.port (of (node_of x) h)) ≢ Master
 
 -- StopsBy holds at the end of each step: before each mark, and at the end of the history

@@ -3,7 +3,8 @@
 use Rattle.std.specs.Prelude.{◌≡◌, ◌≢◌, ◌≤◌, ◌≤ℤ◌, ◌<ℤ◌, ℕ, ◌+◌, ◌*◌, ℤ, pos, ◌-ℤ◌, nat_abs, Bool, true, false, List, ◌∷◌, Some, length}
 use Rattle.std.specs.List.{Contains}
 use Rattle.tsp_rules.specs.Values.{Post, Close, Correct, Acked, Message, AdjTime, PeerId, Peer, MAXADJ}
-use Rattle.tsp_base.specs.Words.{Acts, Did, Seen, Here, Line, dids, of, view, MessageValue, last_correct, lives, rest, rest_at, Within, Sampled, best, is_correction, open_to, peer_of}
+use Rattle.tsp_base.specs.Words.{Acts, Did, Seen, Here, Line, dids, of, view, MessageValue, last_correct, lives, rest, rest_at, Within, Sampled, best}
+use Rattle.tsp_base.specs.Words.{is_correction, open_to, peer_of}
 use Rattle.tsp_promises.specs.{Chained.Hop, Chained.Hops, Chained.IsChain, Chained.last_hop, Chained.node_at, Kept.Example, Kept.Spot}
 use Rattle.tsp_promises.specs.{Moderate.Agrees, Moderate.PeerAgrees, Moderate.PeerCorrects, Moderate.estimates_of, ClockAt.shown_at}
 use Rattle.tsp_promises.specs.{FirstSet.SetBy, Fits.node_of, Steady.ReadTicks, Steady.ReadTimes, Steady.Unstepped, Steady.shown_width}

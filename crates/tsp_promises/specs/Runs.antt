@@ -42,4 +42,5 @@ Ordered n (h ∷ before) = (last_tick before ≤ h.tick) × (h.step.node ≡ n) 
 -- a port that has done nothing yet takes any steps by the rules: each of its deeds does what it owes, for what the port
 -- is set up with (PortFits), and each step ends as it must (StepEnds)
 abbrev pub RulesFit : Type 0
-RulesFit = (past : Past) (hs : List Happening) → past.seen ≡ [] → Ordered past.own.0 hs → PortFits (setup_in past) (ran hs past).seen × StepEnds (setup_in past) (ran hs past).seen
+RulesFit = (past : Past) (hs : List Happening) → past.seen ≡ [] → Ordered past.own.0 hs → PortFits (setup_in past) (ran hs past).seen ×
+    StepEnds (setup_in past) (ran hs past).seen

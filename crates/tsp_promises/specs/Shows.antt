@@ -19,8 +19,10 @@ pub record Prints (l : Line) (world : List Line) (amount : ℤ) (stepped : Bool)
 -- two Corrects of a node, between which it doesn't boot, and after the first of which none is stepped: the printed
 -- values differ by the ticks between, give or take one microsecond for each 200 ticks
 abbrev pub PrintedApart : Line → List Line → Type 0
-PrintedApart l world = (early : Line) (past : List Line) (a b : ℤ) (stepped later : Bool) (x y : ℤ) → early.did.deed ≡ Acts (Correct a stepped x) → l.did.deed ≡ Acts (Correct b later y) →
-    node_of early ≡ node_of l → Within (early ∷ past) world → Unstepped (node_of l) (early ∷ past) (l ∷ world) → nat_abs ((y -ℤ x) -ℤ pos (l.did.tick - early.did.tick)) ≤ (l.did.tick - early.did.tick) / 200
+PrintedApart l world = (early : Line) (past : List Line) (a b : ℤ) (stepped later : Bool) (x y : ℤ) → early.did.deed ≡ Acts (Correct a stepped x) → l.did.deed ≡
+    Acts (Correct b later y) →
+    node_of early ≡ node_of l → Within (early ∷ past) world → Unstepped (node_of l) (early ∷ past) (l ∷ world) →
+    nat_abs ((y -ℤ x) -ℤ pos (l.did.tick - early.did.tick)) ≤ (l.did.tick - early.did.tick) / 200
 
 -- what a Correct prints, by itself and beside an earlier one
 pub record ShowsAt (l : Line) (world : List Line) : Type 0 where

@@ -8,8 +8,10 @@ use Rattle.tsp_promises.specs.{DeedFits.AnswersEarly, Everywhere.Everywhere, Fit
 -- sender of a stamp request the reply with its word and counter, and to that of an MSITE, TRACEON or TRACEOFF the ACK of
 -- its number. And it doesn't correct its clock
 pub record SilentAt (l : Line) (world : List Line) : Type 0 where
-  pub posts : (to : Place) (datagram : Datagram) → l.did.deed ≡ Acts (Post to datagram) → (boot_tick (dids (of (node_of l) world)) + QUIET ≤ l.did.tick) ⊎ AnswersEarly to datagram (view l.port (of (node_of l) world))
-  pub corrects : (amount : ℤ) (stepped : Bool) (shown : ℤ) → l.did.deed ≡ Acts (Correct amount stepped shown) → boot_tick (dids (of (node_of l) world)) + QUIET ≤ l.did.tick
+  pub posts : (to : Place) (datagram : Datagram) → l.did.deed ≡ Acts (Post to datagram) → (boot_tick (dids (of (node_of l) world)) + QUIET ≤ l.did.tick) ⊎
+      AnswersEarly to datagram (view l.port (of (node_of l) world))
+  pub corrects : (amount : ℤ) (stepped : Bool) (shown : ℤ) → l.did.deed ≡ Acts (Correct amount stepped shown) →
+      boot_tick (dids (of (node_of l) world)) + QUIET ≤ l.did.tick
 
 abbrev pub Silent : List Line → Type 0
 Silent = Everywhere SilentAt

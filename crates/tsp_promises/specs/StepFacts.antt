@@ -1,7 +1,9 @@
 -- Facts of the step that a port is in.
 use Rattle.std.specs.Prelude.{◌≡◌, ℕ, ◌==◌, Bool, true, false, not, ◌&&◌, if◌then◌else◌, List, [], ◌∷◌, Option, None, Some}
-use Rattle.tsp_rules.specs.Values.{Took, Post, Become, Back, Close, Quit, Message, Kind, Ack, QuitKind, PeerId, Peer, Stranger, Role, Starting, Follow, Candidate, Master}
-use Rattle.tsp_base.specs.Words.{Did, Deed, Begins, Acts, Seen, Here, Elsewhere, plain, MessageValue, is_among, Received, Said, message_in, role, said, said_by, taken, exchange, Setup, Undisturbed}
+use Rattle.tsp_rules.specs.Values.{Took, Post, Become, Back, Close, Quit, Message, Kind, Ack, QuitKind, PeerId, Peer, Stranger, Role, Starting, Follow}
+use Rattle.tsp_rules.specs.Values.{Candidate, Master}
+use Rattle.tsp_base.specs.Words.{Did, Deed, Begins, Acts, Seen, Here, Elsewhere, plain, MessageValue, is_among, Received, Said, message_in, role, said, said_by}
+use Rattle.tsp_base.specs.Words.{taken, exchange, Setup, Undisturbed}
 
 abbrev pub backed_after : Deed → Option PeerId → Option PeerId
 backed_after Begins was = None
@@ -129,4 +131,5 @@ pub record StepEnds (setup : Setup) (before : List Seen) : Type 0 where
   pub heeds : unheeded setup.peers before ≡ None
   pub follows : (p : PeerId) → is_among p (owes before) ≡ true → role before ≡ Follow p
   pub acknowledged : unacknowledged before ≡ None
-  pub exchanges : (p : PeerId) (counter : ℕ) (request : Did) (older : List Seen) → exchange p counter before ≡ Here request ∷ older → Undisturbed (plain older) (plain before)
+  pub exchanges : (p : PeerId) (counter : ℕ) (request : Did) (older : List Seen) → exchange p counter before ≡ Here request ∷ older →
+      Undisturbed (plain older) (plain before)

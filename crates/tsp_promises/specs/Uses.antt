@@ -1,8 +1,10 @@
 -- That the promises of answers, roles, sends, dates, LOOPs and words aren't empty, and that clocks needn't be constant. Each history
 -- here fits and keeps the premises (Kept), if nothing else is said.
 use Rattle.std.specs.Prelude.{◌≡◌, ◌≢◌, ℕ, ◌+◌, ℤ, pos, ◌+ℤ◌, ◌-ℤ◌, Bool, true, List, ◌∷◌, Some, length, ◌<◌, ◌≤◌}
-use Rattle.tsp_rules.specs.Values.{Boot, Post, Correct, Acked, Message, PeerId, Peer, Took, Become, Ring, Back, Quit, ResolveAlarm, Datagram, Stamp, Good, SetDateReq, Place, Port, Stranger, Loose, Master, Request, Reply, QUIET, TRIES}
-use Rattle.tsp_base.specs.Words.{Acts, Booted, Did, Seen, Here, Line, dids, of, view, MessageValue, lives, Within, open_to, peer_of, Begins, boot_tick, steps, role, is_numbered, sets_date, heard, ReplyValue}
+use Rattle.tsp_rules.specs.Values.{Boot, Post, Correct, Acked, Message, PeerId, Peer, Took, Become, Ring, Back, Quit, ResolveAlarm, Datagram, Stamp, Good}
+use Rattle.tsp_rules.specs.Values.{SetDateReq, Place, Port, Stranger, Loose, Master, Request, Reply, QUIET, TRIES}
+use Rattle.tsp_base.specs.Words.{Acts, Booted, Did, Seen, Here, Line, dids, of, view, MessageValue, lives, Within, open_to, peer_of, Begins, boot_tick, steps}
+use Rattle.tsp_base.specs.Words.{role, is_numbered, sets_date, heard, ReplyValue}
 use Rattle.tsp_promises.specs.{Kept.Example, Kept.Spot, Premises.Honest, Premises.Life, Premises.Few, Premises.NamesApart, Premises.Words}
 use Rattle.tsp_promises.specs.{Fits.Fits, Fits.Finished, Fits.node_of, Measured.Measured, Measured.TripOf, Once.ActsOn, Once.OnceTaken}
 use Rattle.tsp_promises.specs.{Answered.is_answer, Resolved.TakesQuit, Setting.Setting, Setting.setup_of, StepFacts.quits_master}

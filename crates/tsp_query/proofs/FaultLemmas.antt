@@ -5,7 +5,8 @@ pub use Rattle.tsp_lines.proofs.Leaving.{Counts-from, Counts-same}
 use Rattle.tsp_query.specs.Faults.{LinkCounts}
 
 -- a link's counts from an earlier moment, at which they were the same, and by another word for the fault
-pub LinkCounts-from : {L : Type 0} (links : LinkOf L) (old before now : L) (fault failed : Type 0) → links.faults before ≡ links.faults old → links.send_faults before ≡ links.send_faults old → (fault → failed) → (failed → fault)
+pub LinkCounts-from : {L : Type 0} (links : LinkOf L) (old before now : L) (fault failed : Type 0) → links.faults before ≡ links.faults old →
+    links.send_faults before ≡ links.send_faults old → (fault → failed) → (failed → fault)
     → LinkCounts links before now failed → LinkCounts links old now fault
 LinkCounts-from links old before now fault failed same sends to from c = record {
   later = (omega (arith, same, c.later.0), omega (arith, sends, c.later.1));

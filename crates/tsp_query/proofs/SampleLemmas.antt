@@ -17,7 +17,8 @@ pub diff_is : (wall : ℤ) (reading : ℤ) (first sent came : ℕ) → first ≤
 diff_is wall reading first sent came h k = ap (λ t. (reading -ℤ own_clock wall first sent) -ℤ half_down t) (trip_is wall first sent came h k)
 
 -- half of the round trip by the ticks between
-pub err_is : (wall : ℤ) (first sent came : ℕ) → first ≤ sent → sent ≤ came → sample_err (own_clock wall first sent) (own_clock wall first came) ≡ pos ((came - sent) - (came - sent) / 2)
+pub err_is : (wall : ℤ) (first sent came : ℕ) → first ≤ sent → sent ≤ came → sample_err (own_clock wall first sent) (own_clock wall first came) ≡
+    pos ((came - sent) - (came - sent) / 2)
 err_is wall first sent came h k = ap (λ t. half_up t) (trip_is wall first sent came h k) ∙ half_up_is (came - sent)
 
 -- what a query comes to by equal numbers

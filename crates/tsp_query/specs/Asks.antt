@@ -5,7 +5,8 @@ use Rattle.tsp_io.specs.{Links.Arrival, Links.Binding, Links.NotesReceive, Links
 use Rattle.tsp_query.specs.{Arrivals.all_but_first, Clocks.tick_given, Ends.Outside, Ends.KnowsExactly, Ends.WaitsSeconds, Lines.end_line}
 use Rattle.tsp_query.specs.Queries.{message, stamp, trace_kind, date_message, QueryEnds, master_in, heard_in, date_answer, diff_in}
 use Rattle.tsp_query.specs.Outside.{Observed, Knows, after_bind, WritesBeginning}
-use Rattle.tsp_query.specs.declared.query.QueryEnd.TheVariants.{Master, Diff, Heard, Date as Dated, NoAnswer as Unanswered, LinkFault as Faulty, OutOfMemory as Refused}
+use Rattle.tsp_query.specs.declared.query.QueryEnd.TheVariants.{Master, Diff, Heard, Date as Dated, NoAnswer as Unanswered, LinkFault as Faulty}
+use Rattle.tsp_query.specs.declared.query.QueryEnd.TheVariants.{OutOfMemory as Refused}
 use Rattle.tsp_query.specs.declared.question.Question.TheVariants.{OfNumber, OfDate, OfWord}
 use Rattle.tsp_args.specs.declared.query.Query.{Query}
 use Rattle.tsp_args.specs.declared.query.Query.TheVariants.{Msite as MsiteQuery, ClockDiff, Trace, Election, Date}
@@ -24,11 +25,17 @@ asking_of Refused = OutOfMemory
 
 -- a question ends so: the wall clock and the word were read, and a request was sent, whose number is made from the word
 abbrev pub QueryComes : Query → ℤ → ℕ → Outside → Option (List Arrival) → Option (List Tried) → Option ℕ → Option (List ℕ) → ℕ → ℕ → ℕ → QueryEnd → Type 0
-QueryComes MsiteQuery wall word o arrivals tried calls readings last sends sends_now end = QueryEnds (message Msite word) (OfNumber (word % 65536)) master_in o arrivals tried calls readings last sends sends_now end
-QueryComes ClockDiff wall word o arrivals tried calls readings last sends sends_now end = QueryEnds (stamp word) (OfWord word) (diff_in wall (tick_given o.last o.readings 0) (tick_given o.last o.readings 1)) o arrivals tried calls readings last sends sends_now end
-QueryComes (Trace on) wall word o arrivals tried calls readings last sends sends_now end = QueryEnds (message (trace_kind on) word) (OfNumber (word % 65536)) heard_in o arrivals tried calls readings last sends sends_now end
-QueryComes Election wall word o arrivals tried calls readings last sends sends_now end = QueryEnds (message Test word) (OfNumber (word % 65536)) heard_in o arrivals tried calls readings last sends sends_now end
-QueryComes (Date time) wall word o arrivals tried calls readings last sends sends_now end = QueryEnds (date_message time word) (OfDate (word % 65536)) date_answer o arrivals tried calls readings last sends sends_now end
+QueryComes MsiteQuery wall word o arrivals tried calls readings last sends sends_now end =
+    QueryEnds (message Msite word) (OfNumber (word % 65536)) master_in o arrivals tried calls readings last sends sends_now end
+QueryComes ClockDiff wall word o arrivals tried calls readings last sends sends_now end =
+    QueryEnds (stamp word) (OfWord word) (diff_in wall (tick_given o.last o.readings 0) (tick_given o.last o.readings 1)) o arrivals tried calls readings last
+    sends sends_now end
+QueryComes (Trace on) wall word o arrivals tried calls readings last sends sends_now end =
+    QueryEnds (message (trace_kind on) word) (OfNumber (word % 65536)) heard_in o arrivals tried calls readings last sends sends_now end
+QueryComes Election wall word o arrivals tried calls readings last sends sends_now end =
+    QueryEnds (message Test word) (OfNumber (word % 65536)) heard_in o arrivals tried calls readings last sends sends_now end
+QueryComes (Date time) wall word o arrivals tried calls readings last sends sends_now end =
+    QueryEnds (date_message time word) (OfDate (word % 65536)) date_answer o arrivals tried calls readings last sends sends_now end
 
 -- the address from which a question is asked: any address of this machine, and a UDP port that the system chooses
 abbrev pub anywhere : Addr
@@ -49,7 +56,8 @@ pub record IsNotAsked (o : Outside) (written : List ℕ) (before now : Observed)
 
 -- the link was bound, the question was asked, and its line was written, all of it or only the beginning; the last two
 -- numbers are the counts of failed sends before and after
-pub record IsAsked (daemon : Addr) (query : Query) (o : Outside) (wall : ℤ) (word : ℕ) (written : List ℕ) (before now : Observed) (sends sends_now : ℕ) (asking : QueryExit) : Type 0 where
+pub record IsAsked (daemon : Addr) (query : Query) (o : Outside) (wall : ℤ) (word : ℕ) (written : List ℕ) (before now : Observed) (sends sends_now : ℕ)
+    (asking : QueryExit) : Type 0 where
   pub end : QueryEnd
   pub comes : QueryComes query wall word (after_bind o) now.arrivals now.tried now.calls now.readings now.last sends sends_now end
   pub says : WritesBeginning (end_line query end) (asking_of end) WriteFault OutOfMemory (Some written) now.written asking
@@ -61,9 +69,11 @@ pub record IsAsked (daemon : Addr) (query : Query) (o : Outside) (wall : ℤ) (w
 
 -- how a question ends as a command, if this was known of the outside at its beginning
 abbrev pub AsksAs : Addr → Query → Outside → ℤ → ℕ → List ℕ → Observed → Observed → ℕ → ℕ → QueryExit → Type 0
-AsksAs daemon query o wall word written before now sends sends_now asking = IsNotAsked o written before now asking ⊎ IsAsked daemon query o wall word written before now sends sends_now asking
+AsksAs daemon query o wall word written before now sends sends_now asking = IsNotAsked o written before now asking ⊎
+    IsAsked daemon query o wall word written before now sends sends_now asking
 
 -- the same, if all of the outside is told at its beginning
 abbrev pub AsksIfTold : Addr → Query → Observed → Observed → ℕ → ℕ → QueryExit → Type 0
 AsksIfTold daemon query before now sends sends_now asking =
-    (o : Outside) (wall : ℤ) (word : ℕ) (written : List ℕ) → Knows o wall word written before → AsksAs daemon query o wall word written before now sends sends_now asking
+    (o : Outside) (wall : ℤ) (word : ℕ) (written : List ℕ) → Knows o wall word written before →
+    AsksAs daemon query o wall word written before now sends sends_now asking

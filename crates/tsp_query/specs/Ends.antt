@@ -18,7 +18,8 @@ pub record Outside : Type 0 where
   pub last : ℕ
 
 -- what is known of a link and a ticker is exactly this
-pub record KnowsExactly (o : Outside) (arrivals : Option (List Arrival)) (tried : Option (List Tried)) (calls : Option ℕ) (readings : Option (List ℕ)) (last : ℕ) : Type 0 where
+pub record KnowsExactly (o : Outside) (arrivals : Option (List Arrival)) (tried : Option (List Tried)) (calls : Option ℕ) (readings : Option (List ℕ))
+    (last : ℕ) : Type 0 where
   pub arrivals_are : arrivals ≡ Some o.arrivals
   pub tried_are : tried ≡ Some o.tried
   pub calls_are : calls ≡ Some o.calls
@@ -27,7 +28,13 @@ pub record KnowsExactly (o : Outside) (arrivals : Option (List Arrival)) (tried 
 
 -- the outside after a wait, and after the tick right after it was read
 abbrev pub after_wait : Outside → Outside
-after_wait o = record { arrivals = all_but_first o.arrivals; tried = o.tried; calls = one_more o.calls; readings = all_but_first o.readings; last = tick_given o.last o.readings 0 }
+after_wait o = record {
+  arrivals = all_but_first o.arrivals;
+  tried = o.tried;
+  calls = one_more o.calls;
+  readings = all_but_first o.readings;
+  last = tick_given o.last o.readings 0;
+}
 
 -- the outside after so many waits
 abbrev pub heard_times : ℕ → Outside → Outside
@@ -45,8 +52,10 @@ receives (Some r) = r.0 + 1
 
 -- what one receive comes to: an answer and the tick right after it, something else or nothing, or a failure
 abbrev pub Hears : Question → Outside → Option (List Arrival) → Option (List Tried) → Option ℕ → Option (List ℕ) → ℕ → Heard → Type 0
-Hears q o arrivals tried calls readings last (HeardAnswer d tick) = KnowsExactly (after_wait o) arrivals tried calls readings last × (answer_in q (next_arrival o.arrivals) ≡ Some d) × (tick ≡ last)
-Hears q o arrivals tried calls readings last Other = KnowsExactly (after_wait o) arrivals tried calls readings last × (answer_in q (next_arrival o.arrivals) ≡ None)
+Hears q o arrivals tried calls readings last (HeardAnswer d tick) = KnowsExactly (after_wait o) arrivals tried calls readings last ×
+    (answer_in q (next_arrival o.arrivals) ≡ Some d) × (tick ≡ last)
+Hears q o arrivals tried calls readings last Other = KnowsExactly (after_wait o) arrivals tried calls readings last ×
+    (answer_in q (next_arrival o.arrivals) ≡ None)
 Hears q o arrivals tried calls readings last Failed = KnowsExactly (failed o) arrivals tried calls readings last
 
 -- what was heard as an answer does answer the question, and its tick is at least the last one and at most 2^61
@@ -57,9 +66,11 @@ HearsWell q last _ = Unit {0}
 -- what up to eight receives come to: the first answer among them, unless one fails before it; nothing happens after
 -- either
 abbrev pub Listens : Question → Outside → Option (List Arrival) → Option (List Tried) → Option ℕ → Option (List ℕ) → ℕ → AskEnd → Type 0
-Listens q o arrivals tried calls readings last (Answer d tick) = (i : ℕ) × (first_answer q o.arrivals ≡ Some (i, d)) × (tick ≡ tick_given o.last o.readings i) × KnowsExactly (heard_times (i + 1) o) arrivals tried calls readings last
+Listens q o arrivals tried calls readings last (Answer d tick) = (i : ℕ) × (first_answer q o.arrivals ≡ Some (i, d)) × (tick ≡ tick_given o.last o.readings i) ×
+    KnowsExactly (heard_times (i + 1) o) arrivals tried calls readings last
 Listens q o arrivals tried calls readings last NoAnswer = (first_answer q o.arrivals ≡ None) × KnowsExactly (heard_times 8 o) arrivals tried calls readings last
-Listens q o arrivals tried calls readings last LinkFault = (n : ℕ) × (n < receives (first_answer q o.arrivals)) × KnowsExactly (failed (heard_times n o)) arrivals tried calls readings last
+Listens q o arrivals tried calls readings last LinkFault = (n : ℕ) × (n < receives (first_answer q o.arrivals)) ×
+    KnowsExactly (failed (heard_times n o)) arrivals tried calls readings last
 Listens q o arrivals tried calls readings last OutOfMemory = ⊥
 
 -- the outside after one datagram more was sent to the daemon
@@ -71,7 +82,8 @@ after_send request o = record o { tried = o.tried ++ (Peer (record { 0 = 0 }), c
 abbrev pub Asks : Datagram → Question → Outside → Option (List Arrival) → Option (List Tried) → Option ℕ → Option (List ℕ) → ℕ → ℕ → ℕ → AskEnd → Type 0
 Asks request q o arrivals tried calls readings last sends sends_now OutOfMemory = KnowsExactly o arrivals tried calls readings last
 Asks request q o arrivals tried calls readings last sends sends_now LinkFault =
-    (KnowsExactly (after_send request o) arrivals tried calls readings last × Rose sends sends_now) ⊎ (Listens q (after_send request o) arrivals tried calls readings last LinkFault × (sends_now ≡ sends))
+    (KnowsExactly (after_send request o) arrivals tried calls readings last × Rose sends sends_now) ⊎
+    (Listens q (after_send request o) arrivals tried calls readings last LinkFault × (sends_now ≡ sends))
 Asks request q o arrivals tried calls readings last sends sends_now end = Listens q (after_send request o) arrivals tried calls readings last end
 
 -- each receive waited a second, if it is told how long receives wait

@@ -72,4 +72,5 @@ IsCutShort text written now = (part : List ℕ) × (rest : List ℕ) × (0 < len
 -- a command was to write a text and then end as `meant`: it did so, or a write failed or it ran out of memory, and then
 -- only the beginning of the text was written
 abbrev pub WritesBeginning : {E : Type 0} → List ℕ → E → E → E → Option (List ℕ) → Option (List ℕ) → E → Type 0
-WritesBeginning text meant fault memory written now end = ((end ≡ meant) × Grows written now text) ⊎ (((end ≡ fault) ⊎ (end ≡ memory)) × IsCutShort text written now)
+WritesBeginning text meant fault memory written now end = ((end ≡ meant) × Grows written now text) ⊎
+    (((end ≡ fault) ⊎ (end ≡ memory)) × IsCutShort text written now)

@@ -50,11 +50,16 @@ end_of answer Faulty = LinkFault
 end_of answer Refused = OutOfMemory
 
 -- how a question ends that sends this request, and reads its answer by this function
-abbrev pub QueryEnds : Datagram → Question → (Datagram → ℕ → QueryEnd) → Outside → Option (List Arrival) → Option (List Tried) → Option ℕ → Option (List ℕ) → ℕ → ℕ → ℕ → QueryEnd → Type 0
-QueryEnds request q answer o arrivals tried calls readings last sends sends_now NoAnswer = Asks request q (read_twice o) arrivals tried calls readings last sends sends_now Unanswered
-QueryEnds request q answer o arrivals tried calls readings last sends sends_now LinkFault = Asks request q (read_twice o) arrivals tried calls readings last sends sends_now Faulty
-QueryEnds request q answer o arrivals tried calls readings last sends sends_now OutOfMemory = Asks request q (read_twice o) arrivals tried calls readings last sends sends_now Refused
-QueryEnds request q answer o arrivals tried calls readings last sends sends_now end = (d : Datagram) × (tick : ℕ) × Asks request q (read_twice o) arrivals tried calls readings last sends sends_now (Answer d tick) × (end ≡ answer d tick)
+abbrev pub QueryEnds : Datagram → Question → (Datagram → ℕ → QueryEnd) → Outside → Option (List Arrival) → Option (List Tried) → Option ℕ → Option (List ℕ) →
+    ℕ → ℕ → ℕ → QueryEnd → Type 0
+QueryEnds request q answer o arrivals tried calls readings last sends sends_now NoAnswer =
+    Asks request q (read_twice o) arrivals tried calls readings last sends sends_now Unanswered
+QueryEnds request q answer o arrivals tried calls readings last sends sends_now LinkFault =
+    Asks request q (read_twice o) arrivals tried calls readings last sends sends_now Faulty
+QueryEnds request q answer o arrivals tried calls readings last sends sends_now OutOfMemory =
+    Asks request q (read_twice o) arrivals tried calls readings last sends sends_now Refused
+QueryEnds request q answer o arrivals tried calls readings last sends sends_now end = (d : Datagram) × (tick : ℕ) ×
+    Asks request q (read_twice o) arrivals tried calls readings last sends sends_now (Answer d tick) × (end ≡ answer d tick)
 
 -- the answer to a message that is numbered by this word must repeat its number; so must the answer to a date
 abbrev pub by_number : ℕ → Question
@@ -112,4 +117,5 @@ reading_in (Message m) = pos 0
 -- the answer to how far the daemon's clock is ahead, and by how much that may be wrong: the sample of a request that
 -- went out at the tick `sent` and was answered at the tick `tick`, by a clock that showed `wall` at the tick `first`
 abbrev pub diff_in : ℤ → ℕ → ℕ → Datagram → ℕ → QueryEnd
-diff_in wall first sent d tick = Diff (sample_diff (own_clock wall first sent) (reading_in d) (own_clock wall first tick)) (sample_err (own_clock wall first sent) (own_clock wall first tick))
+diff_in wall first sent d tick = Diff (sample_diff (own_clock wall first sent) (reading_in d) (own_clock wall first tick))
+    (sample_err (own_clock wall first sent) (own_clock wall first tick))

@@ -5,7 +5,8 @@ use Rattle.tsp_query.specs.{Arrivals.all_but_first, Ends.WaitsSeconds}
 
 -- this holds of what a link and a ticker tell: of the arrivals to come, the sends that were tried, the number of calls,
 -- the readings to come, and the last one
-abbrev pub HoldsOf : {L T : Type 0} {A : Type 1} → LinkOf L → TickerOf T → (Option (List Arrival) → Option (List Tried) → Option ℕ → Option (List ℕ) → ℕ → A) → L → T → A
+abbrev pub HoldsOf : {L T : Type 0} {A : Type 1} → LinkOf L → TickerOf T → (Option (List Arrival) → Option (List Tried) → Option ℕ → Option (List ℕ) → ℕ → A) →
+    L → T → A
 HoldsOf links tickers fact link ticker = fact (links.arrivals link) (links.tried link) (links.calls link) (tickers.readings ticker) (tickers.last ticker)
 
 -- the wall clock was read right after the first tick, if it is told which ticks come

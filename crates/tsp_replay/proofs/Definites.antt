@@ -1,5 +1,6 @@
 -- What lines mean to a replay is definite, and a schedule's text has the answer that is due.
-use Rattle.std.proofs.Common.{◌≡◌, ℕ, ◌≤◌, inl, inr, List, [], ◌∷◌, ◌++◌, sym, ap, ◌∙◌, subst, length, append-nil, reverse, ◌==◌, Bool, true, false, if◌then◌else◌, refl}
+use Rattle.std.proofs.Common.{◌≡◌, ℕ, ◌≤◌, inl, inr, List, [], ◌∷◌, ◌++◌, sym, ap, ◌∙◌, subst, length, append-nil, reverse, ◌==◌, Bool, true, false}
+use Rattle.std.proofs.Common.{if◌then◌else◌, refl}
 use Rattle.tsp_base.specs.{Words.HeaderValue, declared.event.Event.Event}
 use Rattle.tsp_schedule.proofs.Definites.{Lacks-not_ended, Lacks-one, Refuses-one, Refuses-within}
 use Rattle.tsp_schedule.proofs.OneReading.{Reaches-one, GoesOn-not_refused, GoesOn-not_limited}
@@ -11,7 +12,8 @@ use Rattle.tsp_replay.specs.Schedules.{refused, Reaches, Refuses}
 use Rattle.tsp_run.specs.Run.{gained}
 
 -- what is written goes on with each line
-run_more : (header : HeaderValue) (events : List Event) (line : List ℕ) (to : Progress) → RunsOn header events line to → (more : List ℕ) × (written_at to ≡ trace header events ++ more)
+run_more : (header : HeaderValue) (events : List Event) (line : List ℕ) (to : Progress) → RunsOn header events line to → (more : List ℕ) ×
+    (written_at to ≡ trace header events ++ more)
 run_more header events line to (inl g) = (lines_text (gained header (g.0 ∷ events)), ap written_at g.3 ∙ trace-more header events g.0)
 run_more header events line to (inr g) = ([], ap written_at g.1 ∙ sym (append-nil (trace header events)))
 
@@ -29,10 +31,12 @@ written_more (Running header events) line to g = run_more header events line to 
 written_more (Ended header events) line to g = absurd g
 
 -- the line before brought the schedule to one place, and goes on from there
-last_line : (lines : List (List ℕ)) (line : List ℕ) (p : Progress) → Reaches (reverse (lines ++ line ∷ [])) p → (q : Progress) × Reaches (reverse lines) q × GoesOn q line p
+last_line : (lines : List (List ℕ)) (line : List ℕ) (p : Progress) → Reaches (reverse (lines ++ line ∷ [])) p → (q : Progress) × Reaches (reverse lines) q ×
+    GoesOn q line p
 last_line lines line p r = subst (λ ls. Reaches ls p) (reverse-more lines line) r
 
-replays_before : (lines : List (List ℕ)) (line text : List ℕ) → Replays (lines ++ line ∷ []) text → (front : List ℕ) × (more : List ℕ) × Replays lines front × (text ≡ front ++ more)
+replays_before : (lines : List (List ℕ)) (line text : List ℕ) → Replays (lines ++ line ∷ []) text → (front : List ℕ) × (more : List ℕ) × Replays lines front ×
+    (text ≡ front ++ more)
 replays_before lines line text (p, r, e) =
     let q = last_line lines line p r in
     let more = written_more q.0 line p q.2 in
@@ -52,8 +56,10 @@ definite_replaying = record {
   not_limited = λ lines line text (p, r, e) (q, s, f).
       let t = last_line lines line p r in
       GoesOn-not_limited refused q line p (subst (λ x. GoesOn x line p) (same_place lines t.0 q t.1 s) t.2) f;
-  one_cause = λ lines line cause other (p, r, e) (q, s, f). Refuses-one refused q line cause other (subst (λ x. Refuses x line cause) (same_place lines p q r s) e) f;
-  refused_within = λ lines line cause (p, r, e) (q, s, f). Refuses-within refused q line cause (subst (λ x. Refuses x line cause) (same_place lines p q r s) e) f;
+  one_cause = λ lines line cause other (p, r, e) (q, s, f). Refuses-one refused q line cause other (subst (λ x. Refuses x line cause) (same_place lines p q r s)
+      e) f;
+  refused_within = λ lines line cause (p, r, e) (q, s, f). Refuses-within refused q line cause (subst (λ x. Refuses x line cause) (same_place lines p q r s) e)
+      f;
   one_end = λ lines more other e f. e.1 ∙ sym f.1;
   one_lack = λ lines cause other (p, r, e) (q, s, f). Lacks-one q cause other (subst (λ x. Lacks x cause) (same_place lines p q r s) e) f;
   ended_whole = λ lines more cause e (p, r, f). Lacks-not_ended p cause (e.0 p r) f;

@@ -6,7 +6,8 @@ use Rattle.tsp_lines.proofs.OneCut.{AreLines-one}
 use Rattle.tsp_replay.specs.{Meaning.IsSchedule, Schedules.refused}
 
 -- a text is one schedule's
-pub IsSchedule-one : (octets : List ℕ) (header other : HeaderValue) (events others : List Event) → IsSchedule octets header events → IsSchedule octets other others → (header ≡ other) × (events ≡ others)
+pub IsSchedule-one : (octets : List ℕ) (header other : HeaderValue) (events others : List Event) → IsSchedule octets header events →
+    IsSchedule octets other others → (header ≡ other) × (events ≡ others)
 IsSchedule-one octets header other events others (lines, n, a, r) (ls, m, b, s) =
     let same = AreLines-one octets ls lines m n b a in
     let p = Reaches-one refused (reverse lines) (Ended header events) (Ended other others) r (rw same at s) in

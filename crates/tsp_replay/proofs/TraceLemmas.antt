@@ -14,7 +14,8 @@ pub reverse-more : {A : Type 0} (xs : List A) (x : A) → reverse (xs ++ x ∷ [
 reverse-more xs x = reverse-append xs (x ∷ [])
 
 -- one event more
-pub trace-more : (header : HeaderValue) (events : List Event) (e : Event) → trace header (e ∷ events) ≡ trace header events ++ lines_text (gained header (e ∷ events))
+pub trace-more : (header : HeaderValue) (events : List Event) (e : Event) → trace header (e ∷ events) ≡ trace header events ++
+    lines_text (gained header (e ∷ events))
 trace-more header events e = flat_map-append line_text (told header events) (gained header (e ∷ events))
 
 titled_told : (version : ℕ) (stage : Stage Replayed) → StageStands (Titled version) stage → told_at stage ≡ []
@@ -29,7 +30,8 @@ heading_told : (header : HeaderValue) (stage : Stage Replayed) → StageStands (
 heading_told header (AtHeading held) s = refl
 heading_told header _ s = absurd s
 
-running_told : (header : HeaderValue) (events : List Event) (stage : Stage Replayed) → StageStands (Running header events) stage → told_at stage ≡ gained header events
+running_told : (header : HeaderValue) (events : List Event) (stage : Stage Replayed) → StageStands (Running header events) stage → told_at stage ≡
+    gained header events
 running_told header events (AtRunning run) s = ap (λ o. if o then [] else run.handler.world.lines.items) s.0 ∙ s.1.lines
 running_told header events _ s = absurd s
 
@@ -37,7 +39,8 @@ ended_told : (header : HeaderValue) (events : List Event) (stage : Stage Replaye
 ended_told header events (AtRunning run) s = ap (λ o. if o then [] else run.handler.world.lines.items) s.0
 ended_told header events _ s = absurd s
 
-run_written : (header : HeaderValue) (events : List Event) (line : List ℕ) (to : Progress) (next : Stage Replayed) → RunsOn header events line to → StageStands to next → written_at to ≡ trace header events ++ lines_text (told_at next)
+run_written : (header : HeaderValue) (events : List Event) (line : List ℕ) (to : Progress) (next : Stage Replayed) → RunsOn header events line to →
+    StageStands to next → written_at to ≡ trace header events ++ lines_text (told_at next)
 run_written header events line to next (inl g) s =
     let stands : StageStands (Running header (g.0 ∷ events)) next = subst (λ p. StageStands p next) g.3 s in
     ap written_at g.3 ∙ trace-more header events g.0 ∙ ap (λ ls. trace header events ++ lines_text ls) (sym (running_told header (g.0 ∷ events) next stands))
@@ -46,15 +49,20 @@ run_written header events line to next (inr g) s =
     ap written_at g.1 ∙ sym (append-nil (trace header events)) ∙ ap (λ ls. trace header events ++ lines_text ls) (sym (ended_told header events next stands))
 
 -- what is written grows by the lines of the last event
-pub written_at-more : (p : Progress) (line : List ℕ) (to : Progress) (next : Stage Replayed) → GoesOn p line to → StageStands to next → written_at to ≡ written_at p ++ lines_text (told_at next)
+pub written_at-more : (p : Progress) (line : List ℕ) (to : Progress) (next : Stage Replayed) → GoesOn p line to → StageStands to next → written_at to ≡
+    written_at p ++ lines_text (told_at next)
 written_at-more Untitled line to next g s = ap written_at g.2 ∙ ap (λ ls. lines_text ls) (sym (titled_told g.0 next (subst (λ p. StageStands p next) g.2 s)))
 written_at-more (Titled version) line to next g s = by_version (version == 2) g.2 s where
-  by_version : (strict : Bool) → to ≡ (if strict then Drifted g.0 else Heading (new_header g.0 false)) → StageStands to next → written_at to ≡ lines_text (told_at next)
+  by_version : (strict : Bool) → to ≡ (if strict then Drifted g.0 else Heading (new_header g.0 false)) → StageStands to next → written_at to ≡
+      lines_text (told_at next)
   by_version true e s = ap written_at e ∙ ap (λ ls. lines_text ls) (sym (drifted_told g.0 next (subst (λ p. StageStands p next) e s)))
   by_version false e s = ap written_at e ∙ ap (λ ls. lines_text ls) (sym (heading_told _ next (subst (λ p. StageStands p next) e s)))
-written_at-more (Drifted drift) line to next g s = ap written_at g.1 ∙ ap (λ ls. lines_text ls) (sym (heading_told _ next (subst (λ p. StageStands p next) g.1 s)))
-written_at-more (Heading header) line to next (inl g) s = ap written_at g.3 ∙ ap (λ ls. lines_text ls) (sym (heading_told _ next (subst (λ p. StageStands p next) g.3 s)))
-written_at-more (Heading header) line to next (inr (inl g)) s = ap written_at g.3 ∙ ap (λ ls. lines_text ls) (sym (heading_told _ next (subst (λ p. StageStands p next) g.3 s)))
+written_at-more (Drifted drift) line to next g s = ap written_at g.1 ∙ ap (λ ls. lines_text ls)
+    (sym (heading_told _ next (subst (λ p. StageStands p next) g.1 s)))
+written_at-more (Heading header) line to next (inl g) s = ap written_at g.3 ∙ ap (λ ls. lines_text ls)
+    (sym (heading_told _ next (subst (λ p. StageStands p next) g.3 s)))
+written_at-more (Heading header) line to next (inr (inl g)) s = ap written_at g.3 ∙
+    ap (λ ls. lines_text ls) (sym (heading_told _ next (subst (λ p. StageStands p next) g.3 s)))
 written_at-more (Heading header) line to next (inr (inr g)) s = run_written header [] line to next g.2 s
 written_at-more (Running header events) line to next g s = run_written header events line to next g s
 written_at-more (Ended header events) line to next g s = absurd g

@@ -17,7 +17,8 @@ IsScheduleText octets = (header : HeaderValue) × (events : List Event) × IsSch
 abbrev pub Replays : List (List ℕ) → List ℕ → Type 0
 Replays lines text = (p : Progress) × Reaches (reverse lines) p × (text ≡ written_at p)
 
--- lines are accepted as the beginning of a schedule, and their output is its trace; the input may end where the last line is the schedule's last, however the lines are read
+-- lines are accepted as the beginning of a schedule, and their output is its trace; the input may end where the last line is the schedule's last, however the
+-- lines are read
 abbrev pub replaying : Meaning
 replaying = record {
   accepts = Replays;

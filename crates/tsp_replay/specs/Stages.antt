@@ -1,7 +1,8 @@
 -- What a stage of the replay stands for, and the lines that it gives.
 use Rattle.std.specs.Prelude.{◌≡◌, ℕ, if◌then◌else◌, List, [], ◌++◌, Option}
 use Rattle.tsp_base.specs.{Words.HeaderValue, declared.event.Event.Event}
-use Rattle.tsp_schedule.specs.declared.stage.Stage.TheVariants.{Untitled as AtUntitled, Titled as AtTitled, Drifted as AtDrifted, Heading as AtHeading, Running as AtRunning}
+use Rattle.tsp_schedule.specs.declared.stage.Stage.TheVariants.{Untitled as AtUntitled, Titled as AtTitled, Drifted as AtDrifted, Heading as AtHeading}
+use Rattle.tsp_schedule.specs.declared.stage.Stage.TheVariants.{Running as AtRunning}
 use Rattle.tsp_schedule.specs.{Stages.StageHolds as StandsBy, declared.run.Run.Run, declared.stage.Stage.Stage}
 use Rattle.tsp_lines.specs.{Outputs.Hands, declared.treatment.Stop.Stop}
 use Rattle.tsp_lines.specs.declared.treatment.Stop.TheVariants.{Bad, Limit, WriteFault, OutOfMemory}

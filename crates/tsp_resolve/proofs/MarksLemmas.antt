@@ -1,5 +1,6 @@
 -- Marks that are all taken away.
-use Rattle.std.proofs.Common.{◌∙◌, ap, sym, arith, append-nil, get_or, ◌≡◌, ℕ, zero, suc, ◌+◌, ◌<◌, ◌≤◌, Bool, false, List, [], ◌∷◌, ◌++◌, length, take, drop, set, replicate, refl}
+use Rattle.std.proofs.Common.{◌∙◌, ap, sym, arith, append-nil, get_or, ◌≡◌, ℕ, zero, suc, ◌+◌, ◌<◌, ◌≤◌, Bool, false, List, [], ◌∷◌, ◌++◌, length, take, drop}
+use Rattle.std.proofs.Common.{set, replicate, refl}
 use Rattle.std.proofs.{Math.Seq.take-append_seam, lemmas.List.drop_more, lemmas.List.length-replicate, lemmas.List.set_at}
 
 replicate_front : (n : ℕ) (ys : List Bool) → replicate n false ++ false ∷ ys ≡ false ∷ (replicate n false ++ ys)
@@ -7,7 +8,8 @@ replicate_front zero ys = refl
 replicate_front (suc n) ys = ap (λ zs. false ∷ zs) (replicate_front n ys)
 
 -- one mark more is taken away
-pub unset_more : (xs now : List Bool) (i : ℕ) → i < length xs → now ≡ replicate i false ++ drop i xs → set now i false ≡ replicate (i + 1) false ++ drop (i + 1) xs
+pub unset_more : (xs now : List Bool) (i : ℕ) → i < length xs → now ≡ replicate i false ++ drop i xs → set now i false ≡ replicate (i + 1) false ++
+    drop (i + 1) xs
 unset_more xs now i h e =
     let is : now ≡ replicate i false ++ get_or xs i false ∷ drop (i + 1) xs = e ∙ ap (λ ys. replicate i false ++ ys) (drop_more xs i false h) in
     let one : i + 1 ≡ suc i = omega arith in

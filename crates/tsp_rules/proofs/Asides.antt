@@ -16,5 +16,6 @@ abbrev pub all_aside : ℕ → Past → List Act → Past
 all_aside x past acts = record past { seen = passed past.step x acts past.seen }
 
 -- what another port sees of a port's acts
-pub on_other : (q r : Port) (x : ℕ) (past : NodePast) (acts : List Act) → (q.0 == r.0) ≡ false → Bootless acts → on_port r (spread x past (placed q acts)) ≡ all_aside x (on_port r past) acts
+pub on_other : (q r : Port) (x : ℕ) (past : NodePast) (acts : List Act) → (q.0 == r.0) ≡ false → Bootless acts → on_port r (spread x past (placed q acts)) ≡
+    all_aside x (on_port r past) acts
 on_other q r x past acts n b = ap (λ s. record (on_port r past) { seen = s }) (view_other q r past.step x acts past.lines n b)

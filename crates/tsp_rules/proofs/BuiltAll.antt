@@ -21,8 +21,11 @@ pub data BuiltAll (o : Owed) (has : Port → Type 0) : ℕ → ℕ → NodeRow �
   On : {sorts : List Sort} {k c : ℕ} {row row' : Row} (q : Port) → has q → Built unchanged o sorts k c row row' → BuiltAll o has k c (on q row)
   ThenAll : {j b k c : ℕ} {r s : NodeRow} → BuiltAll o has j b r → BuiltAll o has k c s → BuiltAll o has (j + k) (b + c) (r and_then s)
   -- the row is chosen by a fact of which something is known
-  ReadingAll : {k c : ℕ} {A : Type 0} {rows : A → NodeRow} (known : A → Type 0) (fact : ℕ → NodePast → A) → ((x : ℕ) (past : NodePast) → known (fact x past)) → ((a : A) → known a → BuiltAll o has k c (rows a)) → BuiltAll o has k c (λ x past. rows (fact x past) x past)
+  ReadingAll : {k c : ℕ} {A : Type 0} {rows : A → NodeRow} (known : A → Type 0) (fact : ℕ → NodePast → A) → ((x : ℕ) (past : NodePast) → known (fact x past)) →
+      ((a : A) → known a → BuiltAll o has k c (rows a)) → BuiltAll o has k c (λ x past. rows (fact x past) x past)
   WhereAll : {k c : ℕ} {row : NodeRow} (test : NodePast → Bool) → BuiltAll o has k c row → BuiltAll o has k c (λ x past. if test past then row x past else [])
-  ForPorts : {k c : ℕ} {ports : NodePast → List Port} {row : Port → NodeRow} → PortsOf ports → ((q : Port) → has q → BuiltAll o has k c (row q)) → BuiltAll o has (k * 4) (c * 4) (λ x past. for_ports row (ports past) x past)
-  StirringAll : {sorts : List Sort} {k c : ℕ} {ports : NodePast → List Port} {row row' : Row} (q : Port) → has q → PortsOf ports → Built unchanged o sorts k c row row' → BuiltAll o has k (c + 4) (λ x past. stirring q (ports past) row x past)
+  ForPorts : {k c : ℕ} {ports : NodePast → List Port} {row : Port → NodeRow} → PortsOf ports → ((q : Port) → has q → BuiltAll o has k c (row q)) →
+      BuiltAll o has (k * 4) (c * 4) (λ x past. for_ports row (ports past) x past)
+  StirringAll : {sorts : List Sort} {k c : ℕ} {ports : NodePast → List Port} {row row' : Row} (q : Port) → has q → PortsOf ports →
+      Built unchanged o sorts k c row row' → BuiltAll o has k (c + 4) (λ x past. stirring q (ports past) row x past)
   MoreAll : {j b k c : ℕ} {row : NodeRow} → BuiltAll o has j b row → (nat_le j k && nat_le b c) ≡ true → BuiltAll o has k c row

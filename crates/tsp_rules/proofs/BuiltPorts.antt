@@ -1,8 +1,11 @@
 -- How a node's rows over its ports are made.
 use Rattle.std.specs.Prelude.{◌≡◌, ℕ, Bool, true, false, List, length, refl}
-use Rattle.tsp_rules.specs.Values.{Alarm, Quiet, Search, Elect, Window, Probe, Round, CloseAlarm, ResolveAlarm, Message, Taken, Good, Bad, Stamp, Kind, LoopKind, Place, Port}
+use Rattle.tsp_rules.specs.Values.{Alarm, Quiet, Search, Elect, Window, Probe, Round, CloseAlarm, ResolveAlarm, Message, Taken, Good, Bad, Stamp, Kind}
+use Rattle.tsp_rules.specs.Values.{LoopKind, Place, Port}
 use Rattle.tsp_base.specs.Words.{MessageValue}
-use Rattle.tsp_rules.specs.GateRows.{alarm_on, alarms_on, all_ports, begins_round_on, boots_on, closes_on, ends_probes, forwards, heeds_loop, hears_on, in_charge, is_awake_on, judge, judges, leads_clock, LoopStep, PassOver, GiveUp, Forward, loops_after, probes_on, reposts_on, steers, takes_kind, takes_loop, takes_loop_step, takes_message, takes_on, turns_on, waits, stirred_ports}
+use Rattle.tsp_rules.specs.GateRows.{alarm_on, alarms_on, all_ports, begins_round_on, boots_on, closes_on, ends_probes, forwards, heeds_loop, hears_on}
+use Rattle.tsp_rules.specs.GateRows.{in_charge, is_awake_on, judge, judges, leads_clock, LoopStep, PassOver, GiveUp, Forward, loops_after, probes_on}
+use Rattle.tsp_rules.specs.GateRows.{reposts_on, steers, takes_kind, takes_loop, takes_loop_step, takes_message, takes_on, turns_on, waits, stirred_ports}
 use Rattle.tsp_rules.specs.NodeRows.{on_port, for_ports, reading_all, stirring}
 use Rattle.tsp_rules.proofs.RowCodes.{AMessage, ANumber, APlace, ATaken, Any, Owed}
 use Rattle.tsp_rules.proofs.BuiltAll.{BuiltAll, EachPort, EmptyAll, ForPorts, MoreAll, On, OtherPorts, ReadingAll, StirredPorts, StirringAll, ThenAll, WhereAll}
@@ -22,7 +25,8 @@ module _ {o : Owed} {has : Port → Type 0} where
     built-probes : (q : Port) → has q → BuiltAll o has 3 4 (probes_on q)
     unfolding probes_on loops_after
     built-probes q is = ReadingAll Any (λ x past. rings true false Probe x (on_port q past)) (λ x past. tt) (λ acts known.
-        ThenAll (On q is (built_rings true false Probe)) (WhereAll (λ past. ends_probes acts (on_port q past) past.ports) (On q is (built_sends_loops q (numbers q is)))))
+        ThenAll (On q is (built_rings true false Probe)) (WhereAll (λ past. ends_probes acts (on_port q past) past.ports)
+        (On q is (built_sends_loops q (numbers q is)))))
 
     built-closes : (q : Port) (own : Bool) → has q → BuiltAll o has 2 8 (closes_on q own)
     unfolding closes_on
@@ -39,7 +43,8 @@ module _ {o : Owed} {has : Port → Type 0} where
     unfolding turns_on alarms_on
     built-turns q is =
         let alarm = λ (a : Alarm). built-alarm q a is in
-        ThenAll (On q is built_due_sends) (ThenAll (alarm Quiet) (ThenAll (alarm Search) (ThenAll (alarm Elect) (ThenAll (alarm Window) (ThenAll (alarm Probe) (ThenAll (alarm CloseAlarm) (ThenAll (alarm ResolveAlarm) (alarm Round))))))))
+        ThenAll (On q is built_due_sends) (ThenAll (alarm Quiet) (ThenAll (alarm Search)
+        (ThenAll (alarm Elect) (ThenAll (alarm Window) (ThenAll (alarm Probe) (ThenAll (alarm CloseAlarm) (ThenAll (alarm ResolveAlarm) (alarm Round))))))))
 
     pub built_all_turns : BuiltAll o has 104 256 (reading_all all_ports (for_ports turns_on))
     unfolding reading_all
@@ -61,23 +66,29 @@ module _ {o : Owed} {has : Port → Type 0} where
   built-step q GiveUp is owed = MoreAll (On q is built_loosens_master) refl
   built-step q (Forward m) is owed = MoreAll (ForPorts (OtherPorts q) (λ r has_r. built-reposts m r owed has_r)) refl
 
-  pub built_heeds : (q : Port) (from : Place) (m : MessageValue) → has q → ((own : List ℕ) (ports : ℕ) → OwesStep o (judge own ports q m)) → BuiltAll o has 4 2 (reading_all (hears_on from q) (heeds_loop q m))
+  pub built_heeds : (q : Port) (from : Place) (m : MessageValue) → has q → ((own : List ℕ) (ports : ℕ) → OwesStep o (judge own ports q m)) →
+      BuiltAll o has 4 2 (reading_all (hears_on from q) (heeds_loop q m))
   unfolding reading_all heeds_loop judges
   built_heeds q from m is owed = ReadingAll Any (hears_on from q) (λ x past. tt) by_case where
     by_case : (b : Bool) → Any b → BuiltAll o has 4 2 (heeds_loop q m b)
-    by_case true known = ReadingAll (OwesStep o) (λ x past. judge past.name (length past.ports) q m) (λ x past. owed past.name (length past.ports)) (λ step owes. built-step q step is owes)
+    by_case true known = ReadingAll (OwesStep o) (λ x past. judge past.name (length past.ports) q m) (λ x past. owed past.name (length past.ports))
+        (λ step owes. built-step q step is owes)
     by_case false known = EmptyAll
 
   -- all that is taken
   module _ (q : Port) (from : Place) (is : has q) (back : o.of (APlace from)) where
-    built-kind : (m : MessageValue) (k : Kind) → o.of (ATaken (Good (Message m))) → Owes o (Good (Message m)) → (k ≡ LoopKind → (own : List ℕ) (ports : ℕ) → OwesStep o (judge own ports q m)) → BuiltAll o has 4 10 (takes_kind q from m k)
+    built-kind : (m : MessageValue) (k : Kind) → o.of (ATaken (Good (Message m))) → Owes o (Good (Message m)) →
+        (k ≡ LoopKind → (own : List ℕ) (ports : ℕ) → OwesStep o (judge own ports q m)) → BuiltAll o has 4 10 (takes_kind q from m k)
     unfolding takes_kind takes_loop takes_message
     built-kind m LoopKind taken owes loop = MoreAll (ThenAll (On q is (built_took from (Good (Message m)) taken)) (built_heeds q from m is (loop refl))) refl
-    built-kind m _ taken owes loop = MoreAll (ReadingAll {A = Bool × Bool} {rows = λ f x past. stirring q (stirred_ports q m.kind past) (takes f.0 f.1 from (Good (Message m))) x past} Any (λ x past. (steers q x past, in_charge q x past)) (λ x past. tt) (λ f known.
+    built-kind m _ taken owes loop = MoreAll (ReadingAll {A = Bool × Bool} {rows = λ f x past. stirring q (stirred_ports q m.kind past)
+        (takes f.0 f.1 from (Good (Message m))) x past} Any (λ x past. (steers q x past, in_charge q x past)) (λ x past. tt) (λ f known.
         StirringAll q is (StirredPorts q m.kind) (built_takes f.0 f.1 from (Good (Message m)) (comes_unchanged from) taken back owes))) refl
 
-    pub built_takes_on : (t : Taken) → o.of (ATaken t) → Owes o t → ((m : MessageValue) → t ≡ Good (Message m) → m.kind ≡ LoopKind → (own : List ℕ) (ports : ℕ) → OwesStep o (judge own ports q m)) → BuiltAll o has 4 10 (takes_on q from t)
+    pub built_takes_on : (t : Taken) → o.of (ATaken t) → Owes o t → ((m : MessageValue) → t ≡ Good (Message m) → m.kind ≡ LoopKind →
+        (own : List ℕ) (ports : ℕ) → OwesStep o (judge own ports q m)) → BuiltAll o has 4 10 (takes_on q from t)
     unfolding takes_on
     built_takes_on (Good (Message m)) taken owes loop = built-kind m m.kind taken owes (loop m refl)
-    built_takes_on (Good (Stamp z)) taken owes loop = MoreAll (On q is (built_takes true true from (Good (Stamp z)) (comes_unchanged from) taken back owes)) refl
+    built_takes_on (Good (Stamp z)) taken owes loop = MoreAll (On q is (built_takes true true from (Good (Stamp z)) (comes_unchanged from) taken back owes))
+        refl
     built_takes_on (Bad fault) taken owes loop = MoreAll (On q is (built_takes true true from (Bad fault) (comes_unchanged from) taken back owes)) refl

@@ -1,12 +1,17 @@
 -- How the rows of a port are made in each of its roles.
 use Rattle.std.proofs.Common.{true≢false, ◌≡◌, ◌≢◌, ℕ, ◌==◌, ℤ, true, false, List, [], ◌∷◌, refl}
-use Rattle.tsp_rules.specs.Values.{Become, Back, Ring, Late, Quiet, Search, Elect, Kind, Accept, Ack, AdjTime, Conflict, Election, MasterAck, MasterUp, QuitKind, Refuse, SetTime, PeerId, Role, Loose, Follow, Join, Rival, ResolveAlarm, MasterReq, ResolveKind, SlaveUp, WINDOW, Backer, Acked, Window, Round, Master, ROUND}
-use Rattle.tsp_rules.specs.SlaveRows.{quiet_rings, rings_or_late, search_rings, loosens, elect_rings, reports_conflict, masterup_in, masterack_in, election_of, acks_repeat, confirms, adjtime_of, settime_of, from_master, slave_takes_kind, slave_takes}
+use Rattle.tsp_rules.specs.Values.{Become, Back, Ring, Late, Quiet, Search, Elect, Kind, Accept, Ack, AdjTime, Conflict, Election, MasterAck, MasterUp}
+use Rattle.tsp_rules.specs.Values.{QuitKind, Refuse, SetTime, PeerId, Role, Loose, Follow, Join, Rival, ResolveAlarm, MasterReq, ResolveKind, SlaveUp, WINDOW}
+use Rattle.tsp_rules.specs.Values.{Backer, Acked, Window, Round, Master, ROUND}
+use Rattle.tsp_rules.specs.SlaveRows.{quiet_rings, rings_or_late, search_rings, loosens, elect_rings, reports_conflict, masterup_in, masterack_in, election_of}
+use Rattle.tsp_rules.specs.SlaveRows.{acks_repeat, confirms, adjtime_of, settime_of, from_master, slave_takes_kind, slave_takes}
 use Rattle.tsp_rules.proofs.Emits.{Sort, Numbering, Posting, Alarming, Acking, Moving, is_part, Correcting, Tabling, Rivalling, Leading, Changing, Counting}
 use Rattle.tsp_rules.specs.Renames.{Naming, known_role, renamed_role}
-use Rattle.tsp_rules.proofs.RowCodes.{ANumber, Owed, Puts, Posts, Adjusts, Sets, RoleAt, InTime, Armed, MayStand, MayBack, Follows, IsFree, IsRepeated, TakesAmount, TakesValue, Arms, SettimeBegins, ToOthers, Rivals, MayJoin, HasQuit, IsNewRival, HasWon, HasElection}
+use Rattle.tsp_rules.proofs.RowCodes.{ANumber, Owed, Puts, Posts, Adjusts, Sets, RoleAt, InTime, Armed, MayStand, MayBack, Follows, IsFree, IsRepeated}
+use Rattle.tsp_rules.proofs.RowCodes.{TakesAmount, TakesValue, Arms, SettimeBegins, ToOthers, Rivals, MayJoin, HasQuit, IsNewRival, HasWon, HasElection}
 use Rattle.tsp_rules.proofs.Built.{Built, Empty, At, Then, Either, If, Reading, More, Wider, whichever, Each}
-use Rattle.tsp_rules.proofs.BuiltShared.{loose_sorts, standing_sorts, quit_sorts, built_arms_elect, built_searches, built_again, built_follow_row, built_begins, built_candidature_row, built_quits, built_acknowledges}
+use Rattle.tsp_rules.proofs.BuiltShared.{loose_sorts, standing_sorts, quit_sorts, built_arms_elect, built_searches, built_again, built_follow_row, built_begins}
+use Rattle.tsp_rules.proofs.BuiltShared.{built_candidature_row, built_quits, built_acknowledges}
 use Rattle.tsp_rules.specs.MasterRows.{joins, sends_away, master_takes_kind, master_takes}
 use Rattle.tsp_rules.specs.ResolveRows.{resolves, finds_rival, quits_rivals, resolve_rings}
 use Rattle.tsp_rules.specs.CandidateRows.{lead_row, yields, window_rings, accepted_by, refused_by, candidate_takes_kind, candidate_takes}
@@ -52,15 +57,18 @@ module _ {m : Naming} {o : Owed} where
       (Then (At (Puts (Ring Window) refl tt) refl) (whichever (HasWon stands) built-lead (More (Wider refl built_yields) refl)))
       (More (Then (At (Puts (Late Window) refl tt) refl) (Wider refl built_yields)) refl)
 
-  pub built_accepted_by : (p : PeerId) (number : ℕ) → m.known p → Built m o (candidate_sorts Accept) 0 2 (accepted_by p number) (accepted_by (m.names.peer p) number)
+  pub built_accepted_by : (p : PeerId) (number : ℕ) → m.known p → Built m o (candidate_sorts Accept) 0 2 (accepted_by p number)
+      (accepted_by (m.names.peer p) number)
   unfolding accepted_by
   built_accepted_by p number known = whichever (HasElection p number) (Then (At (Puts (Acked p) refl known) refl) (At (Puts (Backer p) refl known) refl)) Empty
 
-  pub built_refused_by : (p : PeerId) (number : ℕ) → m.known p → Built m o (candidate_sorts Refuse) 0 3 (refused_by p number) (refused_by (m.names.peer p) number)
+  pub built_refused_by : (p : PeerId) (number : ℕ) → m.known p → Built m o (candidate_sorts Refuse) 0 3 (refused_by p number)
+      (refused_by (m.names.peer p) number)
   unfolding refused_by
   built_refused_by p number known = whichever (HasElection p number) (Then (At (Puts (Acked p) refl known) refl) (Wider refl built_yields)) Empty
 
-  pub built_candidate_takes_kind : (p : PeerId) (msg : MessageValue) (k : Kind) → m.known p → o.of (ANumber msg.number) → Built m o (candidate_sorts k) 0 5 (candidate_takes_kind p msg k) (candidate_takes_kind (m.names.peer p) msg k)
+  pub built_candidate_takes_kind : (p : PeerId) (msg : MessageValue) (k : Kind) → m.known p → o.of (ANumber msg.number) →
+      Built m o (candidate_sorts k) 0 5 (candidate_takes_kind p msg k) (candidate_takes_kind (m.names.peer p) msg k)
   unfolding candidate_takes_kind
   built_candidate_takes_kind p msg MasterUp known is = More (Wider refl (built_follow_row p known)) refl
   built_candidate_takes_kind p msg MasterAck known is = More (Wider refl (built_follow_row p known)) refl
@@ -71,7 +79,8 @@ module _ {m : Naming} {o : Owed} where
   built_candidate_takes_kind p msg Ack known is = More (built_acknowledges p msg.number known) refl
   built_candidate_takes_kind p msg _ known is = Empty
 
-  pub built_candidate_takes : (p : PeerId) (msg : MessageValue) → m.known p → o.of (ANumber msg.number) → Built m o all_candidate_sorts 0 5 (candidate_takes p msg) (candidate_takes (m.names.peer p) msg)
+  pub built_candidate_takes : (p : PeerId) (msg : MessageValue) → m.known p → o.of (ANumber msg.number) →
+      Built m o all_candidate_sorts 0 5 (candidate_takes p msg) (candidate_takes (m.names.peer p) msg)
   unfolding candidate_takes
   built_candidate_takes p msg known is = Wider (candidate-part msg.kind) (built_candidate_takes_kind p msg msg.kind known is)
 
@@ -94,7 +103,8 @@ module _ {m : Naming} {o : Owed} where
   unfolding resolves
   built_resolves = whichever (Armed ResolveAlarm) Empty (Then (At (Arms ResolveAlarm WINDOW tt) refl) (At (ToOthers ResolveKind refl) refl))
 
-  pub built_conflict : (p : PeerId) (number : ℕ) → m.known p → o.of (ANumber number) → Built m o question_sorts 1 2 (posts p Ack number followed_by resolves) (posts (m.names.peer p) Ack number followed_by resolves)
+  pub built_conflict : (p : PeerId) (number : ℕ) → m.known p → o.of (ANumber number) →
+      Built m o question_sorts 1 2 (posts p Ack number followed_by resolves) (posts (m.names.peer p) Ack number followed_by resolves)
   built_conflict p number known is = Then (At (Posts p Ack number known is refl) refl) built_resolves
 
   pub built_finds_rival : (p : PeerId) → m.known p → Built m o (Rivalling ∷ []) 0 1 (finds_rival p) (finds_rival (m.names.peer p))
@@ -107,7 +117,8 @@ module _ {m : Naming} {o : Owed} where
       (Then (At (Puts (Ring ResolveAlarm) refl tt) refl) (Each _ Rivals (λ p known. built_begins QuitKind p known refl refl)))
       (More (At (Puts (Late ResolveAlarm) refl tt) refl) refl)
 
-  pub built_joins : (p : PeerId) (number : ℕ) → m.known p → o.of (ANumber number) → Built m o (Correcting ∷ Tabling ∷ []) 0 2 (joins p number) (joins (m.names.peer p) number)
+  pub built_joins : (p : PeerId) (number : ℕ) → m.known p → o.of (ANumber number) →
+      Built m o (Correcting ∷ Tabling ∷ []) 0 2 (joins p number) (joins (m.names.peer p) number)
   unfolding joins
   built_joins p number known is = whichever (MayJoin p number) (Then (At (Puts (Join p) refl known) refl) (At (SettimeBegins p number known is) refl)) Empty
 
@@ -115,7 +126,8 @@ module _ {m : Naming} {o : Owed} where
   unfolding sends_away
   built_sends_away p known = whichever (HasQuit p) Empty (built_begins QuitKind p known refl refl)
 
-  pub built_master_takes_kind : (p : PeerId) (msg : MessageValue) (k : Kind) → m.known p → o.of (ANumber msg.number) → Built m o master_sorts 1 5 (master_takes_kind p msg k) (master_takes_kind (m.names.peer p) msg k)
+  pub built_master_takes_kind : (p : PeerId) (msg : MessageValue) (k : Kind) → m.known p → o.of (ANumber msg.number) →
+      Built m o master_sorts 1 5 (master_takes_kind p msg k) (master_takes_kind (m.names.peer p) msg k)
   unfolding master_takes_kind
   built_master_takes_kind p msg MasterReq known is = More (At (Posts p MasterAck msg.number known is refl) refl) refl
   built_master_takes_kind p msg ResolveKind known is = More (At (Posts p MasterAck msg.number known is refl) refl) refl
@@ -128,7 +140,8 @@ module _ {m : Naming} {o : Owed} where
   built_master_takes_kind p msg Ack known is = More (Wider refl (built_acknowledges p msg.number known)) refl
   built_master_takes_kind p msg _ known is = Empty
 
-  pub built_master_takes : (p : PeerId) (msg : MessageValue) → m.known p → o.of (ANumber msg.number) → Built m o master_sorts 1 5 (master_takes p msg) (master_takes (m.names.peer p) msg)
+  pub built_master_takes : (p : PeerId) (msg : MessageValue) → m.known p → o.of (ANumber msg.number) →
+      Built m o master_sorts 1 5 (master_takes p msg) (master_takes (m.names.peer p) msg)
   unfolding master_takes
   built_master_takes p msg known is = built_master_takes_kind p msg msg.kind known is
 
@@ -188,19 +201,23 @@ module _ {m : Naming} {o : Owed} where
   unfolding reports_conflict
   built_reports_conflict q known = whichever (IsFree q) (built_begins Conflict q known refl refl) Empty
 
-  built-masterup : (p : PeerId) → m.known p → (r : Role) → known_role m r → Built m o (slave_sorts MasterUp) 0 3 (masterup_in p r) (masterup_in (m.names.peer p) (renamed_role m.names r))
+  built-masterup : (p : PeerId) → m.known p → (r : Role) → known_role m r → Built m o (slave_sorts MasterUp) 0 3 (masterup_in p r)
+      (masterup_in (m.names.peer p) (renamed_role m.names r))
   unfolding masterup_in
   built-masterup p known Loose told = Wider refl (built_follow_row p known)
-  built-masterup p known (Follow q) told = If (q.0 == p.0) _ (m.same q p) (λ e. More (Wider refl (built_again p known)) refl) (More (Wider refl (built_reports_conflict q told)) refl)
+  built-masterup p known (Follow q) told = If (q.0 == p.0) _ (m.same q p) (λ e. More (Wider refl (built_again p known)) refl)
+      (More (Wider refl (built_reports_conflict q told)) refl)
   built-masterup p known _ told = Empty
 
-  built-masterack : (p : PeerId) → m.known p → (r : Role) → known_role m r → Built m o (slave_sorts MasterAck) 0 3 (masterack_in p r) (masterack_in (m.names.peer p) (renamed_role m.names r))
+  built-masterack : (p : PeerId) → m.known p → (r : Role) → known_role m r → Built m o (slave_sorts MasterAck) 0 3 (masterack_in p r)
+      (masterack_in (m.names.peer p) (renamed_role m.names r))
   unfolding masterack_in
   built-masterack p known Loose told = whichever (Armed Search) (Wider refl (built_follow_row p known)) Empty
   built-masterack p known (Follow q) told = If (q.0 == p.0) _ (m.same q p) (λ e. Empty) (More (Wider refl (built_reports_conflict q told)) refl)
   built-masterack p known _ told = Empty
 
-  built-from : {sorts : List Sort} {c : ℕ} (p : PeerId) (row row' : Row) → Built m o sorts 0 c row row' → (r : Role) → Built m o sorts 0 c (from_master p row r) (from_master (m.names.peer p) row' (renamed_role m.names r))
+  built-from : {sorts : List Sort} {c : ℕ} (p : PeerId) (row row' : Row) → Built m o sorts 0 c row row' → (r : Role) →
+      Built m o sorts 0 c (from_master p row r) (from_master (m.names.peer p) row' (renamed_role m.names r))
   unfolding from_master
   built-from p row row' d (Follow q) = If (q.0 == p.0) _ (m.same q p) (λ e. d) Empty
   built-from p row row' d _ = Empty
@@ -228,17 +245,21 @@ module _ {m : Naming} {o : Owed} where
     unfolding settime_of
     built_settime_of value = whichever (TakesValue number value) (Then (At (Sets value) refl) built-confirms) (More (Wider refl built_acks_repeat) refl)
 
-  pub built_slave_takes_kind : (p : PeerId) (msg : MessageValue) (k : Kind) → m.known p → o.of (ANumber msg.number) → Built m o (slave_sorts k) 0 5 (slave_takes_kind p msg k) (slave_takes_kind (m.names.peer p) msg k)
+  pub built_slave_takes_kind : (p : PeerId) (msg : MessageValue) (k : Kind) → m.known p → o.of (ANumber msg.number) →
+      Built m o (slave_sorts k) 0 5 (slave_takes_kind p msg k) (slave_takes_kind (m.names.peer p) msg k)
   unfolding slave_takes_kind
   built_slave_takes_kind p msg MasterUp known is = More (Reading _ RoleAt (built-masterup p known)) refl
   built_slave_takes_kind p msg MasterAck known is = More (Reading _ RoleAt (built-masterack p known)) refl
   built_slave_takes_kind p msg Election known is = More (Wider refl (built_election_of p msg.number known is)) refl
-  built_slave_takes_kind p msg AdjTime known is = More (Reading _ RoleAt (λ r told. built-from p _ _ (built_adjtime_of p msg.number known is (time_in msg.body)) r)) refl
-  built_slave_takes_kind p msg SetTime known is = More (Reading _ RoleAt (λ r told. built-from p _ _ (built_settime_of p msg.number known is (time_in msg.body)) r)) refl
+  built_slave_takes_kind p msg AdjTime known is = More (Reading _ RoleAt (λ r told. built-from p _ _ (built_adjtime_of p msg.number known is (time_in msg.body))
+      r)) refl
+  built_slave_takes_kind p msg SetTime known is = More (Reading _ RoleAt (λ r told. built-from p _ _ (built_settime_of p msg.number known is (time_in msg.body))
+      r)) refl
   built_slave_takes_kind p msg QuitKind known is = Wider refl (built_quits p msg.number known is)
   built_slave_takes_kind p msg Ack known is = More (built_acknowledges p msg.number known) refl
   built_slave_takes_kind p msg _ known is = Empty
 
-  pub built_slave_takes : (p : PeerId) (msg : MessageValue) → m.known p → o.of (ANumber msg.number) → Built m o (slave_sorts msg.kind) 0 5 (slave_takes p msg) (slave_takes (m.names.peer p) msg)
+  pub built_slave_takes : (p : PeerId) (msg : MessageValue) → m.known p → o.of (ANumber msg.number) →
+      Built m o (slave_sorts msg.kind) 0 5 (slave_takes p msg) (slave_takes (m.names.peer p) msg)
   unfolding slave_takes
   built_slave_takes p msg known is = built_slave_takes_kind p msg msg.kind known is

@@ -2,9 +2,11 @@
 use Rattle.std.specs.Prelude.{◌==◌, ℤ, ◌-ℤ◌, Bool, true, false, List, [], ◌∷◌, Option, None, Some, refl}
 use Rattle.tsp_rules.specs.Values.{Ring, Late, Abandon, Leave, Round, Probe, CloseAlarm, MasterUp, PeerId, CLOSE, PROBE, ROUND, WAIT}
 use Rattle.tsp_base.specs.Words.{Estimate, OpenRequest, ReplyValue}
-use Rattle.tsp_rules.specs.RoundRows.{asks_slaves, round_begins, begins_or_waits, round_rings, asks_measured, arms_next, abandons, probe_rings, samples_request, samples, is_near, corrects_by, moves, close_rings, abandons_going}
+use Rattle.tsp_rules.specs.RoundRows.{asks_slaves, round_begins, begins_or_waits, round_rings, asks_measured, arms_next, abandons, probe_rings, samples_request}
+use Rattle.tsp_rules.specs.RoundRows.{samples, is_near, corrects_by, moves, close_rings, abandons_going}
 use Rattle.tsp_rules.proofs.Emits.{Sort, Asking, Correcting, Posting, Alarming, Rounding, Tabling, Sampling, Closing, Moving}
-use Rattle.tsp_rules.proofs.RowCodes.{ATicket, Owed, Puts, Arms, Asks, Adjusts, Samples, ToOthers, RequestAt, TargetAt, Measured, Table, HasMore, InTime, IsGoing}
+use Rattle.tsp_rules.proofs.RowCodes.{ATicket, Owed, Puts, Arms, Asks, Adjusts, Samples, ToOthers, RequestAt, TargetAt, Measured, Table, HasMore, InTime}
+use Rattle.tsp_rules.proofs.RowCodes.{IsGoing}
 use Rattle.tsp_rules.proofs.Built.{Built, Corrects, Empty, At, Then, If, Reading, Each, Closes, More, Wider, whichever}
 use Rattle.tsp_rules.{proofs.BuiltSends.built_begins_adjtime, proofs.BuiltSends.built_begins_settime, specs.Renames.Naming}
 
@@ -53,7 +55,8 @@ module _ {m : Naming} {o : Owed} where
   pub built_probe_rings : Built m o asking_sorts 1 2 probe_rings probe_rings
   unfolding probe_rings asks_measured arms_next
   built_probe_rings = whichever (InTime Probe)
-      (Then (At (Puts (Ring Probe) refl tt) refl) (Then (Each _ Measured (λ p known. At (Asks p known) refl)) (whichever HasMore (At (Arms Probe PROBE tt) refl) Empty)))
+      (Then (At (Puts (Ring Probe) refl tt) refl) (Then (Each _ Measured (λ p known. At (Asks p known) refl)) (whichever HasMore (At (Arms Probe PROBE tt) refl)
+      Empty)))
       (More (Then (At (Puts (Late Probe) refl tt) refl) (Wider refl built_abandons)) refl)
 
   built-moves : (own : Bool) (mean : ℤ) → Built m o close_sorts 0 1 (moves own mean) (moves own mean)
@@ -61,7 +64,8 @@ module _ {m : Naming} {o : Owed} where
   built-moves true mean = At (Adjusts mean) refl
   built-moves false mean = Empty
 
-  pub built_corrects_by : (mean : ℤ) (p : PeerId) → m.known p → (best : Option Estimate) → Corrects o mean best → Built m o correct_sorts 0 1 (corrects_by mean p best) (corrects_by mean (m.names.peer p) best)
+  pub built_corrects_by : (mean : ℤ) (p : PeerId) → m.known p → (best : Option Estimate) → Corrects o mean best →
+      Built m o correct_sorts 0 1 (corrects_by mean p best) (corrects_by mean (m.names.peer p) best)
   unfolding corrects_by
   built_corrects_by mean p known None is = At (Puts (Leave p) refl known) refl
   built_corrects_by mean p known (Some b) is = If (is_near b.diff) _ refl
@@ -74,11 +78,13 @@ module _ {m : Naming} {o : Owed} where
       (Closes own refl (built-moves own) (λ mean p known best is. Wider refl (built_corrects_by mean p known best is)))
       (More (Then (At (Puts (Late CloseAlarm) refl tt) refl) (Wider refl built_abandons)) refl)
 
-  built-request : (p : PeerId) (r : ReplyValue) → m.known p → o.of (ATicket r.ticket) → (q : Option OpenRequest) → Built m o (Sampling ∷ []) 0 1 (samples_request p r q) (samples_request (m.names.peer p) r q)
+  built-request : (p : PeerId) (r : ReplyValue) → m.known p → o.of (ATicket r.ticket) → (q : Option OpenRequest) →
+      Built m o (Sampling ∷ []) 0 1 (samples_request p r q) (samples_request (m.names.peer p) r q)
   unfolding samples_request
   built-request p r known is None = Empty
   built-request p r known is (Some q) = If (q.word == r.word) _ refl (λ e. Reading _ TargetAt (λ d told. At (Samples p r q.target d known is) refl)) Empty
 
-  pub built_samples : (p : PeerId) (r : ReplyValue) → m.known p → o.of (ATicket r.ticket) → Built m o (Sampling ∷ []) 0 1 (samples p r) (samples (m.names.peer p) r)
+  pub built_samples : (p : PeerId) (r : ReplyValue) → m.known p → o.of (ATicket r.ticket) →
+      Built m o (Sampling ∷ []) 0 1 (samples p r) (samples (m.names.peer p) r)
   unfolding samples
   built_samples p r known is = Reading _ (RequestAt p r.counter) (λ q told. built-request p r known is q)

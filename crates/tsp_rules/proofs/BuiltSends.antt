@@ -17,10 +17,12 @@ kind-sent SetDateReq = refl
 kind-sent _ = refl
 
 module _ {m : Naming} {o : Owed} where
-  pub built_begins_settime : (p : PeerId) (number : ℕ) → m.known p → o.of (ANumber number) → Built m o (Correcting ∷ []) 0 1 (begins_settime p number) (begins_settime (m.names.peer p) number)
+  pub built_begins_settime : (p : PeerId) (number : ℕ) → m.known p → o.of (ANumber number) →
+      Built m o (Correcting ∷ []) 0 1 (begins_settime p number) (begins_settime (m.names.peer p) number)
   built_begins_settime p number known is = At (SettimeBegins p number known is) refl
 
-  pub built_begins_adjtime : (p : PeerId) (number : ℕ) (amount : ℤ) → m.known p → o.of (ANumber number) → o.of (ATime amount) → Built m o (Correcting ∷ []) 0 1 (begins_adjtime p number amount) (begins_adjtime (m.names.peer p) number amount)
+  pub built_begins_adjtime : (p : PeerId) (number : ℕ) (amount : ℤ) → m.known p → o.of (ANumber number) → o.of (ATime amount) →
+      Built m o (Correcting ∷ []) 0 1 (begins_adjtime p number amount) (begins_adjtime (m.names.peer p) number amount)
   unfolding begins_adjtime
   built_begins_adjtime p number amount known is time = whichever (MayCorrect p number) (At (PostsTime p AdjTime number amount known is time refl) refl) Empty
 
@@ -28,10 +30,12 @@ module _ {m : Naming} {o : Owed} where
   unfolding leaves_after
   built-leaves p k known = If (is_correction k) _ refl (λ e. whichever (IsSlave p) (At (Puts (Leave p) refl known) refl) Empty) Empty
 
-  built-repeats : (p : PeerId) → m.known p → (s : Sending) → o.of (ASend (Some s)) → Built m o send_sorts 0 2 (repeats_send p (Some s)) (repeats_send (m.names.peer p) (Some (later_send m.names s)))
+  built-repeats : (p : PeerId) → m.known p → (s : Sending) → o.of (ASend (Some s)) →
+      Built m o send_sorts 0 2 (repeats_send p (Some s)) (repeats_send (m.names.peer p) (Some (later_send m.names s)))
   unfolding repeats_send gives_up
   built-repeats p known s is = whichever (IsSendDue s)
-      (whichever (IsSpent s) (Then (At (Puts (Gave p) refl known) refl) (built-leaves p s.message.kind known)) (More (At (Repeats p s known is) (kind-sent s.message.kind)) refl)) Empty
+      (whichever (IsSpent s) (Then (At (Puts (Gave p) refl known) refl) (built-leaves p s.message.kind known))
+      (More (At (Repeats p s known is) (kind-sent s.message.kind)) refl)) Empty
 
   pub built_due_sends : Built m o send_sorts 2 0 due_sends due_sends
   unfolding due_sends due_send repeats_send

@@ -1,12 +1,15 @@
 -- How the rows are made that several roles share.
 use Rattle.std.specs.Prelude.{◌≡◌, ℕ, Bool, true, List, [], ◌∷◌, refl}
-use Rattle.tsp_rules.specs.Values.{Become, Back, Acked, Quit, Trace, Search, Elect, Window, Kind, Ack, Election, MasterReq, SlaveUp, PeerId, Place, Role, Follow, Candidate, WINDOW}
+use Rattle.tsp_rules.specs.Values.{Become, Back, Acked, Quit, Trace, Search, Elect, Window, Kind, Ack, Election, MasterReq, SlaveUp, PeerId, Place, Role}
+use Rattle.tsp_rules.specs.Values.{Follow, Candidate, WINDOW}
 use Rattle.tsp_base.specs.Words.{◌followed_by◌}
-use Rattle.tsp_rules.specs.CommonRows.{arms_elect, searches, tells_ticket, follow_row, backs_own, candidature_row, follows_unless, quits, names_master, says_master, traces, tests, replies}
+use Rattle.tsp_rules.specs.CommonRows.{arms_elect, searches, tells_ticket, follow_row, backs_own, candidature_row, follows_unless, quits, names_master}
+use Rattle.tsp_rules.specs.CommonRows.{says_master, traces, tests, replies}
 use Rattle.tsp_rules.specs.SendRows.{acknowledges, begins, begins_to_others}
 use Rattle.tsp_rules.proofs.Emits.{Sort, Numbering, Posting, Following, Changing, Backing, Alarming, Acking, Tracing, is_part, sort_of_kind}
 use Rattle.tsp_rules.specs.Renames.{Naming, known_place, renamed_place, renamed_role}
-use Rattle.tsp_rules.proofs.RowCodes.{ANumber, APlace, AStamp, Owed, Puts, Arms, Posts, PostsBack, PostsName, PostsReply, ToOthers, DelayAt, OwnAt, RoleAt, MasterName, NextNumber, TicketAt, Others, HasOther, IsAwake, IsMaster, MayBeAsked, is_bare}
+use Rattle.tsp_rules.proofs.RowCodes.{ANumber, APlace, AStamp, Owed, Puts, Arms, Posts, PostsBack, PostsName, PostsReply, ToOthers, DelayAt, OwnAt, RoleAt}
+use Rattle.tsp_rules.proofs.RowCodes.{MasterName, NextNumber, TicketAt, Others, HasOther, IsAwake, IsMaster, MayBeAsked, is_bare}
 use Rattle.tsp_rules.proofs.Built.{Built, Empty, At, Then, Either, Reading, ReadingValue, Each, Wider, whichever}
 
 -- acts that follow a master
@@ -38,7 +41,8 @@ module _ {m : Naming} {o : Owed} where
   unfolding searches
   built_searches = Then (At (Arms Search WINDOW tt) refl) (At (ToOthers MasterReq refl) refl)
 
-  pub built_again : (p : PeerId) → m.known p → Built m o follow_sorts 0 2 (arms_elect followed_by tells_ticket p) (arms_elect followed_by tells_ticket (m.names.peer p))
+  pub built_again : (p : PeerId) → m.known p → Built m o follow_sorts 0 2 (arms_elect followed_by tells_ticket p)
+      (arms_elect followed_by tells_ticket (m.names.peer p))
   unfolding tells_ticket
   built_again p known = Then (Wider refl built_arms_elect) (ReadingValue _ TicketAt (λ n is. At (Posts p SlaveUp n known is refl) refl))
 
@@ -47,7 +51,8 @@ module _ {m : Naming} {o : Owed} where
   built_follow_row p known = Then (At (Puts (Become (Follow p)) refl known) refl) (built_again p known)
 
   -- a send with the port's own number, of a kind whose acts are allowed
-  pub built_begins : {sorts : List Sort} (kind : Kind) (p : PeerId) → m.known p → is_bare kind ≡ true → is_part (sort_of_kind kind ∷ []) sorts ≡ true → Built m o sorts 0 1 (begins kind p) (begins kind (m.names.peer p))
+  pub built_begins : {sorts : List Sort} (kind : Kind) (p : PeerId) → m.known p → is_bare kind ≡ true → is_part (sort_of_kind kind ∷ []) sorts ≡ true →
+      Built m o sorts 0 1 (begins kind p) (begins kind (m.names.peer p))
   unfolding begins
   built_begins kind p known fits e = ReadingValue _ NextNumber (λ n is. At (Posts p kind n known is fits) e)
 
@@ -65,14 +70,16 @@ module _ {m : Naming} {o : Owed} where
 
   pub built_quits : (p : PeerId) (number : ℕ) → m.known p → o.of (ANumber number) → Built m o quit_sorts 0 5 (quits p number) (quits (m.names.peer p) number)
   unfolding quits
-  built_quits p number known is = Then (At (Puts (Quit p) refl known) refl) (Then (At (Posts p Ack number known is refl) refl) (Reading _ RoleAt (λ r told. built-unless p r known)))
+  built_quits p number known is = Then (At (Puts (Quit p) refl known) refl) (Then (At (Posts p Ack number known is refl) refl)
+      (Reading _ RoleAt (λ r told. built-unless p r known)))
 
   pub built_acknowledges : (p : PeerId) (number : ℕ) → m.known p → Built m o (Acking ∷ []) 0 1 (acknowledges p number) (acknowledges (m.names.peer p) number)
   unfolding acknowledges
   built_acknowledges p number known = whichever (HasOther p number) (At (Puts (Acked p) refl known) refl) Empty
 
   -- what anybody may ask
-  pub built_replies : (from : Place) (word counter : ℕ) → known_place m from → o.of (APlace from) → o.of (AStamp word counter) → Built m o (Posting ∷ []) 0 1 (replies from word counter) (replies (renamed_place m.names from) word counter)
+  pub built_replies : (from : Place) (word counter : ℕ) → known_place m from → o.of (APlace from) → o.of (AStamp word counter) →
+      Built m o (Posting ∷ []) 0 1 (replies from word counter) (replies (renamed_place m.names from) word counter)
   built_replies from word counter known back is = At (PostsReply from word counter known back is) refl
 
   module _ (from : Place) (number : ℕ) (known : known_place m from) (back : o.of (APlace from)) (is : o.of (ANumber number)) where
@@ -90,4 +97,5 @@ module _ {m : Naming} {o : Owed} where
 
     pub built_tests : Built m o standing_sorts 1 4 (tests from number) (tests (renamed_place m.names from) number)
     unfolding tests
-    built_tests = whichever IsAwake (Then (At (PostsBack from Ack number known back is refl) refl) (Either MayBeAsked built_candidature_row (λ fails. Empty))) Empty
+    built_tests = whichever IsAwake (Then (At (PostsBack from Ack number known back is refl) refl) (Either MayBeAsked built_candidature_row (λ fails. Empty)))
+        Empty

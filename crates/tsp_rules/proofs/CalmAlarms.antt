@@ -30,6 +30,8 @@ module _ {strange : Bool} where
   pub calm_due_alarms : Calm strange true 16 32 due_alarms
   unfolding due_alarms
   calm_due_alarms =
-      calm_then 2 4 14 28 (rings_alone Quiet) _ (calm_alone Quiet) (calm_then 2 4 12 24 (rings_alone Search) _ (calm_alone Search) (calm_then 2 4 10 20 (rings_alone Elect) _ (calm_alone Elect)
-      (calm_then 2 4 8 16 (rings_alone Window) _ (calm_alone Window) (calm_then 2 4 6 12 (rings_alone Probe) _ (calm_alone Probe) (calm_then 2 4 4 8 (rings_alone CloseAlarm) _ (calm_alone CloseAlarm)
+      calm_then 2 4 14 28 (rings_alone Quiet) _ (calm_alone Quiet) (calm_then 2 4 12 24 (rings_alone Search) _ (calm_alone Search)
+      (calm_then 2 4 10 20 (rings_alone Elect) _ (calm_alone Elect)
+      (calm_then 2 4 8 16 (rings_alone Window) _ (calm_alone Window) (calm_then 2 4 6 12 (rings_alone Probe) _ (calm_alone Probe)
+      (calm_then 2 4 4 8 (rings_alone CloseAlarm) _ (calm_alone CloseAlarm)
       (calm_then 2 4 2 4 (rings_alone ResolveAlarm) (rings_alone Round) (calm_alone ResolveAlarm) (calm_alone Round)))))))

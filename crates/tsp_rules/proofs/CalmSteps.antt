@@ -1,5 +1,6 @@
 -- A whole step takes nothing but what it is given, puts few acts, and posts to a stranger only where it is given a stranger's datagram.
-use Rattle.std.proofs.Common.{sym, subst, ap, arith, true≢false, append_assoc, append-nil, length-append, ◌∙◌, ◌≡◌, ◌≤◌, ℕ, ◌+◌, ◌*◌, Bool, true, false, if◌then◌else◌, List, [], ◌∷◌, ◌++◌, length, All, refl}
+use Rattle.std.proofs.Common.{sym, subst, ap, arith, true≢false, append_assoc, append-nil, length-append, ◌∙◌, ◌≡◌, ◌≤◌, ℕ, ◌+◌, ◌*◌, Bool, true, false}
+use Rattle.std.proofs.Common.{if◌then◌else◌, List, [], ◌∷◌, ◌++◌, length, All, refl}
 use Rattle.std.proofs.lemmas.{Bool.and_parts, List.Elements.All-nil, List.Elements.All-cons, List.Elements.All-append}
 use Rattle.tsp_rules.specs.Values.{Act, Took, Post, Message, Stamp, Taken, Good, Bad, Place, Stranger, Request, Reply}
 use Rattle.tsp_base.specs.Words.{Past, Row, grown, nothing, puts, ◌followed_by◌, either_by}
@@ -31,7 +32,8 @@ unmoving-stamps _ e = refl
 
 -- stamps, and octets that are no datagram, never move the clock
 pub calm_stamps : (steer charge : Bool) (from : Place) (t : Taken) → is_message t ≡ false → Calm (is_stranger from) false 2 5 (handles steer charge from t)
-calm_stamps steer charge from t e = calm_unmoving (unmoving-stamps t e) (built_handles steer charge from t (place_unchanged from) (λ e. e) (calm-owed (is_stranger from) t))
+calm_stamps steer charge from t e = calm_unmoving (unmoving-stamps t e) (built_handles steer charge from t (place_unchanged from) (λ e. e)
+    (calm-owed (is_stranger from) t))
 
 pub calm_abandons_going : {strange moving : Bool} → Calm strange moving 0 1 abandons_going
 calm_abandons_going = calm_unmoving refl built_abandons_going
@@ -47,7 +49,8 @@ pub record TakesFirst (moving : Bool) (from : Place) (t : Taken) (most : ℕ) (a
 pub record Taking (moving : Bool) (from : Place) (t : Taken) (k c : ℕ) (row : Row) : Type 0 where
   pub run : (x : ℕ) (past : Past) → TakesFirst moving from t (k * length past.peers + c) (row x past)
 
-pub taking : {moving : Bool} (from : Place) (t : Taken) (k c : ℕ) (handled : Row) → Calm (is_stranger from) moving k c handled → Taking moving from t k c (puts (Took from t) followed_by either_by (is_own from) nothing handled)
+pub taking : {moving : Bool} (from : Place) (t : Taken) (k c : ℕ) (handled : Row) → Calm (is_stranger from) moving k c handled →
+    Taking moving from t k c (puts (Took from t) followed_by either_by (is_own from) nothing handled)
 unfolding ◌followed_by◌ puts
 taking from t k c handled p = record {
   run = λ x past.
@@ -59,7 +62,8 @@ taking from t k c handled p = record {
 pub taking_upsetting : (from : Place) (t : Taken) (k c : ℕ) (row : Row) → Taking true from t k c row → Taking true from t k (c + 1) (upsetting row)
 unfolding upsetting
 taking_upsetting from t k c row p = record { run = λ x past. ended x past (p.run x past) (corrects (row x past)) } where
-  ended : (x : ℕ) (past : Past) → TakesFirst true from t (k * length past.peers + c) (row x past) → (b : Bool) → TakesFirst true from t (k * length past.peers + (c + 1)) (row x past ++ (if b then abandons_going x (grown x past (row x past)) else []))
+  ended : (x : ℕ) (past : Past) → TakesFirst true from t (k * length past.peers + c) (row x past) → (b : Bool) →
+      TakesFirst true from t (k * length past.peers + (c + 1)) (row x past ++ (if b then abandons_going x (grown x past (row x past)) else []))
   ended x past f false = record { after = f.after; is = append-nil (row x past) ∙ f.is; calm = f.calm; few = (let few = f.few in omega (arith, few)) }
   ended x past f true =
       let more = calm_abandons_going {strange = is_stranger from} {moving = true} in
@@ -90,7 +94,8 @@ pub record TakesOnce (from : Place) (t : Taken) (peers : ℕ) (acts : List Act) 
   pub few : length acts ≤ 20 * peers + 39
 
 -- a step that takes after calm rows
-pub takes_between : (from : Place) (t : Taken) (sends alarms input : Row) → Calm (is_stranger from) true 2 0 sends → Calm (is_stranger from) true 16 32 alarms → Taking true from t 2 6 input → (x : ℕ) (past : Past) →
+pub takes_between : (from : Place) (t : Taken) (sends alarms input : Row) → Calm (is_stranger from) true 2 0 sends → Calm (is_stranger from) true 16 32 alarms →
+    Taking true from t 2 6 input → (x : ℕ) (past : Past) →
     TakesOnce from t (length past.peers) ((sends followed_by (alarms followed_by input)) x past)
 unfolding ◌followed_by◌
 takes_between from t sends alarms input send_calm alarm_calm taken x past =
@@ -114,7 +119,8 @@ takes_between from t sends alarms input send_calm alarm_calm taken x past =
 
 pub takes_once : (from : Place) (t : Taken) (x : ℕ) (past : Past) → TakesOnce from t (length past.peers) (answers (Got from t) x past)
 unfolding answers input_row takes
-takes_once from t = takes_between from t due_sends due_alarms (upsetting (puts (Took from t) followed_by either_by (is_own from) nothing (handles true true from t))) calm_due_sends calm_due_alarms
+takes_once from t = takes_between from t due_sends due_alarms (upsetting (puts (Took from t) followed_by either_by (is_own from) nothing
+    (handles true true from t))) calm_due_sends calm_due_alarms
     (taking_upsetting from t 2 5 _ (taking from t 2 5 (handles true true from t) (calm_handles true true from t)))
 
 -- calm acts are known
@@ -124,7 +130,8 @@ known_act strange moving _ e = tt
 
 pub known_calm : (strange moving : Bool) (acts : List Act) → is_calm strange moving acts ≡ true → All (IsKnown strange) acts
 known_calm strange moving [] e = All-nil (IsKnown strange)
-known_calm strange moving (a ∷ acts) e = let both = and_parts (is_calm_act strange moving a) (is_calm strange moving acts) e in All-cons (IsKnown strange) a acts (known_act strange moving a both.0) (known_calm strange moving acts both.1)
+known_calm strange moving (a ∷ acts) e = let both = and_parts (is_calm_act strange moving a) (is_calm strange moving acts) e in
+    All-cons (IsKnown strange) a acts (known_act strange moving a both.0) (known_calm strange moving acts both.1)
 
 -- what a step takes once is known
 pub known_once : (from : Place) (t : Taken) (peers : ℕ) (acts : List Act) → TakesOnce from t peers acts → All (IsKnown (is_stranger from)) acts

@@ -1,8 +1,12 @@
 -- Which sorts of acts a row puts, and what rows of such acts leave alone.
-use Rattle.std.proofs.Common.{sym, ap, true≢false, eq-eqb, eqb-true, ◌∙◌, ◌≡◌, ℕ, ◌==◌, ◌||◌, ◌&&◌, Bool, true, false, if◌then◌else◌, ℤ, List, [], ◌∷◌, ◌++◌, map, refl}
+use Rattle.std.proofs.Common.{sym, ap, true≢false, eq-eqb, eqb-true, ◌∙◌, ◌≡◌, ℕ, ◌==◌, ◌||◌, ◌&&◌, Bool, true, false, if◌then◌else◌, ℤ, List, [], ◌∷◌, ◌++◌}
+use Rattle.std.proofs.Common.{map, refl}
 use Rattle.std.proofs.lemmas.Bool.{and_parts}
-use Rattle.tsp_rules.specs.Values.{Act, Boot, Took, Post, Become, Arm, Ring, Late, Back, Backer, Abandon, Close, Correct, Sample, Acked, Gave, Join, Leave, Rival, Quit, Trace, Alarm, Probe, CloseAlarm, Datagram, Message, Stamp, Kind, AdjTime, Conflict, Election, QuitKind, SetDateReq, SetTime, PeerId, Place, Role, Follow, Master, Request, Reply}
-use Rattle.tsp_base.specs.Words.{Past, Keeps, Row, grown, nothing, puts, ◌followed_by◌, either_by, reading, for_each, arms, posts, posts_to_others, posts_back, posts_time, post_of, others}
+use Rattle.tsp_rules.specs.Values.{Act, Boot, Took, Post, Become, Arm, Ring, Late, Back, Backer, Abandon, Close, Correct, Sample, Acked, Gave, Join, Leave}
+use Rattle.tsp_rules.specs.Values.{Rival, Quit, Trace, Alarm, Probe, CloseAlarm, Datagram, Message, Stamp, Kind, AdjTime, Conflict, Election, QuitKind}
+use Rattle.tsp_rules.specs.Values.{SetDateReq, SetTime, PeerId, Place, Role, Follow, Master, Request, Reply}
+use Rattle.tsp_base.specs.Words.{Past, Keeps, Row, grown, nothing, puts, ◌followed_by◌, either_by, reading, for_each, arms, posts, posts_to_others, posts_back}
+use Rattle.tsp_base.specs.Words.{posts_time, post_of, others}
 use Rattle.tsp_rules.specs.ClockRows.{adjusts, sets}
 
 -- acts that facts tell apart
@@ -135,11 +139,20 @@ Emits_puts a e = record { only = λ x past. (e, tt) }
 
 pub Emits_then : {sorts : List Sort} (r s : Row) → Emits sorts r → Emits sorts s → Emits sorts (r followed_by s)
 unfolding ◌followed_by◌
-Emits_then {sorts} r s p q = record { only = λ x past. all_append sorts (r x past) (s x (grown x past (r x past))) (p.only x past) (q.only x (grown x past (r x past))) }
+Emits_then {sorts} r s p q = record {
+  only = λ x past. all_append sorts (r x past) (s x (grown x past (r x past))) (p.only x past)
+      (q.only x (grown x past (r x past)));
+}
 
 pub Emits_either : {sorts : List Sort} (test : ℕ → Past → Bool) (r s : Row) → Emits sorts r → Emits sorts s → Emits sorts (either_by test r s)
 unfolding either_by
-Emits_either {sorts} test r s p q = record { only = λ x past. elim (test x past) as (λ b. AllOf sorts (if b then r x past else s x past)) [ true ↦ p.only x past | false ↦ q.only x past ] }
+Emits_either {sorts} test r s p q = record {
+  only = λ x past. elim (test x past) as (λ b. AllOf sorts (if b then r x past else s x past)) [
+    | true ↦
+        p.only x past
+    | false ↦ q.only x past
+  ];
+}
 
 pub Emits_reading : {sorts : List Sort} {A : Type 0} (fact : ℕ → Past → A) (rows : A → Row) → ((a : A) → Emits sorts (rows a)) → Emits sorts (reading fact rows)
 unfolding reading
@@ -173,19 +186,23 @@ is_part [] all = true
 is_part (s ∷ rest) all = is_in s all && is_part rest all
 
 -- what each act of these sorts keeps a row of them keeps
-keeps-all : {T : Type 0} (sorts : List Sort) (also : Past → T → Type 0) → ((a : Act) → is_in (sort_of a) sorts ≡ true → Keeps also (puts a)) → (acts : List Act) → AllOf sorts acts → (x : ℕ) (past : Past) (state : T) → also past state → also (grown x past acts) state
+keeps-all : {T : Type 0} (sorts : List Sort) (also : Past → T → Type 0) → ((a : Act) → is_in (sort_of a) sorts ≡ true → Keeps also (puts a)) →
+    (acts : List Act) → AllOf sorts acts → (x : ℕ) (past : Past) (state : T) → also past state → also (grown x past acts) state
 unfolding puts
 keeps-all sorts also k [] a x past state h = h
 keeps-all sorts also k (c ∷ rest) a x past state h = keeps-all sorts also k rest a.1 x (grown x past (c ∷ [])) state (k c a.0 x past state h)
 
-pub Keeps_by : {T : Type 0} (sorts : List Sort) (also : Past → T → Type 0) (row : Row) → ((a : Act) → is_in (sort_of a) sorts ≡ true → Keeps also (puts a)) → Emits sorts row → Keeps also row
+pub Keeps_by : {T : Type 0} (sorts : List Sort) (also : Past → T → Type 0) (row : Row) → ((a : Act) → is_in (sort_of a) sorts ≡ true → Keeps also (puts a)) →
+    Emits sorts row → Keeps also row
 Keeps_by sorts also row k e = λ x past state h. keeps-all sorts also k (row x past) (e.only x past) x past state h
 
-pub Emits_posts_back : {sorts : List Sort} (from : Place) (kind : Kind) (number : ℕ) → is_in (sort_of_kind kind) sorts ≡ true → Emits sorts (posts_back from kind number)
+pub Emits_posts_back : {sorts : List Sort} (from : Place) (kind : Kind) (number : ℕ) → is_in (sort_of_kind kind) sorts ≡ true →
+    Emits sorts (posts_back from kind number)
 unfolding posts_back
 Emits_posts_back from kind number e = record { only = λ x past. (e, tt) }
 
-pub Emits_posts_time : {sorts : List Sort} (p : PeerId) (kind : Kind) (number : ℕ) (time : ℤ) → is_in (sort_of_kind kind) sorts ≡ true → Emits sorts (posts_time p kind number time)
+pub Emits_posts_time : {sorts : List Sort} (p : PeerId) (kind : Kind) (number : ℕ) (time : ℤ) → is_in (sort_of_kind kind) sorts ≡ true →
+    Emits sorts (posts_time p kind number time)
 unfolding posts_time
 Emits_posts_time p kind number time e = record { only = λ x past. (e, tt) }
 

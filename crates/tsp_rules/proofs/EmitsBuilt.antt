@@ -6,9 +6,12 @@ use Rattle.tsp_group.specs.Groups.{group_of}
 use Rattle.tsp_rules.specs.{ClockRows.can_adjust, CommonRows.posts_reply, CommonRows.replies, SendRows.begins_settime, SendRows.repeats}
 use Rattle.tsp_rules.specs.GateRows.{loop_to, repost, reposts, sends_loops}
 use Rattle.tsp_rules.specs.RoundRows.{abandons, asks, close_act, closes, closes_with, corrects_by, corrects_peer, estimates, mean_by, moves, round_at}
-use Rattle.tsp_rules.proofs.Emits.{Sort, Posting, all_map, Closing, Rounding, is_in-own, is_part, sort_of, sort_of_alarm, sort_of_kind, Emits, Emits_nothing, Emits_puts, Emits_then, Emits_either, Emits_reading, Emits_each, Emits_arms, Emits_posts, Emits_posts_to_others, Emits_posts_back, Emits_posts_time, Emits_adjusts, Emits_sets, Emits_more}
+use Rattle.tsp_rules.proofs.Emits.{Sort, Posting, all_map, Closing, Rounding, is_in-own, is_part, sort_of, sort_of_alarm, sort_of_kind, Emits, Emits_nothing}
+use Rattle.tsp_rules.proofs.Emits.{Emits_puts, Emits_then, Emits_either, Emits_reading, Emits_each, Emits_arms, Emits_posts, Emits_posts_to_others}
+use Rattle.tsp_rules.proofs.Emits.{Emits_posts_back, Emits_posts_time, Emits_adjusts, Emits_sets, Emits_more}
 use Rattle.tsp_rules.proofs.Unchanged.{no_unchanged, told_unchanged, unchanged, yes_unchanged}
-use Rattle.tsp_rules.proofs.RowCodes.{Owed, Leaf, Puts, Arms, Posts, ToOthers, PostsBack, PostsTime, PostsReply, Repeats, SettimeBegins, Loops, Reposts, Asks, Adjusts, Sets}
+use Rattle.tsp_rules.proofs.RowCodes.{Owed, Leaf, Puts, Arms, Posts, ToOthers, PostsBack, PostsTime, PostsReply, Repeats, SettimeBegins, Loops, Reposts, Asks}
+use Rattle.tsp_rules.proofs.RowCodes.{Adjusts, Sets}
 use Rattle.tsp_rules.proofs.BuiltAnswers.{Owes}
 use Rattle.tsp_rules.proofs.Built.{Built, Corrects, Empty, At, Then, Either, If, Reading, ReadingValue, Each, EachSend, Closes, More, Wider}
 
@@ -28,13 +31,17 @@ leaf-emits (PostsReply from word counter place back is) = Emits_either _ _ nothi
 leaf-emits (Repeats p s known is) = Emits_puts _ (is_in-own (sort_of_kind s.message.kind))
 leaf-emits (SettimeBegins p number known is) = Emits_either _ _ nothing (Emits_reading _ _ (λ t. Emits_posts_time p _ number t refl)) Emits_nothing
 leaf-emits (Loops q is) = record { only = λ x past. all_map (Posting ∷ []) (loop_to q past.name) (λ p. refl) (others past.own past.peers) }
-leaf-emits (Reposts msg is) = record { only = λ x past. all_map (sort_of_kind msg.kind ∷ []) (repost msg) (λ p. is_in-own (sort_of_kind msg.kind)) (others past.own past.peers) }
+leaf-emits (Reposts msg is) = record {
+  only = λ x past. all_map (sort_of_kind msg.kind ∷ []) (repost msg) (λ p. is_in-own (sort_of_kind msg.kind))
+      (others past.own past.peers);
+}
 leaf-emits (Asks p known) = record { only = λ x past. (refl, tt) }
 leaf-emits (Adjusts amount) = Emits_adjusts amount refl
 leaf-emits (Sets value) = Emits_sets value refl
 leaf-emits _ = Emits_puts _ refl
 
-closes-emits : {sorts : List Sort} (own : Bool) → is_part (Rounding ∷ Closing ∷ []) sorts ≡ true → ((mean : ℤ) → Emits sorts (moves own mean)) → ((mean : ℤ) (p : PeerId) (best : Option Estimate) → Emits sorts (corrects_by mean p best)) → Emits sorts (reading round_at (closes own))
+closes-emits : {sorts : List Sort} (own : Bool) → is_part (Rounding ∷ Closing ∷ []) sorts ≡ true → ((mean : ℤ) → Emits sorts (moves own mean)) →
+    ((mean : ℤ) (p : PeerId) (best : Option Estimate) → Emits sorts (corrects_by mean p best)) → Emits sorts (reading round_at (closes own))
 unfolding closes closes_with corrects_peer abandons
 closes-emits own e moved corrected =
     Emits_reading round_at (closes own) (λ round.
@@ -47,7 +54,8 @@ closes-emits own e moved corrected =
     (Emits_more (Rounding ∷ Closing ∷ []) e (Emits_puts Abandon refl))))
 
 -- a row about a peer's open send, which does nothing if there is none
-open-emits : {sorts : List Sort} (row : Option Sending → Row) → row None ≡ nothing → ((s : Sending) → Emits sorts (row (Some s))) → (q : Option Sending) → Emits sorts (row q)
+open-emits : {sorts : List Sort} (row : Option Sending → Row) → row None ≡ nothing → ((s : Sending) → Emits sorts (row (Some s))) → (q : Option Sending) →
+    Emits sorts (row q)
 open-emits row none d None = rw none Emits_nothing
 open-emits row none d (Some s) = d s
 
@@ -73,8 +81,10 @@ emits-made (If false b' same d e) = emits-made e
 emits-made (Reading rows f d) = Emits_reading _ _ (λ a. emits-made (d a (told_unchanged f a)))
 emits-made (ReadingValue rows f d) = Emits_reading _ _ (λ a. emits-made (d a tt))
 emits-made (Each row l d) = Emits_reading _ _ (λ ps. Emits_each _ ps (λ p. emits-made (d p tt)))
-emits-made (EachSend row row' none none' d) = Emits_reading _ _ (λ ps. Emits_each _ ps (λ p. Emits_reading _ _ (open-emits (row p) (none p) (λ s. emits-made (d p tt s tt)))))
-emits-made (Closes own e moved corrected) = closes-emits own e (λ mean. emits-made (moved mean)) (λ mean p best. emits-made (corrected mean p tt best (nothing_measured mean best)))
+emits-made (EachSend row row' none none' d) = Emits_reading _ _ (λ ps. Emits_each _ ps
+    (λ p. Emits_reading _ _ (open-emits (row p) (none p) (λ s. emits-made (d p tt s tt)))))
+emits-made (Closes own e moved corrected) = closes-emits own e (λ mean. emits-made (moved mean))
+    (λ mean p best. emits-made (corrected mean p tt best (nothing_measured mean best)))
 emits-made (More d le) = emits-made d
 emits-made (Wider e d) = Emits_more _ e (emits-made d)
 

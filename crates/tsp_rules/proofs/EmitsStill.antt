@@ -3,11 +3,13 @@ use Rattle.std.proofs.Common.{ap, ◌∙◌, ◌≡◌, ◌||◌, ℕ, true, fal
 use Rattle.std.proofs.lemmas.Bool.{false≢true}
 use Rattle.tsp_base.specs.Words.{Past, Row}
 use Rattle.tsp_rules.specs.{RoundRows.corrects, RoundRows.is_correct, Values.Act, Values.Correct}
-use Rattle.tsp_rules.proofs.Emits.{Sort, Acking, Alarming, Asking, Backing, Changing, Closing, Correcting, Counting, Following, Giving, Leading, Numbering, Passing, Posting, Rivalling, Rounding, Sampling, Tabling, Taking, Tracing, AllOf, Emits, is_in, sort_of}
+use Rattle.tsp_rules.proofs.Emits.{Sort, Acking, Alarming, Asking, Backing, Changing, Closing, Correcting, Counting, Following, Giving, Leading, Numbering}
+use Rattle.tsp_rules.proofs.Emits.{Passing, Posting, Rivalling, Rounding, Sampling, Tabling, Taking, Tracing, AllOf, Emits, is_in, sort_of}
 
 -- all sorts but Boot and Correct
 abbrev pub still_sorts : List Sort
-still_sorts = Taking ∷ Asking ∷ Correcting ∷ Numbering ∷ Passing ∷ Posting ∷ Leading ∷ Following ∷ Changing ∷ Backing ∷ Counting ∷ Rounding ∷ Alarming ∷ Tabling ∷ Rivalling ∷ Acking ∷ Giving ∷ Sampling ∷ Closing ∷ Tracing ∷ []
+still_sorts = Taking ∷ Asking ∷ Correcting ∷ Numbering ∷ Passing ∷ Posting ∷ Leading ∷ Following ∷ Changing ∷ Backing ∷ Counting ∷ Rounding ∷ Alarming ∷
+    Tabling ∷ Rivalling ∷ Acking ∷ Giving ∷ Sampling ∷ Closing ∷ Tracing ∷ []
 
 -- acts without a Correct
 pub corrects-none : (acts : List Act) → AllOf still_sorts acts → corrects acts ≡ false

@@ -1,5 +1,6 @@
 -- What the guards of rows tell.
-use Rattle.std.proofs.Common.{sym, subst, inl, inr, arith, true≢false, eqb-true, ap, ◌∙◌, ◌≡◌, ◌≢◌, ◌⊎◌, ◌≤◌, ℕ, ◌+◌, ℤ, neg_ℤ, ◌<ℤ◌, ◌==◌, ◌&&◌, nat_le, true, false, Option, None, Some, refl}
+use Rattle.std.proofs.Common.{sym, subst, inl, inr, arith, true≢false, eqb-true, ap, ◌∙◌, ◌≡◌, ◌≢◌, ◌⊎◌, ◌≤◌, ℕ, ◌+◌, ℤ, neg_ℤ, ◌<ℤ◌, ◌==◌, ◌&&◌, nat_le, true}
+use Rattle.std.proofs.Common.{false, Option, None, Some, refl}
 use Rattle.std.proofs.lemmas.{Bool.leb-true, Bool.and_parts, Bool.or_cases, Int.ints}
 use Rattle.tsp_rules.specs.Values.{PeerId, Role, Starting, Master, ELECT_MIN, HOLD, LIMIT, SLACK}
 use Rattle.tsp_base.specs.Words.{Held, is_past, may_back, may_back_after, may_stand, peer_of}

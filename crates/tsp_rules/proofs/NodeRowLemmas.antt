@@ -6,7 +6,8 @@ use Rattle.tsp_rules.specs.NodeRows.{NodePast, NodeRow, on_port, spread, ◌and_
 use Rattle.tsp_base.specs.Words.{Step, Acts, Line, Seen, Elsewhere, view, seen_as, is_shared, joined, line_of, added, grown, placed}
 
 -- a port's acts are its own
-pub view_own : (q : Port) (step : Step) (x : ℕ) (acts : List Act) (lines : List Line) → view q (joined step x (placed q acts) lines) ≡ added step x acts (view q lines)
+pub view_own : (q : Port) (step : Step) (x : ℕ) (acts : List Act) (lines : List Line) → view q (joined step x (placed q acts) lines) ≡
+    added step x acts (view q lines)
 view_own q step x [] lines = refl
 view_own q step x (a ∷ rest) lines =
     let here : ((q.0 == q.0) || is_shared (Acts a)) ≡ true = let e : (q.0 == q.0) ≡ true = eq-eqb q.0 q.0 refl in rw e refl in
@@ -32,7 +33,8 @@ not-shared Boot n = absurd (n refl)
 not-shared _ n = refl
 
 -- another port's acts are elsewhere, unless they boot
-pub view_other : (q r : Port) (step : Step) (x : ℕ) (acts : List Act) (lines : List Line) → (q.0 == r.0) ≡ false → Bootless acts → view r (joined step x (placed q acts) lines) ≡ passed step x acts (view r lines)
+pub view_other : (q r : Port) (step : Step) (x : ℕ) (acts : List Act) (lines : List Line) → (q.0 == r.0) ≡ false → Bootless acts →
+    view r (joined step x (placed q acts) lines) ≡ passed step x acts (view r lines)
 view_other q r step x [] lines n b = refl
 view_other q r step x (a ∷ rest) lines n b =
     let there : ((q.0 == r.0) || is_shared (Acts a)) ≡ false = rw (n, not-shared a b.0) refl in
@@ -47,12 +49,14 @@ pub spread_append : (x : ℕ) (past : NodePast) (ps qs : List Placed) → spread
 spread_append x past ps qs = ap (λ l. record past { lines = l }) (joined_append past.step x ps qs past.lines)
 
 -- calls over ports follow one another as their rows do
-pub All_then : {S T U : Type 0} {p : NodePast → S → Type 0} {q : NodePast → T → Type 0} {w : NodePast → U → Type 0} {r s : NodeRow} {x : ℕ} {first : S} {middle : T} {last : U} {old mid new : List Placed} →
+pub All_then : {S T U : Type 0} {p : NodePast → S → Type 0} {q : NodePast → T → Type 0} {w : NodePast → U → Type 0} {r s : NodeRow} {x : ℕ} {first : S}
+    {middle : T} {last : U} {old mid new : List Placed} →
     PerformsAll p q r x first middle old mid → PerformsAll q w s x middle last mid new → PerformsAll p w (r and_then s) x first last old new
 unfolding ◌and_then◌
 All_then {w = w} {r = r} {s = s} {x = x} {last = last} {old = old} a b = record {
   acts = λ past h.
       let mid_past = spread x past (r x past) in
       b.acts mid_past (a.stands past h) ∙ ap (λ zs. zs ++ s x mid_past) (a.acts past h) ∙ append_assoc old (r x past) (s x mid_past);
-  stands = λ past h. subst (λ k. w k last) (sym (spread_append x past (r x past) (s x (spread x past (r x past))))) (b.stands (spread x past (r x past)) (a.stands past h));
+  stands = λ past h. subst (λ k. w k last) (sym (spread_append x past (r x past) (s x (spread x past (r x past)))))
+      (b.stands (spread x past (r x past)) (a.stands past h));
 }

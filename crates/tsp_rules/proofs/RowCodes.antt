@@ -1,13 +1,16 @@
 -- What rows are made of: acts, facts, tests and lists of peers, as codes that name no property.
 use Rattle.std.specs.Prelude.{◌≡◌, ℕ, ℤ, Bool, true, false, List, [], ◌∷◌, Option, Some}
-use Rattle.tsp_rules.specs.Values.{Act, Boot, Took, Post, Correct, Sample, Alarm, Message, Taken, Kind, AdjTime, Ack, Date, DateReq, LoopKind, SetDate, SetDateReq, SetTime, PeerId, Place, Peer, Port, Role}
+use Rattle.tsp_rules.specs.Values.{Act, Boot, Took, Post, Correct, Sample, Alarm, Message, Taken, Kind, AdjTime, Ack, Date, DateReq, LoopKind, SetDate}
+use Rattle.tsp_rules.specs.Values.{SetDateReq, SetTime, PeerId, Place, Peer, Port, Role}
 use Rattle.tsp_rules.specs.{Answers.is_left, CandidateRows.has_won, ClockRows.adjusts, ClockRows.sets, MasterRows.may_join}
 use Rattle.tsp_rules.specs.CommonRows.{is_awake, master_name, may_be_asked, own_at, replies}
 use Rattle.tsp_rules.specs.{DateRows.has_date, DateRows.is_dated, DateRows.may_date, DateRows.may_pass_on, ResolveRows.is_new_rival}
 use Rattle.tsp_rules.specs.{GateRows.reposts, GateRows.sends_loops, SlaveRows.is_repeated, SlaveRows.takes_amount, SlaveRows.takes_value}
-use Rattle.tsp_rules.specs.Guards.{delay_at, follows_at, is_armed, is_due, is_going_at, is_heard, is_in_time, is_master_at, is_own, is_slave_at, may_back_at, may_stand_at, rivals_at, role_at, table_at, target_at, ticket_at}
+use Rattle.tsp_rules.specs.Guards.{delay_at, follows_at, is_armed, is_due, is_going_at, is_heard, is_in_time, is_master_at, is_own, is_slave_at, may_back_at}
+use Rattle.tsp_rules.specs.Guards.{may_stand_at, rivals_at, role_at, table_at, target_at, ticket_at}
 use Rattle.tsp_rules.specs.RoundRows.{asks, has_more, measured_at, request_at, sample_of}
-use Rattle.tsp_rules.specs.SendRows.{begins_settime, has_election, has_other, has_quit, is_free, is_send_due, is_spent, may_correct, next_number, others_at, repeats}
+use Rattle.tsp_rules.specs.SendRows.{begins_settime, has_election, has_other, has_quit, is_free, is_send_due, is_spent, may_correct, next_number, others_at}
+use Rattle.tsp_rules.specs.SendRows.{repeats}
 use Rattle.tsp_rules.proofs.Emits.{Sort, Asking, Correcting, Moving, Posting, Sampling, sort_of, sort_of_alarm, sort_of_kind}
 use Rattle.tsp_rules.specs.Renames.{Knows, Naming, Wakes, comes_place, known_place, known_role, later_send, renamed_act, renamed_place, renamed_role}
 use Rattle.tsp_base.specs.Words.{Past, MessageValue, OpenRequest, Sending, Row, arms, bare, posts, posts_back, posts_time, posts_to_others, puts, ReplyValue}
@@ -68,20 +71,30 @@ is_bare _ = true
 -- rows that put acts of these sorts, so many for each peer and so many besides
 pub data Leaf (m : Naming) (o : Owed) : List Sort → ℕ → ℕ → Row → Row → Type 0 where
   Puts : (a : Act) → is_plain a ≡ true → Knows m a → Leaf m o (sort_of a ∷ []) 0 1 (puts a) (puts (renamed_act m.names a))
-  Takes : (from : Place) (t : Taken) → o.of (ATaken t) → Leaf m o (sort_of (Took from t) ∷ []) 0 1 (puts (Took from t)) (puts (Took (renamed_place m.names from) t))
+  Takes : (from : Place) (t : Taken) → o.of (ATaken t) → Leaf m o (sort_of (Took from t) ∷
+      []) 0 1 (puts (Took from t)) (puts (Took (renamed_place m.names from) t))
   Arms : (alarm : Alarm) (long : ℕ) → Wakes m alarm → Leaf m o (sort_of_alarm alarm ∷ []) 0 1 (arms alarm long) (arms alarm long)
-  Posts : (p : PeerId) (kind : Kind) (number : ℕ) → m.known p → o.of (ANumber number) → is_bare kind ≡ true → Leaf m o (sort_of_kind kind ∷ []) 0 1 (posts p kind number) (posts (m.names.peer p) kind number)
+  Posts : (p : PeerId) (kind : Kind) (number : ℕ) → m.known p → o.of (ANumber number) → is_bare kind ≡ true →
+      Leaf m o (sort_of_kind kind ∷ []) 0 1 (posts p kind number) (posts (m.names.peer p) kind number)
   ToOthers : (kind : Kind) → is_bare kind ≡ true → Leaf m o (sort_of_kind kind ∷ []) 1 0 (posts_to_others kind 0) (posts_to_others kind 0)
-  PostsBack : (from : Place) (kind : Kind) (number : ℕ) → known_place m from → o.of (APlace from) → o.of (ANumber number) → is_bare kind ≡ true → Leaf m o (sort_of_kind kind ∷ []) 0 1 (posts_back from kind number) (posts_back (renamed_place m.names from) kind number)
-  PostsTime : (p : PeerId) (kind : Kind) (number : ℕ) (time : ℤ) → m.known p → o.of (ANumber number) → o.of (ATime time) → is_timed kind ≡ true → Leaf m o (sort_of_kind kind ∷ []) 0 1 (posts_time p kind number time) (posts_time (m.names.peer p) kind number time)
-  PostsReply : (from : Place) (word counter : ℕ) → known_place m from → o.of (APlace from) → o.of (AStamp word counter) → Leaf m o (Posting ∷ []) 0 1 (replies from word counter) (replies (renamed_place m.names from) word counter)
-  PostsName : (from : Place) (number : ℕ) (name : List ℕ) → known_place m from → o.of (APlace from) → o.of (ANumber number) → o.of (AName name) → Leaf m o (Posting ∷ []) 0 1 (puts (Post from (Message (bare Ack number name)))) (puts (Post (renamed_place m.names from) (Message (bare Ack number name))))
-  Repeats : (p : PeerId) (s : Sending) → m.known p → o.of (ASend (Some s)) → Leaf m o (sort_of_kind s.message.kind ∷ []) 0 1 (repeats p s.message) (repeats (m.names.peer p) s.message)
-  SettimeBegins : (p : PeerId) (number : ℕ) → m.known p → o.of (ANumber number) → Leaf m o (Correcting ∷ []) 0 1 (begins_settime p number) (begins_settime (m.names.peer p) number)
+  PostsBack : (from : Place) (kind : Kind) (number : ℕ) → known_place m from → o.of (APlace from) → o.of (ANumber number) → is_bare kind ≡ true →
+      Leaf m o (sort_of_kind kind ∷ []) 0 1 (posts_back from kind number) (posts_back (renamed_place m.names from) kind number)
+  PostsTime : (p : PeerId) (kind : Kind) (number : ℕ) (time : ℤ) → m.known p → o.of (ANumber number) → o.of (ATime time) → is_timed kind ≡ true →
+      Leaf m o (sort_of_kind kind ∷ []) 0 1 (posts_time p kind number time) (posts_time (m.names.peer p) kind number time)
+  PostsReply : (from : Place) (word counter : ℕ) → known_place m from → o.of (APlace from) → o.of (AStamp word counter) →
+      Leaf m o (Posting ∷ []) 0 1 (replies from word counter) (replies (renamed_place m.names from) word counter)
+  PostsName : (from : Place) (number : ℕ) (name : List ℕ) → known_place m from → o.of (APlace from) → o.of (ANumber number) → o.of (AName name) →
+      Leaf m o (Posting ∷ []) 0 1 (puts (Post from (Message (bare Ack number name))))
+      (puts (Post (renamed_place m.names from) (Message (bare Ack number name))))
+  Repeats : (p : PeerId) (s : Sending) → m.known p → o.of (ASend (Some s)) → Leaf m o (sort_of_kind s.message.kind ∷
+      []) 0 1 (repeats p s.message) (repeats (m.names.peer p) s.message)
+  SettimeBegins : (p : PeerId) (number : ℕ) → m.known p → o.of (ANumber number) →
+      Leaf m o (Correcting ∷ []) 0 1 (begins_settime p number) (begins_settime (m.names.peer p) number)
   Loops : (q : Port) → o.of (ANumber q.0) → Leaf m o (Posting ∷ []) 1 0 (sends_loops q) (sends_loops q)
   Reposts : (msg : MessageValue) → o.of (AMessage msg) → Leaf m o (sort_of_kind msg.kind ∷ []) 1 0 (reposts msg) (reposts msg)
   Asks : (p : PeerId) → m.known p → Leaf m o (Asking ∷ []) 0 1 (asks p) (asks (m.names.peer p))
-  Samples : (p : PeerId) (r : ReplyValue) (a d : ℤ) → m.known p → o.of (ATicket r.ticket) → Leaf m o (Sampling ∷ []) 0 1 (puts (sample_of p r a d)) (puts (sample_of (m.names.peer p) r a d))
+  Samples : (p : PeerId) (r : ReplyValue) (a d : ℤ) → m.known p → o.of (ATicket r.ticket) →
+      Leaf m o (Sampling ∷ []) 0 1 (puts (sample_of p r a d)) (puts (sample_of (m.names.peer p) r a d))
   Adjusts : (amount : ℤ) → Leaf m o (Moving ∷ []) 0 1 (adjusts amount) (adjusts amount)
   Sets : (value : ℤ) → Leaf m o (Moving ∷ []) 0 1 (sets value) (sets value)
 

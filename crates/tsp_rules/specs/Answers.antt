@@ -1,6 +1,8 @@
 -- What a port does in a step: its due sends, its due alarms, and then its input.
 use Rattle.std.specs.Prelude.{ℕ, Bool, true, false, not, ◌&&◌, List, [], ◌∷◌}
-use Rattle.tsp_rules.specs.Values.{Took, Alarm, Quiet, Window, Elect, Search, Round, Probe, CloseAlarm, ResolveAlarm, Message, Stamp, Taken, Good, Bad, Kind, Date, DateAck, DateReq, LoopKind, Msite, MsiteReq, SetDate, SetDateReq, Test, TraceOff, TraceOn, PeerId, Place, Peer, Stranger, Role, Starting, Loose, Follow, Candidate, Master, Request, Reply, ALL}
+use Rattle.tsp_rules.specs.Values.{Took, Alarm, Quiet, Window, Elect, Search, Round, Probe, CloseAlarm, ResolveAlarm, Message, Stamp, Taken, Good, Bad, Kind}
+use Rattle.tsp_rules.specs.Values.{Date, DateAck, DateReq, LoopKind, Msite, MsiteReq, SetDate, SetDateReq, Test, TraceOff, TraceOn, PeerId, Place, Peer}
+use Rattle.tsp_rules.specs.Values.{Stranger, Role, Starting, Loose, Follow, Candidate, Master, Request, Reply, ALL}
 use Rattle.tsp_base.specs.Words.{Past, MessageValue, Row, nothing, puts, ◌followed_by◌, either_by, reading, is_correction, ReplyValue}
 use Rattle.tsp_rules.specs.{CandidateRows.window_rings, CandidateRows.candidate_takes, MasterRows.master_takes, ResolveRows.resolve_rings}
 use Rattle.tsp_rules.specs.CommonRows.{replies, names_master, says_master, traces, tests}

@@ -1,6 +1,7 @@
 -- What a candidate does: a port that stands for election.
 use Rattle.std.specs.Prelude.{ℕ, ◌+◌, ◌*◌, nat_lt, Bool, not, ◌||◌, length}
-use Rattle.tsp_rules.specs.Values.{Become, Ring, Late, Backer, Acked, Window, Round, Kind, Accept, Ack, Election, MasterAck, MasterUp, QuitKind, Refuse, PeerId, Loose, Master, ROUND}
+use Rattle.tsp_rules.specs.Values.{Become, Ring, Late, Backer, Acked, Window, Round, Kind, Accept, Ack, Election, MasterAck, MasterUp, QuitKind, Refuse, PeerId}
+use Rattle.tsp_rules.specs.Values.{Loose, Master, ROUND}
 use Rattle.tsp_base.specs.Words.{Past, MessageValue, backers, Row, nothing, puts, ◌followed_by◌, either_by, arms, posts, posts_to_others}
 use Rattle.tsp_rules.specs.{CommonRows.arms_elect, CommonRows.follow_row, CommonRows.quits, Guards.is_in_time}
 use Rattle.tsp_rules.specs.SendRows.{has_election, acknowledges}

@@ -1,6 +1,7 @@
 -- What ports of several roles do.
 use Rattle.std.specs.Prelude.{ℕ, Bool, true, false, ◌&&◌, not, List, [], ◌∷◌}
-use Rattle.tsp_rules.specs.Values.{Boot, Post, Become, Back, Quit, Trace, Quiet, Window, Elect, Search, Message, Stamp, Ack, Election, MasterReq, SlaveUp, PeerId, Place, Role, Starting, Loose, Follow, Candidate, Master, Reply, QUIET, WINDOW}
+use Rattle.tsp_rules.specs.Values.{Boot, Post, Become, Back, Quit, Trace, Quiet, Window, Elect, Search, Message, Stamp, Ack, Election, MasterReq, SlaveUp}
+use Rattle.tsp_rules.specs.Values.{PeerId, Place, Role, Starting, Loose, Follow, Candidate, Master, Reply, QUIET, WINDOW}
 use Rattle.tsp_base.specs.Words.{Past, Row, nothing, puts, ◌followed_by◌, either_by, reading, arms, bare, posts, posts_to_others, posts_back, role, kept_name}
 use Rattle.tsp_rules.specs.SendRows.{begins_to_others}
 use Rattle.tsp_rules.specs.Guards.{delay_at, ticket_at, target_at, is_in_range, may_stand_at, is_master_at, is_starting_role, role_at}

@@ -1,7 +1,8 @@
 -- How the network's date is set: a follower passes it on to its master, and a master sets it.
 use Rattle.std.specs.Prelude.{ℕ, ◌+◌, ◌==◌, nat_lt, ℤ, Bool, true, false, ◌&&◌, ◌||◌, List, [], ◌∷◌, Option, None, Some}
 use Rattle.tsp_rules.specs.Values.{Acked, Leave, Ack, DateAck, MasterUp, SetDateReq, PeerId, Place, Peer, Role, Follow, Master, DATEHOLD, GAP, REUSE}
-use Rattle.tsp_base.specs.Words.{Past, plain, is_past, MessageValue, correct_tick, Row, nothing, puts, ◌followed_by◌, either_by, reading, for_each, posts, posts_back, posts_to_others, Dating, Sending, is_acknowledged, is_set_date_request, last_asked, last_date, last_post, time_in}
+use Rattle.tsp_base.specs.Words.{Past, plain, is_past, MessageValue, correct_tick, Row, nothing, puts, ◌followed_by◌, either_by, reading, for_each, posts}
+use Rattle.tsp_base.specs.Words.{posts_back, posts_to_others, Dating, Sending, is_acknowledged, is_set_date_request, last_asked, last_date, last_post, time_in}
 use Rattle.tsp_rules.specs.{ClockRows.sets, Guards.is_clock_value, Guards.role_at, Guards.table_at}
 use Rattle.tsp_rules.specs.SendRows.{begins_timed, is_free, open_at}
 

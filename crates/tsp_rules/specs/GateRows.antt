@@ -1,7 +1,9 @@
 -- What a node does in a step, over all its ports: port by port the due sends and due alarms, and then the input.
 use Rattle.std.specs.Prelude.{ℕ, ◌+◌, ◌-◌, ◌==◌, nat_le, nat_lt, Bool, true, false, not, ◌&&◌, ◌||◌, if◌then◌else◌, List, [], ◌∷◌, filter, length, map, is_some}
-use Rattle.tsp_rules.specs.Values.{Act, Boot, Took, Post, Become, Ring, Alarm, Quiet, Round, Probe, CloseAlarm, Message, Taken, Good, Kind, LoopKind, Body, Hops, PeerId, Place, Peer, Stranger, Port, Starting, ALL, HOPS, QUIET}
-use Rattle.tsp_base.specs.Words.{deadline, Past, view, first_port, MessageValue, armed, role, is_going, ◌followed_by◌, arms, Row, nothing, puts, either_by, others, sets_date}
+use Rattle.tsp_rules.specs.Values.{Act, Boot, Took, Post, Become, Ring, Alarm, Quiet, Round, Probe, CloseAlarm, Message, Taken, Good, Kind, LoopKind, Body}
+use Rattle.tsp_rules.specs.Values.{Hops, PeerId, Place, Peer, Stranger, Port, Starting, ALL, HOPS, QUIET}
+use Rattle.tsp_base.specs.Words.{deadline, Past, view, first_port, MessageValue, armed, role, is_going, ◌followed_by◌, arms, Row, nothing, puts, either_by}
+use Rattle.tsp_base.specs.Words.{others, sets_date}
 use Rattle.tsp_rules.specs.{Answers.rings, Answers.takes, CandidateRows.yields, SendRows.due_sends}
 use Rattle.tsp_rules.specs.NodeRows.{NodePast, NodeRow, PortSetup, nothing_at_all, on, on_port, ◌and_then◌, reading_all, for_ports, stirring}
 use Rattle.tsp_rules.specs.Guards.{is_follow, is_heard, is_master, is_master_at, is_own, is_starting_role}

@@ -1,6 +1,7 @@
 -- A round that is closed at the last tick that is in time, and one that is closed too late.
 use Rattle.std.specs.Prelude.{pos, true, false, List, [], ◌∷◌, ◌++◌, take}
-use Rattle.tsp_rules.specs.Values.{Boot, Become, Arm, Ring, Late, Back, Abandon, Close, Correct, Quiet, Window, Elect, Search, Round, Probe, CloseAlarm, Starting, Loose, Candidate, Master}
+use Rattle.tsp_rules.specs.Values.{Boot, Become, Arm, Ring, Late, Back, Abandon, Close, Correct, Quiet, Window, Elect, Search, Round, Probe, CloseAlarm}
+use Rattle.tsp_rules.specs.Values.{Starting, Loose, Candidate, Master}
 use Rattle.tsp_base.specs.Words.{Past, peer_of as peer}
 use Rattle.tsp_rules.specs.Scripts.{Event, boots_at, turn_at, a_name, fresh, after, Answered, Is}
 

@@ -61,7 +61,11 @@ pub record OrdinaryUse : Type 0 where
   pub acts_a : Answered ordinary_use_a fresh_a
   pub acts_b : Answered ordinary_use_b fresh_b
   -- a's SETTIME is open after its seventh event, and not after its eighth
-  pub sets : open_send (peer 1) (after (take 7 ordinary_use_a) fresh_a).seen ≡ Some (record { began = 390001000; posts = 1; message = timed SetTime 9 (pos 390001000) a_name })
+  pub sets : open_send (peer 1) (after (take 7 ordinary_use_a) fresh_a).seen ≡ Some (record {
+    began = 390001000;
+    posts = 1;
+    message = timed SetTime 9 (pos 390001000) a_name;
+  })
   pub is_set : open_send (peer 1) (after (take 8 ordinary_use_a) fresh_a).seen ≡ None
   -- at the end a's target is 250 microseconds behind the true time and b's 150; each clock still has a part of its correction to slew
   pub end_a : Is (after ordinary_use_a fresh_a) Master 1 638000700 (pos 638000450) (pos 638000697)

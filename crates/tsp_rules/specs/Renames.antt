@@ -1,6 +1,7 @@
 -- Other names for the peers of a port, and later ticks: what they make of acts and of what rows read, and which peers acts may name.
 use Rattle.std.specs.Prelude.{◌≡◌, ℕ, ◌+◌, ◌==◌, Option, None, Some}
-use Rattle.tsp_rules.specs.Values.{Act, Boot, Took, Post, Become, Arm, Back, Backer, Sample, Acked, Gave, Join, Leave, Rival, Quit, Alarm, Window, PeerId, Place, Peer, Stranger, Role, Follow, Candidate}
+use Rattle.tsp_rules.specs.Values.{Act, Boot, Took, Post, Become, Arm, Back, Backer, Sample, Acked, Gave, Join, Leave, Rival, Quit, Alarm, Window, PeerId}
+use Rattle.tsp_rules.specs.Values.{Place, Peer, Stranger, Role, Follow, Candidate}
 use Rattle.tsp_base.specs.Words.{Sending}
 
 -- other numbers for the peers of a port, and ticks that are later by `shift`

@@ -36,8 +36,16 @@ pub record MeetsRival : Type 0 where
   pub acts : Answered rivals_a fresh_rival
   pub found : is_rival (peer 1) (after (take 7 rivals_a) fresh_rival).seen ≡ true
   -- the QUIT is open after its first post and after its repeat, and not after its ACK
-  pub begins : open_send (peer 1) (after (take 8 rivals_a) fresh_rival).seen ≡ Some (record { began = 396000000; posts = 1; message = bare QuitKind 32769 a_name })
-  pub repeats : open_send (peer 1) (after (take 9 rivals_a) fresh_rival).seen ≡ Some (record { began = 396000000; posts = 2; message = bare QuitKind 32769 a_name })
+  pub begins : open_send (peer 1) (after (take 8 rivals_a) fresh_rival).seen ≡ Some (record {
+    began = 396000000;
+    posts = 1;
+    message = bare QuitKind 32769 a_name;
+  })
+  pub repeats : open_send (peer 1) (after (take 9 rivals_a) fresh_rival).seen ≡ Some (record {
+    began = 396000000;
+    posts = 2;
+    message = bare QuitKind 32769 a_name;
+  })
   pub ends : open_send (peer 1) (after (take 10 rivals_a) fresh_rival).seen ≡ None
   pub leads : Is (after (take 10 rivals_a) fresh_rival) Master 0 397500000 (pos 397500000) (pos 397500000)
   -- taking a QUIT ends the role of master

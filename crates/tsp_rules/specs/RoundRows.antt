@@ -1,7 +1,10 @@
 -- A master's rounds: what it asks, what it learns, and how it closes.
-use Rattle.std.specs.Prelude.{ℕ, ◌%◌, ◌^◌, ◌==◌, nat_lt, nat_abs, ℤ, pos, ◌-ℤ◌, int_lt, Bool, true, false, ◌||◌, if◌then◌else◌, List, [], ◌∷◌, ◌++◌, map, filter, Option, None, Some}
-use Rattle.tsp_rules.specs.Values.{Act, Post, Ring, Late, Abandon, Close, Correct, Sample, Leave, Round, Probe, CloseAlarm, Stamp, MasterUp, PeerId, Peer, Request, CLOSE, FAR, PROBE, ROUND, SPAN, WAIT}
-use Rattle.tsp_base.specs.Words.{Past, Seen, plain, word, Estimate, OpenRequest, asked, estimate, is_measured, probes, request_open, Row, grown, nothing, puts, ◌followed_by◌, either_by, reading, for_each, arms, posts_to_others, ReplyValue, sample_diff, sample_err}
+use Rattle.std.specs.Prelude.{ℕ, ◌%◌, ◌^◌, ◌==◌, nat_lt, nat_abs, ℤ, pos, ◌-ℤ◌, int_lt, Bool, true, false, ◌||◌, if◌then◌else◌, List, [], ◌∷◌, ◌++◌, map}
+use Rattle.std.specs.Prelude.{filter, Option, None, Some}
+use Rattle.tsp_rules.specs.Values.{Act, Post, Ring, Late, Abandon, Close, Correct, Sample, Leave, Round, Probe, CloseAlarm, Stamp, MasterUp, PeerId, Peer}
+use Rattle.tsp_rules.specs.Values.{Request, CLOSE, FAR, PROBE, ROUND, SPAN, WAIT}
+use Rattle.tsp_base.specs.Words.{Past, Seen, plain, word, Estimate, OpenRequest, asked, estimate, is_measured, probes, request_open, Row, grown, nothing, puts}
+use Rattle.tsp_base.specs.Words.{◌followed_by◌, either_by, reading, for_each, arms, posts_to_others, ReplyValue, sample_diff, sample_err}
 use Rattle.tsp_rules.specs.{ClockRows.can_adjust, ClockRows.adjusts, SendRows.begins_adjtime, SendRows.begins_settime}
 use Rattle.tsp_group.specs.{Groups.group_of, Groups.mean_of, declared.group.Group.Group}
 use Rattle.tsp_rules.specs.Guards.{is_going_at, is_in_time, target_at, table_at}
@@ -16,7 +19,8 @@ asks_slaves = reading table_at (for_each asks)
 
 -- a round begins, and the alarm of the next one is armed
 unfoldable pub round_begins : Row
-round_begins = arms Round ROUND followed_by (arms Probe PROBE followed_by (arms CloseAlarm CLOSE followed_by (posts_to_others MasterUp 0 followed_by asks_slaves)))
+round_begins = arms Round ROUND followed_by (arms Probe PROBE followed_by (arms CloseAlarm CLOSE followed_by
+    (posts_to_others MasterUp 0 followed_by asks_slaves)))
 
 -- a round begins, unless it has to wait for that of another port of the node
 unfoldable pub begins_or_waits : Bool → Row

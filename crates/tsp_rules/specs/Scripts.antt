@@ -41,7 +41,16 @@ Answered (e ∷ later) past = (e.row e.tick (begun e past) ≡ e.acts) × Answer
 
 -- a node that has done nothing yet: its number, its name, whether it may be master, its peers
 abbrev pub fresh : ℕ → List ℕ → Bool → List PeerId → Past
-fresh n name may peers = record { own = peer_of n; name = name; may = may; strict = false; port = record { 0 = 0 }; peers = peers; step = step 0 n Turned; seen = [] }
+fresh n name may peers = record {
+  own = peer_of n;
+  name = name;
+  may = may;
+  strict = false;
+  port = record { 0 = 0 };
+  peers = peers;
+  step = step 0 n Turned;
+  seen = [];
+}
 
 -- a past with this role, ticket, target and shown value at a tick
 pub record Is (past : Past) (r : Role) (number tick : ℕ) (aim display : ℤ) : Type 0 where

@@ -1,7 +1,8 @@
 -- How numbered sends begin, are repeated and end.
 use Rattle.std.specs.Prelude.{ℕ, ◌+◌, ◌%◌, ◌==◌, nat_le, ℤ, Bool, true, false, not, ◌&&◌, ◌||◌, if◌then◌else◌, List, Option, None, Some, is_some}
 use Rattle.tsp_rules.specs.Values.{Post, Acked, Gave, Leave, Message, Kind, AdjTime, Election, QuitKind, SetDateReq, SetTime, PeerId, Peer, REUSE}
-use Rattle.tsp_base.specs.Words.{Past, plain, is_past, MessageValue, word, Row, nothing, puts, ◌followed_by◌, either_by, reading, for_each, others, posts, posts_time, is_correction, Sending, deadline_of, is_given_up, open_send, begun, last_post, is_acknowledged, last_number}
+use Rattle.tsp_base.specs.Words.{Past, plain, is_past, MessageValue, word, Row, nothing, puts, ◌followed_by◌, either_by, reading, for_each, others, posts}
+use Rattle.tsp_base.specs.Words.{posts_time, is_correction, Sending, deadline_of, is_given_up, open_send, begun, last_post, is_acknowledged, last_number}
 use Rattle.tsp_rules.specs.Guards.{target_at, is_in_range, is_slave_at}
 
 -- the port's next own number: 32768, plus the word and the number of such sends so far, modulo 32768

@@ -1,7 +1,9 @@
 -- What a slave does: a port that is Loose or follows a master; and how the quiet time ends.
 use Rattle.std.specs.Prelude.{ℕ, ◌==◌, ℤ, Bool, false, ◌&&◌, if◌then◌else◌, Option, None, Some}
-use Rattle.tsp_rules.specs.Values.{Become, Ring, Late, Back, Alarm, Quiet, Elect, Search, Kind, Accept, Ack, AdjTime, Conflict, Election, MasterAck, MasterUp, QuitKind, Refuse, SetTime, PeerId, Role, Loose, Follow, GAP}
-use Rattle.tsp_base.specs.Words.{Past, plain, is_past, MessageValue, ticket, correct_tick, Row, nothing, puts, ◌followed_by◌, either_by, reading, posts, Correcting, last_taken, time_in}
+use Rattle.tsp_rules.specs.Values.{Become, Ring, Late, Back, Alarm, Quiet, Elect, Search, Kind, Accept, Ack, AdjTime, Conflict, Election, MasterAck, MasterUp}
+use Rattle.tsp_rules.specs.Values.{QuitKind, Refuse, SetTime, PeerId, Role, Loose, Follow, GAP}
+use Rattle.tsp_base.specs.Words.{Past, plain, is_past, MessageValue, ticket, correct_tick, Row, nothing, puts, ◌followed_by◌, either_by, reading, posts}
+use Rattle.tsp_base.specs.Words.{Correcting, last_taken, time_in}
 use Rattle.tsp_rules.specs.ClockRows.{can_adjust, adjusts, sets}
 use Rattle.tsp_rules.specs.CommonRows.{arms_elect, searches, tells_ticket, follow_row, candidature_row, quits}
 use Rattle.tsp_rules.specs.SendRows.{begins, is_free, acknowledges}

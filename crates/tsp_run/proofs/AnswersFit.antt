@@ -32,7 +32,8 @@ module _ (setting : Setting) (step : Step) (x : ℕ) (history : List Line) (stra
   alive-calm n (p ∷ acts) rest before c u k =
       (alive-one p p.act before refl c.1 u, alive-calm n acts rest (did_in step x (Acts p.act) ∷ before) c.2 (stays-up p.act (up before) u) k)
 
-  taken-calm : (n : ℕ) (acts rest : List Placed) → AreCalm strange n acts → AllTaken setting step x history rest → AllTaken setting step x history (acts ++ rest)
+  taken-calm : (n : ℕ) (acts rest : List Placed) → AreCalm strange n acts → AllTaken setting step x history rest →
+      AllTaken setting step x history (acts ++ rest)
   taken-calm n [] rest c k = k
   taken-calm n (p ∷ acts) rest c k = (taken-one p.port p.act c.1, taken-calm n acts rest c.2 k)
 
@@ -49,9 +50,13 @@ alive-all setting step x strange n (p ∷ acts) before c u = (
   alive-all setting step x strange n acts (did_in step x (Acts p.act) ∷ before) c.2 (stays-up p.act (up before) u),
 )
 
-taken-all : (setting : Setting) (step : Step) (x : ℕ) (history : List Line) (strange : Bool) (n : ℕ) (acts : List Placed) → AreCalm strange n acts → AllTaken setting step x history acts
+taken-all : (setting : Setting) (step : Step) (x : ℕ) (history : List Line) (strange : Bool) (n : ℕ) (acts : List Placed) → AreCalm strange n acts →
+    AllTaken setting step x history acts
 taken-all setting step x history strange n [] c = tt
-taken-all setting step x history strange n (p ∷ acts) c = (taken-one setting step x history strange p.port p.act c.1, taken-all setting step x history strange n acts c.2)
+taken-all setting step x history strange n (p ∷ acts) c = (
+  taken-one setting step x history strange p.port p.act c.1,
+  taken-all setting step x history strange n acts c.2,
+)
 
 on-all : (strange : Bool) (n : ℕ) (acts : List Placed) → AreCalm strange n acts → ActsOn n acts
 on-all strange n [] c = tt
@@ -93,8 +98,12 @@ got_ok setting step x history before past q from t four has is_up f =
       alive = subst (λ acts. AllAlive setting step x before acts) (sym o.is)
           (alive-calm setting step x history strange n o.before (took ∷ o.after) before o.calm_before is_up
           (λ ds u. (u, alive-all setting step x strange n o.after (did_in step x (Acts (Took from t)) ∷ ds) o.calm_after u)));
-      taken = subst (λ acts. AllTaken setting step x history acts) (sym o.is) (taken-calm setting step x history strange n o.before (took ∷ o.after) o.calm_before (f, taken-all setting step x history strange n o.after o.calm_after));
-      on = subst (λ acts. ActsOn n acts) (sym o.is) (on-calm strange n o.before (took ∷ o.after) o.calm_before ((λ e. has), on-all strange n o.after o.calm_after));
+      taken = subst (λ acts. AllTaken setting step x history acts) (sym o.is) (taken-calm setting step x history strange n o.before (took ∷
+          o.after) o.calm_before (f, taken-all setting step x history strange n o.after o.calm_after));
+      on = subst (λ acts. ActsOn n acts) (sym o.is) (on-calm strange n o.before (took ∷ o.after) o.calm_before (
+        (λ e. has),
+        on-all strange n o.after o.calm_after,
+      ));
     }
 
 -- the boot of a node
@@ -106,7 +115,8 @@ boot_ok setting step x history before past word four cause =
     let n = length past.ports in
     let boot : List Placed = record { port = first_port; act = Boot } ∷ [] in
     let rest = reading_all all_ports (for_ports boots_on) x (spread x past boot) in
-    let c = (calm_boots {strange = false} {n = n} {peers = room past.ports} four).run x (spread x past boot) (small_spread n (room past.ports) x past boot (small_room past)) in
+    let c = (calm_boots {strange = false} {n = n} {peers = room past.ports} four).run x (spread x past boot)
+    (small_spread n (room past.ports) x past boot (small_room past)) in
     record {
       few = (let few = c.few in omega (arith, few));
       alive = ((word, cause), alive-all setting step x false n rest (did_in step x (Acts Boot) ∷ before) c.calm refl);

@@ -23,7 +23,8 @@ abbrev test : Datagram
 test = Message (msg Test 5 Nothing)
 
 -- what the step took is the TEST
-size-of : (l : Line) (world : List Line) (datagram : Datagram) (sized : AnswerSized named l world datagram) → sized.asked ≡ test → SizeFits test datagram (setup_of named (node_of l) l.port) (view l.port (of (node_of l) world))
+size-of : (l : Line) (world : List Line) (datagram : Datagram) (sized : AnswerSized named l world datagram) → sized.asked ≡ test →
+    SizeFits test datagram (setup_of named (node_of l) l.port) (view l.port (of (node_of l) world))
 size-of l world datagram sized e = subst (λ d. SizeFits d datagram (setup_of named (node_of l) l.port) (view l.port (of (node_of l) world))) e sized.size
 
 abbrev long_ack : MessageValue

@@ -1,13 +1,17 @@
 -- What follows for each row over ports from how it is made: it puts few acts, and calm ones, on ports that the node has.
-use Rattle.std.proofs.Common.{ap, subst, arith, length-append, ◌≡◌, ◌≤◌, ◌<◌, ℕ, suc, ◌+◌, ◌*◌, ◌==◌, not, Bool, true, false, if◌then◌else◌, List, [], ◌∷◌, ◌++◌, length, refl, sym, ◌∙◌, append-nil, append_assoc}
+use Rattle.std.proofs.Common.{ap, subst, arith, length-append, ◌≡◌, ◌≤◌, ◌<◌, ℕ, suc, ◌+◌, ◌*◌, ◌==◌, not, Bool, true, false, if◌then◌else◌, List, [], ◌∷◌}
+use Rattle.std.proofs.Common.{◌++◌, length, refl, sym, ◌∙◌, append-nil, append_assoc}
 use Rattle.std.proofs.lemmas.Bool.{and_parts, leb-true}
 use Rattle.tsp_rules.proofs.FewActs.{filter_few, is_calm_act, is_calm, Calm}
 use Rattle.tsp_rules.specs.Values.{Act, Abandon, Placed, Port, Took, Message, Stamp, Taken, Good, Bad, Kind, LoopKind, Place, ALL}
 use Rattle.tsp_rules.specs.{RoundRows.corrects, Answers.handles, Answers.takes, Strangers.is_stranger}
-use Rattle.tsp_rules.specs.GateRows.{ports_from, other_ports, all_ports, turns_on, LoopStep, PassOver, GiveUp, Forward, judge, hears_on, heeds_loop, takes_loop, stirred_ports, takes_message, takes_kind, takes_on, steers, in_charge, NodeTurn, GotOn, input_all, answers_all, boots_on}
+use Rattle.tsp_rules.specs.GateRows.{ports_from, other_ports, all_ports, turns_on, LoopStep, PassOver, GiveUp, Forward, judge, hears_on, heeds_loop, takes_loop}
+use Rattle.tsp_rules.specs.GateRows.{stirred_ports, takes_message, takes_kind, takes_on, steers, in_charge, NodeTurn, GotOn, input_all, answers_all, boots_on}
 use Rattle.tsp_rules.proofs.{CalmBuilt.calm_moving, CalmBuilt.answers_owed, CalmSteps.TakesFirst, CalmSteps.taking, CalmSteps.calm_handles}
-use Rattle.tsp_rules.specs.NodeRows.{PortSetup, NodePast, NodeRow, port_setup, on_port, spread, nothing_at_all, on, ◌and_then◌, for_ports, abandons_on, stirring, reading_all}
-use Rattle.tsp_rules.proofs.BuiltAll.{BuiltAll, EachPort, EmptyAll, ForPorts, MoreAll, On, OtherPorts, PortsOf, ReadingAll, StirredPorts, StirringAll, ThenAll, WhereAll}
+use Rattle.tsp_rules.specs.NodeRows.{PortSetup, NodePast, NodeRow, port_setup, on_port, spread, nothing_at_all, on, ◌and_then◌, for_ports, abandons_on}
+use Rattle.tsp_rules.specs.NodeRows.{stirring, reading_all}
+use Rattle.tsp_rules.proofs.BuiltAll.{BuiltAll, EachPort, EmptyAll, ForPorts, MoreAll, On, OtherPorts, PortsOf, ReadingAll, StirredPorts, StirringAll, ThenAll}
+use Rattle.tsp_rules.proofs.BuiltAll.{WhereAll}
 use Rattle.tsp_rules.proofs.BuiltPorts.{OwesStep, built_all_boots, built_all_turns, built_heeds}
 use Rattle.tsp_base.specs.Words.{view, is_going, Row, placed, sets_date, MessageValue, puts}
 use Rattle.tsp_promises.proofs.PortLists.{Ranged, listed_ranged}
@@ -56,11 +60,18 @@ calm_all_more row le p = record { run = λ x past s. calm_acts_more le (p.run x 
 no-acts : (strange : Bool) (n most : ℕ) → CalmActs strange n most []
 no-acts strange n most = record { few = omega arith; calm = tt }
 
-pub placed_calm : {strange : Bool} (n most : ℕ) (q : Port) (acts : List Act) → q.0 < n → is_calm strange true acts ≡ true → length acts ≤ most → CalmActs strange n most (placed q acts)
-placed_calm {strange} n most q acts has calm few = record { few = (let e = length-placed q acts in omega (arith, e, few)); calm = AreCalm-placed strange n q acts has calm }
+pub placed_calm : {strange : Bool} (n most : ℕ) (q : Port) (acts : List Act) → q.0 < n → is_calm strange true acts ≡ true → length acts ≤ most →
+    CalmActs strange n most (placed q acts)
+placed_calm {strange} n most q acts has calm few = record {
+  few = (let e = length-placed q acts in omega (arith, e, few));
+  calm = AreCalm-placed strange n q acts has calm;
+}
 
 pub append_calm : {strange : Bool} {n j k : ℕ} (ps qs : List Placed) → CalmActs strange n j ps → CalmActs strange n k qs → CalmActs strange n (j + k) (ps ++ qs)
-append_calm {strange} {n} ps qs p q = record { few = (let e = length-append ps qs in let a = p.few in let b = q.few in omega (arith, e, a, b)); calm = AreCalm-append strange n ps qs p.calm q.calm }
+append_calm {strange} {n} ps qs p q = record {
+  few = (let e = length-append ps qs in let a = p.few in let b = q.few in omega (arith, e, a, b));
+  calm = AreCalm-append strange n ps qs p.calm q.calm;
+}
 
 mul-le : (j a b : ℕ) → a ≤ b → j * a ≤ j * b
 mul-le j a b le = grind (arith, le)
@@ -74,23 +85,28 @@ module _ {strange : Bool} {n peers : ℕ} where
   unfolding on
   calm-on {k} {c} q row has p = record {
     run = λ x past s.
-        placed_calm n (k * peers + c) q (row x (on_port q past)) has (p.calm x (on_port q past)) (on_few k c (length (port_setup q past).peers) peers (length (row x (on_port q past))) (p.few x (on_port q past)) (s.few q));
+        placed_calm n (k * peers + c) q (row x (on_port q past)) has (p.calm x (on_port q past)) (on_few k c (length (port_setup q past).peers) peers
+        (length (row x (on_port q past))) (p.few x (on_port q past)) (s.few q));
   }
 
   calm-and : {j k : ℕ} (r t : NodeRow) → CalmAll strange n peers j r → CalmAll strange n peers k t → CalmAll strange n peers (j + k) (r and_then t)
   unfolding ◌and_then◌
   calm-and r t p q = record {
     run = λ x past s.
-        append_calm (r x past) (t x (spread x past (r x past))) (p.run x past s) (q.run x (spread x past (r x past)) (small_spread n peers x past (r x past) s));
+        append_calm (r x past) (t x (spread x past (r x past))) (p.run x past s) (q.run x (spread x past (r x past))
+        (small_spread n peers x past (r x past) s));
   }
 
-  calm-list : {k : ℕ} (r : Port → NodeRow) (ports : List Port) → Ranged n ports → ((q : Port) → q.0 < n → CalmAll strange n peers k (r q)) → CalmAll strange n peers (k * length ports) (for_ports r ports)
+  calm-list : {k : ℕ} (r : Port → NodeRow) (ports : List Port) → Ranged n ports → ((q : Port) → q.0 < n → CalmAll strange n peers k (r q)) →
+      CalmAll strange n peers (k * length ports) (for_ports r ports)
   unfolding for_ports nothing_at_all
   calm-list r [] ranged p = record { run = λ x past s. no-acts strange n _ }
-  calm-list {k} r (q ∷ rest) ranged p = calm_all_more (r q and_then for_ports r rest) (let e : k * length (q ∷ rest) ≡ k + k * length rest = grind arith in omega (arith, e)) (calm-and (r q) (for_ports r rest) (p q ranged.0) (calm-list r rest ranged.1 p))
+  calm-list {k} r (q ∷ rest) ranged p = calm_all_more (r q and_then for_ports r rest) (let e : k * length (q ∷ rest) ≡ k + k * length rest = grind arith in
+      omega (arith, e)) (calm-and (r q) (for_ports r rest) (p q ranged.0) (calm-list r rest ranged.1 p))
 
   -- over at most four ports
-  pub calm_ports : {k : ℕ} (r : Port → NodeRow) (ports : List Port) → Ranged n ports → length ports ≤ 4 → ((q : Port) → q.0 < n → CalmAll strange n peers k (r q)) → CalmAll strange n peers (k * 4) (for_ports r ports)
+  pub calm_ports : {k : ℕ} (r : Port → NodeRow) (ports : List Port) → Ranged n ports → length ports ≤ 4 →
+      ((q : Port) → q.0 < n → CalmAll strange n peers k (r q)) → CalmAll strange n peers (k * 4) (for_ports r ports)
   calm_ports {k} r ports ranged few p = calm_all_more (for_ports r ports) (mul-le k (length ports) 4 few) (calm-list r ports ranged p)
 
   calm-abandons : (q : Port) → q.0 < n → CalmAll strange n peers 1 (abandons_on q)
@@ -101,7 +117,8 @@ module _ {strange : Bool} {n peers : ℕ} where
     by_case false = no-acts strange n 1
 
   -- the rounds that a row's correction ends
-  pub calm_after : (b : Bool) (ports : List Port) (x : ℕ) (past : NodePast) → Ranged n ports → length ports ≤ 4 → Small n peers past → CalmActs strange n 4 (if b then for_ports abandons_on ports x past else [])
+  pub calm_after : (b : Bool) (ports : List Port) (x : ℕ) (past : NodePast) → Ranged n ports → length ports ≤ 4 → Small n peers past →
+      CalmActs strange n 4 (if b then for_ports abandons_on ports x past else [])
   calm_after true ports x past ranged few s = calm_acts_more (omega arith) ((calm_ports {k = 1} abandons_on ports ranged few calm-abandons).run x past s)
   calm_after false ports x past ranged few s = no-acts strange n 4
 
@@ -118,7 +135,11 @@ others-few q past few s = let all = each-few past few s in let le = filter_few (
 pub few_ports : {n peers : ℕ} {ports : NodePast → List Port} (past : NodePast) → n ≤ 4 → Small n peers past → PortsOf ports → length (ports past) ≤ 4
 few_ports past few s EachPort = each-few past few s
 few_ports past few s (OtherPorts q) = others-few q past few s
-few_ports past few s (StirredPorts q kind) = elim (sets_date kind) as (λ b. length (if b then ports_from 0 past.ports else other_ports q past) ≤ 4) [ true ↦ each-few past few s | false ↦ others-few q past few s ]
+few_ports past few s (StirredPorts q kind) = elim (sets_date kind) as (λ b. length (if b then ports_from 0 past.ports else other_ports q past) ≤ 4) [
+  | true ↦
+      each-few past few s
+  | false ↦ others-few q past few s
+]
 
 pub ranged_ports : {n peers : ℕ} {ports : NodePast → List Port} (past : NodePast) → Small n peers past → PortsOf ports → Ranged n (ports past)
 ranged_ports {ports = ports} past s l = subst (λ k. Ranged k (ports past)) s.count (listed_ranged past l)
@@ -137,17 +158,26 @@ more-le j b k c n le more = let scaled : j * n ≤ k * n = grind (arith, le) in 
 
 module _ {strange : Bool} {n peers : ℕ} (four : n ≤ 4) where
   -- a row and what it stirs
-  calm-stirring : {k c : ℕ} {ports : NodePast → List Port} (q : Port) (row : Row) → q.0 < n → PortsOf ports → Calm strange true k c row → CalmAll strange n peers ((k * peers + c) + 4) (λ x past. stirring q (ports past) row x past)
+  calm-stirring : {k c : ℕ} {ports : NodePast → List Port} (q : Port) (row : Row) → q.0 < n → PortsOf ports → Calm strange true k c row →
+      CalmAll strange n peers ((k * peers + c) + 4) (λ x past. stirring q (ports past) row x past)
   unfolding stirring on
   calm-stirring {k} {c} {ports} q row has l p = record {
     run = λ x past s.
         let first = placed q (row x (on_port q past)) in
         append_calm first _ ((calm-on {k = k} {c = c} q row has p).run x past s)
-        (calm_after (corrects (row x (on_port q past))) (ports past) x (spread x past first) (ranged_ports past s l) (few_ports past four s l) (small_spread n peers x past first s));
+        (calm_after (corrects (row x (on_port q past))) (ports past) x (spread x past first) (ranged_ports past s l) (few_ports past four s l)
+        (small_spread n peers x past first s));
   }
 
-  calm-where : {most : ℕ} (test : NodePast → Bool) (row : NodeRow) → CalmAll strange n peers most row → CalmAll strange n peers most (λ x past. if test past then row x past else [])
-  calm-where {most} test row p = record { run = λ x past s. elim (test past) as (λ b. CalmActs strange n most (if b then row x past else [])) [ true ↦ p.run x past s | false ↦ no-acts strange n most ] }
+  calm-where : {most : ℕ} (test : NodePast → Bool) (row : NodeRow) → CalmAll strange n peers most row →
+      CalmAll strange n peers most (λ x past. if test past then row x past else [])
+  calm-where {most} test row p = record {
+    run = λ x past s. elim (test past) as (λ b. CalmActs strange n most (if b then row x past else [])) [
+      | true ↦
+          p.run x past s
+      | false ↦ no-acts strange n most
+    ];
+  }
 
   -- a row over ports puts few acts, which are calm
   pub calm_all_built : {k c : ℕ} {row : NodeRow} → BuiltAll (answers_owed strange) (λ q. q.0 < n) k c row → CalmAll strange n peers (k * peers + c) row
@@ -158,10 +188,12 @@ module _ {strange : Bool} {n peers : ℕ} (four : n ≤ 4) where
   calm_all_built (ReadingAll known fact holds d) = record { run = λ x past s. (calm_all_built (d (fact x past) (holds x past))).run x past s }
   calm_all_built (WhereAll {row = row} test d) = calm-where test row (calm_all_built d)
   calm_all_built (ForPorts {k} {c} {row = row} l d) = record {
-    run = λ x past s. calm_acts_more (four-le k c peers) ((calm_ports row _ (ranged_ports past s l) (few_ports past four s l) (λ q has. calm_all_built (d q has))).run x past s);
+    run = λ x past s. calm_acts_more (four-le k c peers) ((calm_ports row _ (ranged_ports past s l) (few_ports past four s l)
+        (λ q has. calm_all_built (d q has))).run x past s);
   }
   calm_all_built (StirringAll {k = k} {c = c} {row = row} q has l d) = calm_all_more _ (stir-le k c peers) (calm-stirring q row has l (calm_moving d))
-  calm_all_built (MoreAll {j} {b} {k} {c} d le) = let both = and_parts _ _ le in calm_all_more _ (more-le j b k c peers (leb-true _ _ both.0) (leb-true _ _ both.1)) (calm_all_built d)
+  calm_all_built (MoreAll {j} {b} {k} {c} d le) = let both = and_parts _ _ le in calm_all_more _
+      (more-le j b k c peers (leb-true _ _ both.0) (leb-true _ _ both.1)) (calm_all_built d)
 
 -- what a node's steps put: few acts, each on a port that the node has, of which only that of a taking takes
 
@@ -184,7 +216,8 @@ module _ {strange : Bool} {n peers : ℕ} (four : n ≤ 4) where
   calm_turns = calm_all_more _ (omega arith) (calm_all_built four (built_all_turns (λ q has. tt)))
 
   -- what is done with a LOOP after its taking
-  pub calm_heeds : (q : Port) (from : Place) (m : MessageValue) → q.0 < n → CalmAll strange n peers (4 * peers + 2) (reading_all (hears_on from q) (heeds_loop q m))
+  pub calm_heeds : (q : Port) (from : Place) (m : MessageValue) → q.0 < n → CalmAll strange n peers (4 * peers + 2)
+      (reading_all (hears_on from q) (heeds_loop q m))
   calm_heeds q from m has = calm_all_built four (built_heeds q from m has (λ own ports. step-owes strange (judge own ports q m)))
 
   -- what a boot puts on the ports
@@ -205,11 +238,20 @@ module _ {n : ℕ} (peers : ℕ) (four : n ≤ 4) (q : Port) (has : q.0 < n) (fr
   abbrev First : Taken → List Placed → Type 0
   First t acts = TakesOnce from t q n (5 * peers + 10) acts
 
-  first-of : (t : Taken) (acts after : List Placed) → acts ≡ record { port = q; act = Took from t } ∷ after → CalmActs (is_stranger from) n (5 * peers + 9) after → First t acts
-  first-of t acts after is c = record { before = []; after = after; is = is; calm_before = tt; calm_after = c.calm; few = (let f = c.few in let e : length acts ≡ length (record { port = q; act = Took from t } ∷ after) = ap (λ l. length l) is in omega (arith, f, e)) }
+  first-of : (t : Taken) (acts after : List Placed) → acts ≡ record { port = q; act = Took from t } ∷ after →
+      CalmActs (is_stranger from) n (5 * peers + 9) after → First t acts
+  first-of t acts after is c = record {
+    before = [];
+    after = after;
+    is = is;
+    calm_before = tt;
+    calm_after = c.calm;
+    few = (let f = c.few in let e : length acts ≡ length (record { port = q; act = Took from t } ∷ after) = ap (λ l. length l) is in omega (arith, f, e));
+  }
 
   -- acts of a port that take first, and what they stir
-  stirred-first : (t : Taken) (x : ℕ) (past : NodePast) (acts : List Act) (ports : List Port) → Small n peers past → Ranged n ports → length ports ≤ 4 → TakesFirst true from t (2 * length (port_setup q past).peers + 5) acts →
+  stirred-first : (t : Taken) (x : ℕ) (past : NodePast) (acts : List Act) (ports : List Port) → Small n peers past → Ranged n ports → length ports ≤ 4 →
+      TakesFirst true from t (2 * length (port_setup q past).peers + 5) acts →
       First t (placed q acts ++ (if corrects acts then for_ports abandons_on ports x (spread x past (placed q acts)) else []))
   stirred-first t x past acts ports s ranged few f =
       let more = if corrects acts then for_ports abandons_on ports x (spread x past (placed q acts)) else [] in
@@ -224,7 +266,8 @@ module _ {n : ℕ} (peers : ℕ) (four : n ≤ 4) (q : Port) (has : q.0 < n) (fr
       let t = Good (Message m) in
       let steer = steers q x past in
       let charge = in_charge q x past in
-      stirred-first t x past (takes steer charge from t x (on_port q past)) (stirred_ports q m.kind past) s (ranged_ports past s (StirredPorts q m.kind)) (few_ports past four s (StirredPorts q m.kind))
+      stirred-first t x past (takes steer charge from t x (on_port q past)) (stirred_ports q m.kind past) s (ranged_ports past s (StirredPorts q m.kind))
+      (few_ports past four s (StirredPorts q m.kind))
       ((taking {moving = true} from t 2 5 (handles steer charge from t) (calm_handles steer charge from t)).run x (on_port q past))
 
   loop-first : (m : MessageValue) (x : ℕ) (past : NodePast) → Small n peers past → First (Good (Message m)) (takes_loop q from m x past)
@@ -246,7 +289,8 @@ module _ {n : ℕ} (peers : ℕ) (four : n ≤ 4) (q : Port) (has : q.0 < n) (fr
       let acts = takes true true from t x (on_port q past) in
       let f = (taking {moving = true} from t 2 5 (handles true true from t) (calm_handles true true from t)).run x (on_port q past) in
       first-of t (placed q acts) (placed q f.after) (subst (λ z. placed q acts ≡ placed q z) f.is refl)
-      (calm_acts_more (omega arith) (placed_calm n (2 * peers + 5) q f.after has f.calm (on_few 2 5 (length (port_setup q past).peers) peers (length f.after) f.few (s.few q))))
+      (calm_acts_more (omega arith) (placed_calm n (2 * peers + 5) q f.after has f.calm (on_few 2 5 (length (port_setup q past).peers) peers (length f.after)
+      f.few (s.few q))))
 
   takes-first : (t : Taken) (x : ℕ) (past : NodePast) → Small n peers past → First t (takes_on q from t x past)
   unfolding takes_on
@@ -274,4 +318,7 @@ module _ {n : ℕ} (peers : ℕ) (four : n ≤ 4) (q : Port) (has : q.0 < n) (fr
 -- a step that is given nothing is calm
 pub calm_turn_all : {strange : Bool} (n peers : ℕ) → n ≤ 4 → CalmAll strange n peers (turns_most peers) (answers_all NodeTurn)
 unfolding answers_all input_all nothing_at_all ◌and_then◌
-calm_turn_all {strange} n peers four = record { run = λ x past s. subst (λ acts. CalmActs strange n (turns_most peers) acts) (sym (append-nil (reading_all all_ports (for_ports turns_on) x past))) ((calm_turns four).run x past s) }
+calm_turn_all {strange} n peers four = record {
+  run = λ x past s. subst (λ acts. CalmActs strange n (turns_most peers) acts)
+      (sym (append-nil (reading_all all_ports (for_ports turns_on) x past))) ((calm_turns four).run x past s);
+}

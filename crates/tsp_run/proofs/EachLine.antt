@@ -12,11 +12,13 @@ use Rattle.tsp_run.proofs.HappensBy.{acts_by, steps-are, takes-or, taking, takin
 abbrev pub AllLines : (Line → List Line → Type 0) → Step → ℕ → Type 0
 AllLines P step x = (port : Port) (deed : Deed) (before : List Line) → P (line_of step x port deed) before
 
-each-joined : (P : Line → List Line → Type 0) (step : Step) (x : ℕ) (acts : List Placed) (h : List Line) → AllLines P step x → Everywhere P h → Everywhere P (joined step x acts h)
+each-joined : (P : Line → List Line → Type 0) (step : Step) (x : ℕ) (acts : List Placed) (h : List Line) → AllLines P step x → Everywhere P h →
+    Everywhere P (joined step x acts h)
 each-joined P step x [] h all e = e
 each-joined P step x (p ∷ rest) h all e = each-joined P step x rest (line_of step x p.port (Acts p.act) ∷ h) all (all p.port (Acts p.act) h, e)
 
-pub each-stepped : (P : Line → List Line → Type 0) (step : Step) (x : ℕ) (acts : List Placed) (h : List Line) → AllLines P step x → Everywhere P h → Everywhere P (stepped step x acts h)
+pub each-stepped : (P : Line → List Line → Type 0) (step : Step) (x : ℕ) (acts : List Placed) (h : List Line) → AllLines P step x → Everywhere P h →
+    Everywhere P (stepped step x acts h)
 each-stepped P step x acts h all e = each-joined P step x acts (line_of step x first_port Begins ∷ h) all (all first_port Begins h, e)
 
 -- the cause of a step that an event makes

@@ -4,7 +4,8 @@ use Rattle.tsp_rules.specs.Values.{Placed, Taken, Take, Place, Port}
 use Rattle.tsp_rules.specs.{GateRows.NodeTurn, GateRows.GotOn, GateRows.answers_all, GateRows.boots_all, NodeRows.NodeRow}
 use Rattle.tsp_base.specs.Words.{HeaderValue, IsHeader, Line, Step}
 use Rattle.tsp_run.specs.{Networks.networks, Networks.ports_on, Networks.room, Run.Happening, Run.goes_to, Run.happening, Run.steps, Run.posts}
-use Rattle.tsp_run.{specs.Clocked.clocks_of, proofs.CalmPorts.AreCalm, proofs.CalmPorts.TakesOnce, proofs.CalmPorts.step_most, proofs.OwnClocks.happening_same, proofs.HeaderLines.set_up_of}
+use Rattle.tsp_run.{specs.Clocked.clocks_of, proofs.CalmPorts.AreCalm, proofs.CalmPorts.TakesOnce, proofs.CalmPorts.step_most, proofs.OwnClocks.happening_same}
+use Rattle.tsp_run.{proofs.HeaderLines.set_up_of}
 use Rattle.tsp_run.proofs.HappensBy
 pub use Rattle.tsp_run.proofs.HappensBy.{Arrives, Boots, ports_in, taken_in, taking_row, taking_step}
 

@@ -1,10 +1,12 @@
 -- Networks: each port of a node is on its own, each node is a member of its networks, and a datagram that reaches a port is on that port's network.
-use Rattle.std.proofs.Common.{sym, ap, subst, arith, ◌∙◌, eqb-true, eq-eqb, ◌≡◌, ℕ, zero, suc, ◌+◌, ◌<◌, ◌≤◌, ◌==◌, ◌||◌, Bool, true, false, if◌then◌else◌, List, [], ◌∷◌, length, Option, None, Some, slice_index_or, refl}
+use Rattle.std.proofs.Common.{sym, ap, subst, arith, ◌∙◌, eqb-true, eq-eqb, ◌≡◌, ℕ, zero, suc, ◌+◌, ◌<◌, ◌≤◌, ◌==◌, ◌||◌, Bool, true, false, if◌then◌else◌}
+use Rattle.std.proofs.Common.{List, [], ◌∷◌, length, Option, None, Some, slice_index_or, refl}
 use Rattle.std.proofs.{lemmas.Bool.ne_eqb, lemmas.List.Sums.sum_by-append}
 use Rattle.tsp_rules.specs.{Values.Place, Values.Peer, Values.Stranger, Values.Port, NodeRows.PortSetup, NodeRows.no_port}
 use Rattle.tsp_base.specs.Words.{HeaderValue, IsHeader, has_member, nets_with, is_among, peer_of}
 use Rattle.tsp_promises.{proofs.Histories.alone, specs.Setting.Alone}
-use Rattle.tsp_run.specs.Networks.{numbers_below, networks, networks_among, peers_on, port_on, ports_on, network_from, network_at, port_from, port_at, address_at, address_of, room}
+use Rattle.tsp_run.specs.Networks.{numbers_below, networks, networks_among, peers_on, port_on, ports_on, network_from, network_at, port_from, port_at}
+use Rattle.tsp_run.specs.Networks.{address_at, address_of, room}
 use Rattle.tsp_run.specs.{Setting.members_of, Setting.named_or, Setting.network_of, declared.address.Address.Address}
 
 pub some_same : {A : Type 0} {a b : A} → Some a ≡ Some b → a ≡ b
@@ -24,7 +26,8 @@ pub record OnNetwork (n q k p i : ℕ) (nets : List (List ℕ)) : Type 0 where
   pub member : has_member n (slice_index_or nets j []) ≡ true
 
 -- one network more before
-on-more : (n q k p i : ℕ) (net : List ℕ) (rest : List (List ℕ)) → has_member n net ≡ true → OnNetwork n q k (p + 1) (i + 1) rest → OnNetwork n q k p i (net ∷ rest)
+on-more : (n q k p i : ℕ) (net : List ℕ) (rest : List (List ℕ)) → has_member n net ≡ true → OnNetwork n q k (p + 1) (i + 1) rest →
+    OnNetwork n q k p i (net ∷ rest)
 on-more n q k p i net rest m h =
     let here : (i == k) ≡ false = not-equal i k (let a = h.place in omega (arith, a)) in
     let first : (p == q) ≡ false = not-equal p q h.later in
@@ -68,25 +71,33 @@ on-first n p i net rest m =
 -- the network of a port
 pub on_network : (n q k p i : ℕ) (nets : List (List ℕ)) → network_from n q p i nets ≡ Some k → OnNetwork n q k p i nets
 on_network n q k p i [] e = let bad : ⊥ = cc in absurd bad
-on_network n q k p i (net ∷ rest) e = by_member (has_member n net) refl (λ f. on_network n q k (p + 1) (i + 1) rest f) (λ f. on_network n q k p (i + 1) rest f) e where
-  by_member : (b : Bool) → has_member n net ≡ b → (network_from n q (p + 1) (i + 1) rest ≡ Some k → OnNetwork n q k (p + 1) (i + 1) rest) → (network_from n q p (i + 1) rest ≡ Some k → OnNetwork n q k p (i + 1) rest) →
-      (if b then (if p == q then Some i else network_from n q (p + 1) (i + 1) rest) else network_from n q p (i + 1) rest) ≡ Some k → OnNetwork n q k p i (net ∷ rest)
-  by_member true m more past e = by_port (p == q) refl e where
-    by_port : (b : Bool) → (p == q) ≡ b → (if b then Some i else network_from n q (p + 1) (i + 1) rest) ≡ Some k → OnNetwork n q k p i (net ∷ rest)
-    by_port true same e = subst (λ r. OnNetwork n r k p i (net ∷ rest)) (eqb-true p q same) (subst (λ r. OnNetwork n p r p i (net ∷ rest)) (some_same e) (on-first n p i net rest m))
-    by_port false other e = on-more n q k p i net rest m (more e)
-  by_member false m more past e = on-past n q k p i net rest m (past e)
+on_network n q k p i (net ∷ rest) e = by_member (has_member n net) refl (λ f. on_network n q k (p + 1) (i + 1) rest f) (λ f. on_network n q k p (i + 1) rest f)
+    e where
+      by_member : (b : Bool) → has_member n net ≡ b → (network_from n q (p + 1) (i + 1) rest ≡ Some k → OnNetwork n q k (p + 1) (i + 1) rest) →
+          (network_from n q p (i + 1) rest ≡ Some k → OnNetwork n q k p (i + 1) rest) →
+          (if b then (if p == q then Some i else network_from n q (p + 1) (i + 1) rest) else network_from n q p (i + 1) rest) ≡ Some k →
+          OnNetwork n q k p i (net ∷ rest)
+      by_member true m more past e = by_port (p == q) refl e where
+        by_port : (b : Bool) → (p == q) ≡ b → (if b then Some i else network_from n q (p + 1) (i + 1) rest) ≡ Some k → OnNetwork n q k p i (net ∷ rest)
+        by_port true same e = subst (λ r. OnNetwork n r k p i (net ∷ rest)) (eqb-true p q same) (subst (λ r. OnNetwork n p r p i (net ∷ rest)) (some_same e)
+            (on-first n p i net rest m))
+        by_port false other e = on-more n q k p i net rest m (more e)
+      by_member false m more past e = on-past n q k p i net rest m (past e)
 
 -- the port of a network
 pub on_port_of : (n q k p i : ℕ) (nets : List (List ℕ)) → port_from n k p i nets ≡ Some q → OnNetwork n q k p i nets
 on_port_of n q k p i [] e = let bad : ⊥ = cc in absurd bad
-on_port_of n q k p i (net ∷ rest) e = by_place (i == k) refl (λ f. on_port_of n q k (p + 1) (i + 1) rest f) (λ f. on_port_of n q k p (i + 1) rest f) (has_member n net) refl e where
-  by_place : (c : Bool) → (i == k) ≡ c → (port_from n k (p + 1) (i + 1) rest ≡ Some q → OnNetwork n q k (p + 1) (i + 1) rest) → (port_from n k p (i + 1) rest ≡ Some q → OnNetwork n q k p (i + 1) rest) → (b : Bool) → has_member n net ≡ b →
-      (if c then (if b then Some p else None) else (if b then port_from n k (p + 1) (i + 1) rest else port_from n k p (i + 1) rest)) ≡ Some q → OnNetwork n q k p i (net ∷ rest)
-  by_place true same more past true m e = subst (λ r. OnNetwork n q r p i (net ∷ rest)) (eqb-true i k same) (subst (λ r. OnNetwork n r i p i (net ∷ rest)) (some_same e) (on-first n p i net rest m))
-  by_place true same more past false m e = let bad : ⊥ = cc in absurd bad
-  by_place false other more past true m e = on-more n q k p i net rest m (more e)
-  by_place false other more past false m e = on-past n q k p i net rest m (past e)
+on_port_of n q k p i (net ∷ rest) e = by_place (i == k) refl (λ f. on_port_of n q k (p + 1) (i + 1) rest f) (λ f. on_port_of n q k p (i + 1) rest f)
+    (has_member n net) refl e where
+      by_place : (c : Bool) → (i == k) ≡ c → (port_from n k (p + 1) (i + 1) rest ≡ Some q → OnNetwork n q k (p + 1) (i + 1) rest) →
+          (port_from n k p (i + 1) rest ≡ Some q → OnNetwork n q k p (i + 1) rest) → (b : Bool) → has_member n net ≡ b →
+          (if c then (if b then Some p else None) else (if b then port_from n k (p + 1) (i + 1) rest else port_from n k p (i + 1) rest)) ≡ Some q →
+          OnNetwork n q k p i (net ∷ rest)
+      by_place true same more past true m e = subst (λ r. OnNetwork n q r p i (net ∷ rest)) (eqb-true i k same)
+          (subst (λ r. OnNetwork n r i p i (net ∷ rest)) (some_same e) (on-first n p i net rest m))
+      by_place true same more past false m e = let bad : ⊥ = cc in absurd bad
+      by_place false other more past true m e = on-more n q k p i net rest m (more e)
+      by_place false other more past false m e = on-past n q k p i net rest m (past e)
 
 -- how a port is set up: by its network
 pub record SetUp (n r p i : ℕ) (nets : List (List ℕ)) : Type 0 where
@@ -97,7 +108,8 @@ pub record SetUp (n r p i : ℕ) (nets : List (List ℕ)) : Type 0 where
 pub set_up : (n r p i : ℕ) (nets : List (List ℕ)) → r < length (ports_on n nets) → SetUp n r p i nets
 set_up n r p i [] h = absurd (omega (arith, h))
 set_up n r p i (net ∷ rest) h = by_member (λ r. set_up n r (p + 1) (i + 1) rest) (λ r. set_up n r p (i + 1) rest) (has_member n net) refl r h where
-  by_member : ((r : ℕ) → r < length (ports_on n rest) → SetUp n r (p + 1) (i + 1) rest) → ((r : ℕ) → r < length (ports_on n rest) → SetUp n r p (i + 1) rest) → (b : Bool) → has_member n net ≡ b → (r : ℕ) → r < length (if b then port_on n net ∷ ports_on n rest else ports_on n rest) → SetUp n r p i (net ∷ rest)
+  by_member : ((r : ℕ) → r < length (ports_on n rest) → SetUp n r (p + 1) (i + 1) rest) → ((r : ℕ) → r < length (ports_on n rest) → SetUp n r p (i + 1) rest) →
+      (b : Bool) → has_member n net ≡ b → (r : ℕ) → r < length (if b then port_on n net ∷ ports_on n rest else ports_on n rest) → SetUp n r p i (net ∷ rest)
   by_member more past true m zero h =
       let first : (p == p + 0) ≡ true = eq-eqb p (p + 0) (omega arith) in
       record { j = 0; network = rw (m, first) (ap (λ k. Some k) (let e : i ≡ i + 0 = omega arith in e)); setup = rw m refl }
@@ -106,7 +118,8 @@ set_up n r p i (net ∷ rest) h = by_member (λ r. set_up n r (p + 1) (i + 1) re
       let other : (p == p + suc r) ≡ false = not-equal p (p + suc r) (omega arith) in
       record {
         j = suc s.j;
-        network = rw (m, other) (ap (λ k. network_from n k (p + 1) (i + 1) rest) (let e : p + suc r ≡ (p + 1) + r = omega arith in e) ∙ s.network ∙ ap (λ k. Some k) (let e : (i + 1) + s.j ≡ i + suc s.j = omega arith in e));
+        network = rw (m, other) (ap (λ k. network_from n k (p + 1) (i + 1) rest) (let e : p + suc r ≡ (p + 1) + r = omega arith in e) ∙ s.network ∙
+            ap (λ k. Some k) (let e : (i + 1) + s.j ≡ i + suc s.j = omega arith in e));
         setup = rw m s.setup;
       }
   by_member more past false m r h =
@@ -158,7 +171,8 @@ pub record GoesTo (nets : List (List ℕ)) (from : ℕ) (port : Port) (to : Plac
 pub goes_there : (nets : List (List ℕ)) (from : ℕ) (port : Port) (to : Place) (a : Address) → address_of nets from port to ≡ Some a → GoesTo nets from port to a
 goes_there nets from port Stranger a e = let bad : ⊥ = cc in absurd bad
 goes_there nets from port (Peer p) a e = by_network (network_at from port nets) refl e where
-  by_port : (k : ℕ) → network_at from port nets ≡ Some k → (o : Option ℕ) → port_from p.0 k 0 0 nets ≡ o → address_at p.0 o ≡ Some a → GoesTo nets from port (Peer p) a
+  by_port : (k : ℕ) → network_at from port nets ≡ Some k → (o : Option ℕ) → port_from p.0 k 0 0 nets ≡ o → address_at p.0 o ≡ Some a →
+      GoesTo nets from port (Peer p) a
   by_port k f None g e = let bad : ⊥ = cc in absurd bad
   by_port k f (Some q) g e =
       let h = on_port_of p.0 q k 0 0 nets g in
@@ -179,10 +193,12 @@ goes_there nets from port (Peer p) a e = by_network (network_at from port nets) 
 -- a node has as many ports as networks
 pub length-ports_on : (n : ℕ) (nets : List (List ℕ)) → length (ports_on n nets) ≡ nets_with n nets
 length-ports_on n [] = refl
-length-ports_on n (net ∷ rest) = by_member (has_member n net) (length-ports_on n rest) ∙ sym (sum_by-append (λ x. if has_member n x then 1 else 0) (net ∷ []) rest) where
-  by_member : (b : Bool) → length (ports_on n rest) ≡ nets_with n rest → length (if b then port_on n net ∷ ports_on n rest else ports_on n rest) ≡ (0 + (if b then 1 else 0)) + nets_with n rest
-  by_member true e = omega (arith, e)
-  by_member false e = omega (arith, e)
+length-ports_on n (net ∷ rest) = by_member (has_member n net) (length-ports_on n rest) ∙
+    sym (sum_by-append (λ x. if has_member n x then 1 else 0) (net ∷ []) rest) where
+      by_member : (b : Bool) → length (ports_on n rest) ≡ nets_with n rest → length (if b then port_on n net ∷ ports_on n rest else ports_on n rest) ≡
+          (0 + (if b then 1 else 0)) + nets_with n rest
+      by_member true e = omega (arith, e)
+      by_member false e = omega (arith, e)
 
 -- at most 4
 pub few_ports_of : (header : HeaderValue) → ((n : ℕ) → nets_with n header.nets ≤ 4) → (n : ℕ) → length (ports_on n (networks header)) ≤ 4

@@ -1,5 +1,6 @@
 -- What is possible stays so without its last event, and what is accepted is possible.
-use Rattle.std.proofs.Common.{ap, arith, inl, inr, length-append, subst, sym, ◌∙◌, ◌≡◌, ◌<◌, ◌≤◌, ◌^◌, ℕ, suc, ◌+◌, List, [], ◌∷◌, ◌++◌, length, Option, None, Some, slice_get, refl}
+use Rattle.std.proofs.Common.{ap, arith, inl, inr, length-append, subst, sym, ◌∙◌, ◌≡◌, ◌<◌, ◌≤◌, ◌^◌, ℕ, suc, ◌+◌, List, [], ◌∷◌, ◌++◌, length, Option, None}
+use Rattle.std.proofs.Common.{Some, slice_get, refl}
 use Rattle.std.proofs.lemmas.List.Elements.{All-tail}
 use Rattle.tsp_rules.specs.Values.{Act, Post, Placed, Event, BootAt, Turn, Take, Bytes, Peer}
 use Rattle.tsp_rules.specs.{GateRows.GotOn, GateRows.NodeTurn, GateRows.answers_all, GateRows.boots_all, NodeRows.NodeRow}
@@ -14,7 +15,8 @@ use Rattle.tsp_run.specs.Run.{Happening, boot_step, goes_to, joins, posted_by, p
 use Rattle.tsp_run.proofs.Happens.{acts_by, boot_few, got_acts, stepping, steps-are, taken_in, takes-or, taking, taking_row, taking_step, turn_few}
 
 -- how many datagrams were posted after a step
-count-stepped : (step : Step) (x : ℕ) (acts : List Placed) (h : List Line) → length (posts (stepped step x acts h)) ≡ length (posts h) + length (posts_from step.at step.node acts)
+count-stepped : (step : Step) (x : ℕ) (acts : List Placed) (h : List Line) → length (posts (stepped step x acts h)) ≡
+    length (posts h) + length (posts_from step.at step.node acts)
 count-stepped step x acts h = ap (λ ps. length ps) (posts_stepped step x acts h) ∙ length-append (posts h) (posts_from step.at step.node acts)
 
 -- no fewer than before it
@@ -45,21 +47,26 @@ few-from at node (p ∷ rest) = by_act p.act (few-from at node rest) where
 module _ {header : HeaderValue} (is : IsHeader header) (before : List Event) where
   -- if there was room before a step of few acts, fewer than 2^64 datagrams are posted after it
   few-stepped : (row : NodeRow) (step : Step) → length (acts_by header (run header before) row step) ≤ step_most (room (ports_on step.node (networks header))) →
-      length (posts (run header before)) + room (ports_on step.node (networks header)) ≤ most_posts → length (posts (joins (Some (stepping header (run header before) row step)) (run header before))) < 2 ^ 64
+      length (posts (run header before)) + room (ports_on step.node (networks header)) ≤ most_posts →
+      length (posts (joins (Some (stepping header (run header before) row step)) (run header before))) < 2 ^ 64
   few-stepped row step few wide =
       let acts = acts_by header (run header before) row step in
       let same = count-stepped step (step_tick header step) acts (run header before) in
       omega (arith, same, few-from step.at step.node acts, few, wide)
 
   -- so it is with a step as a run has it
-  by-row : (row : NodeRow) (step : Step) → length (posts (joins (Some (stepping header (run header before) row step)) (run header before))) < 2 ^ 64 → length (posts (joins (Some (steps header (run header before) row step)) (run header before))) < 2 ^ 64
-  by-row row step few = subst (λ (k : Happening). length (posts (joins (Some k) (run header before))) < 2 ^ 64) (sym (steps-are header (run header before) row step)) few
+  by-row : (row : NodeRow) (step : Step) → length (posts (joins (Some (stepping header (run header before) row step)) (run header before))) < 2 ^ 64 →
+      length (posts (joins (Some (steps header (run header before) row step)) (run header before))) < 2 ^ 64
+  by-row row step few = subst (λ (k : Happening). length (posts (joins (Some k) (run header before))) < 2 ^ 64)
+      (sym (steps-are header (run header before) row step)) few
 
   -- so it is after each event that isn't refused
-  few-event : (e : Event) → refusal (scene header before) e ≡ None → length (posts (run header before)) < 2 ^ 64 → length (posts (run header (e ∷ before))) < 2 ^ 64
+  few-event : (e : Event) → refusal (scene header before) e ≡ None → length (posts (run header before)) < 2 ^ 64 →
+      length (posts (run header (e ∷ before))) < 2 ^ 64
   few-event (BootAt at node word) none older =
       let step = boot_step header at node word in
-      by-row boots_all step (few-stepped boots_all step (boot_few is (run header before) step) ((allowed (scene header before) (BootAt at node word) none).posts node refl))
+      by-row boots_all step (few-stepped boots_all step (boot_few is (run header before) step) ((allowed (scene header before) (BootAt at node word) none).posts
+      node refl))
   few-event (Turn at node) none older =
       let step : Step = record { at = at; node = node; cause = Turned } in
       let row = answers_all NodeTurn in
@@ -73,7 +80,8 @@ module _ {header : HeaderValue} (is : IsHeader header) (before : List Event) whe
     | inl a ↦
         let step = taking_step at k a.to in
         let row = taking_row a.post a.to in
-        let goes : node_in (goes_to (networks header) (slice_get (posts (run header before)) k)) ≡ Some a.to.node = ap (λ o. node_in (goes_to (networks header) o)) a.there ∙ ap (λ o. node_in o) a.goes in
+        let goes : node_in (goes_to (networks header) (slice_get (posts (run header before)) k)) ≡ Some a.to.node =
+        ap (λ o. node_in (goes_to (networks header) o)) a.there ∙ ap (λ o. node_in o) a.goes in
         let few = (got_acts is (run header before) step a.to.port (Peer (peer_of a.post.from)) (taken_in a.post) a.has).few in
         subst (λ o. length (posts (joins o (run header before))) < 2 ^ 64) (sym (taking header (run header before) at k a))
         (few-stepped row step few ((allowed (scene header before) (Take at k) none).posts a.to.node goes))
@@ -92,4 +100,9 @@ valid-happens header (e ∷ before) v = (allowed-possible (scene header before) 
 
 -- what is accepted is possible
 pub accepted-possible : AcceptedIsPossible
-accepted-possible header events a = record { header_is = a.header_is; ranges = a.ranges; happens = valid-happens header events a.valid; few = few-accepted header a.header_is events a.valid }
+accepted-possible header events a = record {
+  header_is = a.header_is;
+  ranges = a.ranges;
+  happens = valid-happens header events a.valid;
+  few = few-accepted header a.header_is events a.valid;
+}

@@ -1,5 +1,6 @@
 -- Where the datagrams that a history posted stand in it.
-use Rattle.std.proofs.Common.{sym, ap, subst, inl, inr, arith, ◌∙◌, append-nil, length-append, ◌≡◌, ◌⊎◌, ℕ, zero, suc, ◌+◌, List, [], ◌∷◌, ◌++◌, length, Some, slice_get, refl}
+use Rattle.std.proofs.Common.{sym, ap, subst, inl, inr, arith, ◌∙◌, append-nil, length-append, ◌≡◌, ◌⊎◌, ℕ, zero, suc, ◌+◌, List, [], ◌∷◌, ◌++◌, length, Some}
+use Rattle.std.proofs.Common.{slice_get, refl}
 use Rattle.tsp_rules.specs.Values.{Post, Port}
 use Rattle.tsp_base.specs.Words.{Deed, Begins, Acts, Step, Line, dids, Within, posted, posted_after}
 use Rattle.tsp_run.{proofs.NetworkLemmas.some_same, specs.Run.posts, specs.Run.posted_in, specs.declared.posted.Posted.Posted}
@@ -39,8 +40,15 @@ pub record PostAt (h : List Line) (k : ℕ) (p : Posted) : Type 0 where
 post_more : (l : Line) (before : List Line) (k : ℕ) (p : Posted) → PostAt before k p → PostAt (l ∷ before) k p
 post_more l before k p a = record { post = a.post; older = a.older; place = inr a.place; number = a.number; deed = a.deed; from = a.from; port = a.port }
 
-by-deed : (l : Line) (before : List Line) (k : ℕ) (p : Posted) → (slice_get (posts before) k ≡ Some p → PostAt before k p) → (deed : Deed) → l.did.deed ≡ deed → slice_get (posts before ++ posted_in l.port l.did.step deed) k ≡ Some p → PostAt (l ∷ before) k p
-by-deed l before k p old (Acts (Post to datagram)) is e = elim (get-last (posts before) (record { at = l.did.step.at; from = l.did.step.node; port = l.port; to = to; datagram = datagram }) k p e) [
+by-deed : (l : Line) (before : List Line) (k : ℕ) (p : Posted) → (slice_get (posts before) k ≡ Some p → PostAt before k p) → (deed : Deed) → l.did.deed ≡ deed →
+    slice_get (posts before ++ posted_in l.port l.did.step deed) k ≡ Some p → PostAt (l ∷ before) k p
+by-deed l before k p old (Acts (Post to datagram)) is e = elim (get-last (posts before) (record {
+  at = l.did.step.at;
+  from = l.did.step.node;
+  port = l.port;
+  to = to;
+  datagram = datagram;
+}) k p e) [
   | inl h ↦ post_more l before k p (old h)
   | inr h ↦ record {
     post = l;

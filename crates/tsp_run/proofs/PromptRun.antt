@@ -26,14 +26,16 @@ pub record PostedAt (h : List Line) (k at : ℕ) (to : Place) : Type 0 where
   pub at_is : post.at ≡ at
   pub to_is : post.to ≡ to
 
-posted-last : (before : List Line) (port : Port) (step : Step) (deed : Deed) (to : Place) (datagram : Datagram) → deed ≡ Acts (Post to datagram) → (p : Posted) × (slice_get (posts before ++ posted_in port step deed) (posted (dids before)) ≡ Some p) × (p.at ≡ step.at) × (p.to ≡ to)
+posted-last : (before : List Line) (port : Port) (step : Step) (deed : Deed) (to : Place) (datagram : Datagram) → deed ≡ Acts (Post to datagram) →
+    (p : Posted) × (slice_get (posts before ++ posted_in port step deed) (posted (dids before)) ≡ Some p) × (p.at ≡ step.at) × (p.to ≡ to)
 posted-last before port step deed to datagram is =
     let p : Posted = record { at = step.at; from = step.node; port = port; to = to; datagram = datagram } in
     subst (λ d. (p : Posted) × (slice_get (posts before ++ posted_in port step d) (posted (dids before)) ≡ Some p) × (p.at ≡ step.at) × (p.to ≡ to)) (sym is)
     (p, ap (λ k. slice_get (posts before ++ p ∷ []) k) (sym (length-posts before)) ∙ get-end (posts before) p, refl, refl)
 
 -- a line that posts is found by its number
-pub posted-at : (h : List Line) (post : Line) (older : List Line) (to : Place) (datagram : Datagram) → Within (post ∷ older) h → post.did.deed ≡ Acts (Post to datagram) → PostedAt h (posted (dids older)) post.did.step.at to
+pub posted-at : (h : List Line) (post : Line) (older : List Line) (to : Place) (datagram : Datagram) → Within (post ∷ older) h → post.did.deed ≡
+    Acts (Post to datagram) → PostedAt h (posted (dids older)) post.did.step.at to
 posted-at [] post older to datagram w is = Within-none post older w
 posted-at (l ∷ before) post older to datagram (inl e) is =
     let line : l ≡ post = cc in
@@ -43,24 +45,34 @@ posted-at (l ∷ before) post older to datagram (inl e) is =
     (subst (λ b. PostedAt (l ∷ before) (posted (dids b)) l.did.step.at to) rest (record { post = last.0; there = last.1; at_is = last.2; to_is = last.3 }))
 posted-at (l ∷ before) post older to datagram (inr w) is =
     let a = posted-at before post older to datagram w is in
-    record { post = a.post; there = get-front (posts before) (posted_in l.port l.did.step l.did.deed) (posted (dids older)) a.post a.there; at_is = a.at_is; to_is = a.to_is }
+    record {
+      post = a.post;
+      there = get-front (posts before) (posted_in l.port l.did.step l.did.deed) (posted (dids older)) a.post a.there;
+      at_is = a.at_is;
+      to_is = a.to_is;
+    }
 
 -- a line of a step that takes an early post
-early-line : (step : Step) (x k : ℕ) (q : Posted) (port : Port) (deed : Deed) (w : List Line) → step.cause ≡ Came k → slice_get (posts w) k ≡ Some q → step.at ≤ q.at + LIFE → TakenWithinAt LIFE (line_of step x port deed) w
+early-line : (step : Step) (x k : ℕ) (q : Posted) (port : Port) (deed : Deed) (w : List Line) → step.cause ≡ Came k → slice_get (posts w) k ≡ Some q →
+    step.at ≤ q.at + LIFE → TakenWithinAt LIFE (line_of step x port deed) w
 early-line step x k q port deed w cause there early post older to datagram within is came =
     let a = posted-at w post older to datagram within is in
     let number : k ≡ posted (dids older) = cc in
     let same : q ≡ a.post = some_same (sym there ∙ subst (λ m. slice_get (posts w) m ≡ Some a.post) (sym number) a.there) in
     subst (λ t. step.at ≤ t + LIFE) (ap (λ (p : Posted). p.at) same ∙ a.at_is) early
 
-life-joined : (step : Step) (x k : ℕ) (q : Posted) (acts : List Placed) (w : List Line) → step.cause ≡ Came k → slice_get (posts w) k ≡ Some q → step.at ≤ q.at + LIFE → Life w → Life (joined step x acts w)
+life-joined : (step : Step) (x k : ℕ) (q : Posted) (acts : List Placed) (w : List Line) → step.cause ≡ Came k → slice_get (posts w) k ≡ Some q →
+    step.at ≤ q.at + LIFE → Life w → Life (joined step x acts w)
 life-joined step x k q [] w cause there early life = life
 life-joined step x k q (p ∷ rest) w cause there early life =
-    life-joined step x k q rest (line_of step x p.port (Acts p.act) ∷ w) cause (get-front (posts w) (posted_in p.port step (Acts p.act)) k q there) early (early-line step x k q p.port (Acts p.act) w cause there early, life)
+    life-joined step x k q rest (line_of step x p.port (Acts p.act) ∷ w) cause (get-front (posts w) (posted_in p.port step (Acts p.act)) k q there) early
+    (early-line step x k q p.port (Acts p.act) w cause there early, life)
 
-life-stepped : (step : Step) (x k : ℕ) (q : Posted) (acts : List Placed) (w : List Line) → step.cause ≡ Came k → slice_get (posts w) k ≡ Some q → step.at ≤ q.at + LIFE → Life w → Life (stepped step x acts w)
+life-stepped : (step : Step) (x k : ℕ) (q : Posted) (acts : List Placed) (w : List Line) → step.cause ≡ Came k → slice_get (posts w) k ≡ Some q →
+    step.at ≤ q.at + LIFE → Life w → Life (stepped step x acts w)
 life-stepped step x k q acts w cause there early life =
-    life-joined step x k q acts (line_of step x first_port Begins ∷ w) cause (get-front (posts w) [] k q there) early (early-line step x k q first_port Begins w cause there early, life)
+    life-joined step x k q acts (line_of step x first_port Begins ∷ w) cause (get-front (posts w) [] k q there) early
+    (early-line step x k q first_port Begins w cause there early, life)
 
 module _ (clocks : Clocks) (header : HeaderValue) (before : List Event) (life : Life (run_by clocks header before)) where
   life-event : (e : Event) → IsPromptBy clocks header before e → Life (run_by clocks header (e ∷ before))

@@ -1,11 +1,13 @@
 -- What is known if an event can happen, if nothing refuses it, and if two scenes refuse alike.
-use Rattle.std.proofs.Common.{ap, ◌∙◌, subst, ◌≡◌, ℕ, ◌+◌, ◌<◌, ◌≤◌, nat_lt, nat_le, ◌||◌, Bool, true, false, if◌then◌else◌, List, length, Option, None, Some, slice_get, refl}
+use Rattle.std.proofs.Common.{ap, ◌∙◌, subst, ◌≡◌, ℕ, ◌+◌, ◌<◌, ◌≤◌, nat_lt, nat_le, ◌||◌, Bool, true, false, if◌then◌else◌, List, length, Option, None, Some}
+use Rattle.std.proofs.Common.{slice_get, refl}
 use Rattle.std.proofs.lemmas.Bool.{ltb-true, ltb-false, leb-false, or_parts}
 use Rattle.tsp_rules.specs.Values.{Event, BootAt, Turn, Take, Bytes, Place, Port}
 use Rattle.tsp_base.specs.declared.event.EventFault.{EventFault}
 use Rattle.tsp_base.specs.declared.event.EventFault.TheVariants.{TimeBack, NoNode, NotUp, Limit}
 use Rattle.tsp_run.specs.{declared.posted.Posted.Posted, declared.address.Address.Address}
-use Rattle.tsp_run.specs.Refusals.{Scene, Allowed, Names, refusal, first_of, time_back, unknown, no_node, no_datagram, down, not_up, limit, impossible, lacks_port, port_count, is_crowded, room_at, node_in, actor, most_events, most_posts}
+use Rattle.tsp_run.specs.Refusals.{Scene, Allowed, Names, refusal, first_of, time_back, unknown, no_node, no_datagram, down, not_up, limit, impossible}
+use Rattle.tsp_run.specs.Refusals.{lacks_port, port_count, is_crowded, room_at, node_in, actor, most_events, most_posts}
 use Rattle.tsp_run.specs.{Networks.address_of, Networks.ports_on, Networks.room, Run.event_at, Run.goes_to, Run.arrives, Run.arrives_at}
 
 -- there is no first cause where there is neither
@@ -31,8 +33,10 @@ pub record Pieces (s : Scene) (e : Event) : Type 0 where
 
 pub refusal-none : (s : Scene) (e : Event) → refusal s e ≡ None → Pieces s e
 refusal-none s e h =
-    let a = first_of-none (time_back (event_at e) s.last) (first_of (no_node s e) (first_of (no_datagram (length s.posts) e) (first_of (not_up s e) (limit s.events (length s.posts) (room_at s.networks (actor s e)))))) h in
-    let b = first_of-none (no_node s e) (first_of (no_datagram (length s.posts) e) (first_of (not_up s e) (limit s.events (length s.posts) (room_at s.networks (actor s e))))) a.1 in
+    let a = first_of-none (time_back (event_at e) s.last) (first_of (no_node s e)
+    (first_of (no_datagram (length s.posts) e) (first_of (not_up s e) (limit s.events (length s.posts) (room_at s.networks (actor s e)))))) h in
+    let b = first_of-none (no_node s e) (first_of (no_datagram (length s.posts) e)
+    (first_of (not_up s e) (limit s.events (length s.posts) (room_at s.networks (actor s e))))) a.1 in
     let c = first_of-none (no_datagram (length s.posts) e) (first_of (not_up s e) (limit s.events (length s.posts) (room_at s.networks (actor s e)))) b.1 in
     let d = first_of-none (not_up s e) (limit s.events (length s.posts) (room_at s.networks (actor s e))) c.1 in
     record { time = a.0; node = b.0; datagram = c.0; up = d.0; limit = d.1 }
@@ -41,7 +45,8 @@ known : (nodes m : ℕ) → unknown nodes m ≡ None → m < nodes
 known nodes m u = ltb-true m nodes (if-some (nat_lt m nodes) (NoNode m nodes) u)
 
 -- a port on which something is handed to a node is one that the node has
-pub handed-port : (s : Scene) (at node : ℕ) (port : Port) (from : Place) (octets : List ℕ) → no_node s (Bytes at node port from octets) ≡ None → port.0 < length (ports_on node s.networks)
+pub handed-port : (s : Scene) (at node : ℕ) (port : Port) (from : Place) (octets : List ℕ) → no_node s (Bytes at node port from octets) ≡ None →
+    port.0 < length (ports_on node s.networks)
 handed-port s at node port from octets u =
     let later = (first_of-none (unknown s.nodes node) _ u).1 in
     let lacks = (first_of-none (lacks_port s node port) _ later).0 in
@@ -90,7 +95,8 @@ allowed s e h =
     record {
       time = can.time;
       events = leb-false most_events s.events both.0;
-      posts = λ n is. ltb-false most_posts (length s.posts + room (ports_on n s.networks)) (subst (λ o. is_crowded (length s.posts) o ≡ false) (room_at-is s.networks (actor s e) n is) both.1);
+      posts = λ n is. ltb-false most_posts (length s.posts + room (ports_on n s.networks)) (subst (λ o. is_crowded (length s.posts) o ≡
+          false) (room_at-is s.networks (actor s e) n is) both.1);
       node = can.node;
       up = can.up;
     }
@@ -132,7 +138,8 @@ pub up-down : (s : Scene) (n : ℕ) → down s.up (Some n) ≡ None → s.up n �
 up-down s n e = if-some (s.up n) (NotUp n) e
 
 -- what goes somewhere was posted
-pub goes_to-post : (nets : List (List ℕ)) (o : Option Posted) (a : Address) → goes_to nets o ≡ Some a → (p : Posted) × (o ≡ Some p) × (address_of nets p.from p.port p.to ≡ Some a)
+pub goes_to-post : (nets : List (List ℕ)) (o : Option Posted) (a : Address) → goes_to nets o ≡ Some a → (p : Posted) × (o ≡ Some p) ×
+    (address_of nets p.from p.port p.to ≡ Some a)
 goes_to-post nets None a e = let bad : ⊥ = cc in absurd bad
 goes_to-post nets (Some p) a e = (p, refl, e)
 

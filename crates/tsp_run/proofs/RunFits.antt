@@ -1,10 +1,12 @@
 -- The history of possible events fits, by any clocks that keep the drift; so do those of every possible schedule and every accepted one.
-use Rattle.std.proofs.Common.{sym, ap, subst, inr, arith, ◌∙◌, eq-eqb, eqb-true, ◌≡◌, ℕ, ◌+◌, ◌<◌, ◌≤◌, ◌^◌, ◌==◌, pos, ◌+ℤ◌, Bool, true, false, List, [], ◌∷◌, length, Option, None, Some, slice_get, refl}
+use Rattle.std.proofs.Common.{sym, ap, subst, inr, arith, ◌∙◌, eq-eqb, eqb-true, ◌≡◌, ℕ, ◌+◌, ◌<◌, ◌≤◌, ◌^◌, ◌==◌, pos, ◌+ℤ◌, Bool, true, false, List, [], ◌∷◌}
+use Rattle.std.proofs.Common.{length, Option, None, Some, slice_get, refl}
 use Rattle.std.proofs.lemmas.List.Elements.{All-head}
 use Rattle.tsp_rules.specs.Values.{Took, Post, Placed, Event, BootAt, Turn, Take, Bytes, Peer, Port}
 use Rattle.tsp_rules.specs.GateRows.{NodeGiven, NodeTurn, GotOn, answers_all, boots_all}
 use Rattle.tsp_rules.specs.NodeRows.{NodePast, NodeRow, PortSetup, in_node_step, on_port, port_setup, spread}
-use Rattle.tsp_base.specs.Words.{first_port, joined, line_of, stepped, HeaderValue, Booted, Turned, Came, Handed, Step, Begins, Acts, Line, of, view, dids, lives, time_of, up, posted, peer_of}
+use Rattle.tsp_base.specs.Words.{first_port, joined, line_of, stepped, HeaderValue, Booted, Turned, Came, Handed, Step, Begins, Acts, Line, of, view, dids}
+use Rattle.tsp_base.specs.Words.{lives, time_of, up, posted, peer_of}
 use Rattle.tsp_base.proofs.PlaceLemmas.{Within-all}
 use Rattle.tsp_promises.specs.{Fits.Finished, Fits.Fits, Fits.TookFits, Sound.IsSound, Sound.IsSoundDeed, StepFacts.StepEnds}
 use Rattle.tsp_promises.specs.{PortFits.PortFits, PortFits.setup_in, Setting.Alone, Setting.Named, Setting.Setting, Setting.setup_of}
@@ -22,11 +24,13 @@ use Rattle.tsp_run.specs.{Setting.PossibleRunsFit, Setting.RunsFit, Setting.name
 use Rattle.tsp_run.{specs.declared.posted.Posted.Posted, proofs.PostPlaces.length-posts, proofs.PostPlaces.post_at}
 use Rattle.tsp_run.proofs.AnswersFit.{StepOk, turn_ok, got_ok, boot_ok}
 use Rattle.tsp_run.proofs.FitsLines.{ActsOn, AllAlive, ArePlaced, acts_fit, all_end, did_in, mark_line, of_placed, posted-joined}
-use Rattle.tsp_run.proofs.{OwnClocks.possible_own, OwnClocks.runs_by_own_clocks, OwnClocks.set_own, HeaderLines.name-node_line, SoundLemmas.line_sound, SoundLemmas.octets_sound, SoundLemmas.sound_read}
+use Rattle.tsp_run.proofs.{OwnClocks.possible_own, OwnClocks.runs_by_own_clocks, OwnClocks.set_own, HeaderLines.name-node_line, SoundLemmas.line_sound}
+use Rattle.tsp_run.proofs.{SoundLemmas.octets_sound, SoundLemmas.sound_read}
 use Rattle.tsp_run.proofs.{PossibleRun.accepted-possible, PossibleRun.possible_before, RunLemmas.stepped_own, RunLemmas.stepped_other}
 use Rattle.tsp_run.proofs.SoundAll.{SoundNode, IsSoundInput, sound_answers_all, sound_begins, sound_boots_all}
 
--- what is known of a run: its lines fit and are on their nodes' ports, its time is that of its last event, each port of each node is at rest, and each node took and posted what has its parts in their ranges
+-- what is known of a run: its lines fit and are on their nodes' ports, its time is that of its last event, each port of each node is at rest, and each node
+-- took and posted what has its parts in their ranges
 pub record Ran (header : HeaderValue) (setting : Setting) (t : ℕ) (h : List Line) : Type 0 where
   pub fits : Fits setting h
   pub placed : ArePlaced (networks header) h
@@ -34,7 +38,8 @@ pub record Ran (header : HeaderValue) (setting : Setting) (t : ℕ) (h : List Li
   pub nodes : (n : ℕ) → AllPorts (λ r. Ended) (setting.tick n t) (past_of header (rests n) h)
   pub sound : (n : ℕ) → SoundNode (past_of header (rests n) h)
 
-joined-placed : (nets : List (List ℕ)) (step : Step) (x : ℕ) (acts : List Placed) (h : List Line) → ActsOn (length (ports_on step.node nets)) acts → ArePlaced nets h → ArePlaced nets (joined step x acts h)
+joined-placed : (nets : List (List ℕ)) (step : Step) (x : ℕ) (acts : List Placed) (h : List Line) → ActsOn (length (ports_on step.node nets)) acts →
+    ArePlaced nets h → ArePlaced nets (joined step x acts h)
 joined-placed nets step x [] h on p = p
 joined-placed nets step x (a ∷ rest) h on p = joined-placed nets step x rest (line_of step x a.port (Acts a.act) ∷ h) on.1 (on.0, p)
 
@@ -43,34 +48,46 @@ joined-time step x [] h e = e
 joined-time step x (a ∷ rest) h e = joined-time step x rest (line_of step x a.port (Acts a.act) ∷ h) (omega arith)
 
 -- after a step each port of each node is at rest
-node_after : (header : HeaderValue) (setting : Setting) (t : ℕ) (h : List Line) (step : Step) (x : ℕ) (acts : List Placed) → t ≤ step.at → ((n : ℕ) → AllPorts (λ r. Ended) (setting.tick n t) (past_of header (rests n) h)) →
-    AllPorts (λ r. Ended) x (spread x (in_node_step step x (past_of header step h)) acts) → x ≡ setting.tick step.node step.at → (n : ℕ) (b : Bool) → (step.node == n) ≡ b →
+node_after : (header : HeaderValue) (setting : Setting) (t : ℕ) (h : List Line) (step : Step) (x : ℕ) (acts : List Placed) → t ≤ step.at →
+    ((n : ℕ) → AllPorts (λ r. Ended) (setting.tick n t) (past_of header (rests n) h)) →
+    AllPorts (λ r. Ended) x (spread x (in_node_step step x (past_of header step h)) acts) → x ≡ setting.tick step.node step.at → (n : ℕ) (b : Bool) →
+    (step.node == n) ≡ b →
     AllPorts (λ r. Ended) (setting.tick n step.at) (past_of header (rests n) (stepped step x acts h))
 node_after header setting t h step x acts later nodes after tick_is n true e =
     let now : List Line = stepped step x acts h in
     let same : step.node ≡ n = eqb-true step.node n e in
     let own : (step.node == step.node) ≡ true = eq-eqb step.node step.node refl in
     let here : AllPorts (λ r. Ended) x (past_of header (rests step.node) now) = λ r has.
-    ended_seen x (on_port r (spread x (in_node_step step x (past_of header step h)) acts)) (on_port r (past_of header (rests step.node) now)) refl refl (ap (λ l. view r l) (sym (stepped_own step.node step x acts h own))) (after r has) in
-    subst (λ k. AllPorts (λ r. Ended) (setting.tick k step.at) (past_of header (rests k) now)) same (subst (λ k. AllPorts (λ r. Ended) k (past_of header (rests step.node) now)) tick_is here)
+    ended_seen x (on_port r (spread x (in_node_step step x (past_of header step h)) acts)) (on_port r (past_of header (rests step.node) now)) refl refl
+    (ap (λ l. view r l) (sym (stepped_own step.node step x acts h own))) (after r has) in
+    subst (λ k. AllPorts (λ r. Ended) (setting.tick k step.at) (past_of header (rests k) now)) same
+    (subst (λ k. AllPorts (λ r. Ended) k (past_of header (rests step.node) now)) tick_is here)
 node_after header setting t h step x acts later nodes after tick_is n false e = λ r has.
     let now : List Line = stepped step x acts h in
-    ended_seen (setting.tick n step.at) (on_port r (past_of header (rests n) h)) (on_port r (past_of header (rests n) now)) refl refl (ap (λ l. view r l) (sym (stepped_other n step x acts h e)))
+    ended_seen (setting.tick n step.at) (on_port r (past_of header (rests n) h)) (on_port r (past_of header (rests n) now)) refl refl
+    (ap (λ l. view r l) (sym (stepped_other n step x acts h e)))
     (ended_later (setting.tick n t) (setting.tick n step.at) (on_port r (past_of header (rests n) h)) (tick-mono setting n t step.at later) (nodes n r has))
 
 -- after a step whose acts are sound all nodes' are
-sound_after : (header : HeaderValue) (h : List Line) (step : Step) (x : ℕ) (acts : List Placed) → ((n : ℕ) → SoundNode (past_of header (rests n) h)) → SoundNode (spread x (in_node_step step x (past_of header step h)) acts) →
+sound_after : (header : HeaderValue) (h : List Line) (step : Step) (x : ℕ) (acts : List Placed) → ((n : ℕ) → SoundNode (past_of header (rests n) h)) →
+    SoundNode (spread x (in_node_step step x (past_of header step h)) acts) →
     (n : ℕ) (b : Bool) → (step.node == n) ≡ b → SoundNode (past_of header (rests n) (stepped step x acts h))
 sound_after header h step x acts nodes after n true e =
     let now : List Line = stepped step x acts h in
     let same : step.node ≡ n = eqb-true step.node n e in
     let own : (step.node == step.node) ≡ true = eq-eqb step.node step.node refl in
     subst (λ k. SoundNode (past_of header (rests k) now)) same
-    (subst (λ l. SoundNode (record (past_of header (rests step.node) now) { lines = l })) (sym (stepped_own step.node step x acts h own)) (record { name = after.name; word_fits = after.word_fits; ports = after.ports; lines = after.lines }))
+    (subst (λ l. SoundNode (record (past_of header (rests step.node) now) { lines = l })) (sym (stepped_own step.node step x acts h own))
+    (record { name = after.name; word_fits = after.word_fits; ports = after.ports; lines = after.lines }))
 sound_after header h step x acts nodes after n false e =
     let now : List Line = stepped step x acts h in
     let s = nodes n in
-    subst (λ l. SoundNode (record (past_of header (rests n) now) { lines = l })) (sym (stepped_other n step x acts h e)) (record { name = s.name; word_fits = s.word_fits; ports = s.ports; lines = s.lines })
+    subst (λ l. SoundNode (record (past_of header (rests n) now) { lines = l })) (sym (stepped_other n step x acts h e)) (record {
+      name = s.name;
+      word_fits = s.word_fits;
+      ports = s.ports;
+      lines = s.lines;
+    })
 
 -- what a node's port is set up with is what its past says
 setup_is : (clocks : Clocks) (header : HeaderValue) (setting : Setting) (step : Step) (h : List Line) (q : Port) → SetByClocks clocks header setting →
@@ -79,7 +96,8 @@ setup_is clocks header setting step h q set has =
     let nets : List (List ℕ) = networks header in
     let s = set_up step.node q.0 0 0 nets has in
     let found : network_from step.node q.0 0 0 nets ≡ Some s.j =
-    ap (λ k. network_from step.node k 0 0 nets) (let e : q.0 ≡ 0 + q.0 = omega arith in e) ∙ s.network ∙ ap (λ k. Some k) (let e : 0 + s.j ≡ s.j = omega arith in e) in
+    ap (λ k. network_from step.node k 0 0 nets) (let e : q.0 ≡ 0 + q.0 = omega arith in e) ∙ s.network ∙
+    ap (λ k. Some k) (let e : 0 + s.j ≡ s.j = omega arith in e) in
     let net : setting.net step.node q ≡ Named s.j = set.net_is step.node q ∙ ap (λ o. named_or (Alone step.node q.0) o) found in
     let members : (port_setup q (past_of header step h)).peers ≡ setting.members (setting.net step.node q) =
     ap (λ (k : PortSetup). k.peers) s.setup ∙ sym (ap setting.members net ∙ set.members_are (Named s.j)) in
@@ -88,7 +106,8 @@ setup_is clocks header setting step h q set has =
     rw (name, members, strict) refl
 
 -- each port has its node's number
-own_is : (header : HeaderValue) (step : Step) (h : List Line) (q : Port) → q.0 < length (ports_on step.node (networks header)) → (port_setup q (past_of header step h)).own.0 ≡ step.node
+own_is : (header : HeaderValue) (step : Step) (h : List Line) (q : Port) → q.0 < length (ports_on step.node (networks header)) →
+    (port_setup q (past_of header step h)).own.0 ≡ step.node
 own_is header step h q has = ap (λ (k : PortSetup). k.own.0) (set_up step.node q.0 0 0 (networks header) has).setup
 
 -- a step by a row that keeps what is known of each port
@@ -118,7 +137,8 @@ by_row clocks header setting t h step row set r later few leads soundly ok =
     let rested : AllPorts (λ r. Ended) x base = λ q has.
     ended_seen x (on_port q (past_of header (rests step.node) h)) (on_port q base) refl refl refl
     (subst (λ k. Ended k (on_port q (past_of header (rests step.node) h))) (sym tick_is)
-    (ended_later (setting.tick step.node t) (setting.tick step.node step.at) (on_port q (past_of header (rests step.node) h)) (tick-mono setting step.node t step.at later) (r.nodes step.node q has))) in
+    (ended_later (setting.tick step.node t) (setting.tick step.node step.at) (on_port q (past_of header (rests step.node) h))
+    (tick-mono setting step.node t step.at later) (r.nodes step.node q has))) in
     let after : AllPorts (λ r. Ended) x (spread x past acts) = leads (begins_all step x x base (omega arith) (λ q has. own_is header step h q has) rested) in
     let kept : posted (dids h) ≤ posted (dids (joined step x acts (mark ∷ h))) = posted-joined step x acts (mark ∷ h) in
     let all : posted (dids (joined step x acts (mark ∷ h))) < 2 ^ 64 = few in
@@ -137,7 +157,8 @@ by_row clocks header setting t h step row set r later few leads soundly ok =
       placed = joined-placed nets step x acts (mark ∷ h) ok.on ((λ e. let bad : ⊥ = cc in absurd bad), r.placed);
       time = joined-time step x acts (mark ∷ h) (omega arith);
       nodes = λ n. node_after header setting t h step x acts later r.nodes after tick_is n (step.node == n) refl;
-      sound = λ n. sound_after header h step x acts r.sound (soundly (sound_begins step x base (let s = r.sound step.node in record { name = s.name; word_fits = s.word_fits; ports = s.ports; lines = s.lines }))) n (step.node == n) refl;
+      sound = λ n. sound_after header h step x acts r.sound (soundly (sound_begins step x base (let s = r.sound step.node in
+          record { name = s.name; word_fits = s.word_fits; ports = s.ports; lines = s.lines }))) n (step.node == n) refl;
     }
 
 up_seen : (clocks : Clocks) (header : HeaderValue) (before : List Event) (n : ℕ) → down (scene_by clocks header before).up (Some n) ≡ None →
@@ -180,7 +201,8 @@ module _ {clocks : Clocks} {header : HeaderValue} {setting : Setting} (is : IsSe
         number = o.number;
         datagram = p.datagram;
         deed = o.deed ∙ ap (λ t. Acts (Post t p.datagram)) g.to_is;
-        net = ap (λ n. setting.net n o.post.port) o.from ∙ (ap (λ q. setting.net p.from q) o.port ∙ (set.net_is p.from p.port ∙ (g.net ∙ sym (set.net_is a.node a.port))));
+        net = ap (λ n. setting.net n o.post.port) o.from ∙ (ap (λ q. setting.net p.from q) o.port ∙
+            (set.net_is p.from p.port ∙ (g.net ∙ sym (set.net_is a.node a.port))));
         from_is = ap (λ f. Peer (peer_of f)) (sym o.from);
         taken_is = sound_read p.datagram sound;
       }

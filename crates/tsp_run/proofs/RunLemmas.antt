@@ -4,13 +4,15 @@ use Rattle.tsp_rules.specs.Values.{Boot, Placed, Port}
 use Rattle.tsp_base.specs.Words.{first_port, joined, line_of, stepped, Step, Deed, Begins, Acts, Line, of, dids, up, up_after}
 use Rattle.tsp_run.specs.Run.{posts, posts_from, posted_by}
 
-one-own : (n : ℕ) (step : Step) (x : ℕ) (port : Port) (deed : Deed) (h : List Line) → (step.node == n) ≡ true → of n (line_of step x port deed ∷ h) ≡ line_of step x port deed ∷ of n h
+one-own : (n : ℕ) (step : Step) (x : ℕ) (port : Port) (deed : Deed) (h : List Line) → (step.node == n) ≡ true → of n (line_of step x port deed ∷ h) ≡
+    line_of step x port deed ∷ of n h
 one-own n step x port deed h e = rw e refl
 
 one-other : (n : ℕ) (step : Step) (x : ℕ) (port : Port) (deed : Deed) (h : List Line) → (step.node == n) ≡ false → of n (line_of step x port deed ∷ h) ≡ of n h
 one-other n step x port deed h e = rw e refl
 
-pub joined_own : (n : ℕ) (step : Step) (x : ℕ) (acts : List Placed) (h : List Line) → (step.node == n) ≡ true → of n (joined step x acts h) ≡ joined step x acts (of n h)
+pub joined_own : (n : ℕ) (step : Step) (x : ℕ) (acts : List Placed) (h : List Line) → (step.node == n) ≡ true → of n (joined step x acts h) ≡
+    joined step x acts (of n h)
 joined_own n step x [] h e = refl
 joined_own n step x (p ∷ rest) h e =
     joined_own n step x rest (line_of step x p.port (Acts p.act) ∷ h) e ∙ ap (λ l. joined step x rest l) (one-own n step x p.port (Acts p.act) h e)
@@ -20,8 +22,10 @@ joined_other n step x [] h e = refl
 joined_other n step x (p ∷ rest) h e = joined_other n step x rest (line_of step x p.port (Acts p.act) ∷ h) e ∙ one-other n step x p.port (Acts p.act) h e
 
 -- what the node of a step has after it
-pub stepped_own : (n : ℕ) (step : Step) (x : ℕ) (acts : List Placed) (h : List Line) → (step.node == n) ≡ true → of n (stepped step x acts h) ≡ joined step x acts (line_of step x first_port Begins ∷ of n h)
-stepped_own n step x acts h e = joined_own n step x acts (line_of step x first_port Begins ∷ h) e ∙ ap (λ l. joined step x acts l) (one-own n step x first_port Begins h e)
+pub stepped_own : (n : ℕ) (step : Step) (x : ℕ) (acts : List Placed) (h : List Line) → (step.node == n) ≡ true → of n (stepped step x acts h) ≡
+    joined step x acts (line_of step x first_port Begins ∷ of n h)
+stepped_own n step x acts h e = joined_own n step x acts (line_of step x first_port Begins ∷ h) e ∙
+    ap (λ l. joined step x acts l) (one-own n step x first_port Begins h e)
 
 -- any other node's lines stay
 pub stepped_other : (n : ℕ) (step : Step) (x : ℕ) (acts : List Placed) (h : List Line) → (step.node == n) ≡ false → of n (stepped step x acts h) ≡ of n h
@@ -30,7 +34,8 @@ stepped_other n step x acts h e = joined_other n step x acts (line_of step x fir
 posts-joined : (step : Step) (x : ℕ) (acts : List Placed) (h : List Line) → posts (joined step x acts h) ≡ posts h ++ posts_from step.at step.node acts
 posts-joined step x [] h = sym (append-nil (posts h))
 posts-joined step x (p ∷ rest) h =
-    posts-joined step x rest (line_of step x p.port (Acts p.act) ∷ h) ∙ append_assoc (posts h) (posted_by step.at step.node p.port p.act) (posts_from step.at step.node rest)
+    posts-joined step x rest (line_of step x p.port (Acts p.act) ∷ h) ∙ append_assoc (posts h) (posted_by step.at step.node p.port p.act)
+    (posts_from step.at step.node rest)
 
 -- a step's posts follow those before it
 pub posts_stepped : (step : Step) (x : ℕ) (acts : List Placed) (h : List Line) → posts (stepped step x acts h) ≡ posts h ++ posts_from step.at step.node acts

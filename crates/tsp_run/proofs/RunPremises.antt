@@ -1,7 +1,9 @@
 -- The premises of the promises hold of a run if their counterparts hold of its events.
-use Rattle.std.proofs.Common.{ap, sym, subst, inl, inr, true≢false, ◌∙◌, ◌≡◌, ◌≢◌, ℕ, ℤ, Bool, true, false, List, [], ◌∷◌, Some, refl, eqb-true, ◌<◌, ◌==◌, if◌then◌else◌, length, None, slice_get, ◌++◌, Option}
+use Rattle.std.proofs.Common.{ap, sym, subst, inl, inr, true≢false, ◌∙◌, ◌≡◌, ◌≢◌, ℕ, ℤ, Bool, true, false, List, [], ◌∷◌, Some, refl, eqb-true, ◌<◌, ◌==◌}
+use Rattle.std.proofs.Common.{if◌then◌else◌, length, None, slice_get, ◌++◌, Option}
 use Rattle.tsp_run.specs.Premised.{PossibleRunsKeepPremises, RunsKeepPremises, AllBootOtherwise, Apart, BootsOtherwise, IsApart, NamesDiffer, IsSealed, Sealed}
-use Rattle.tsp_run.specs.Clocked.{ClockedRunsKeepPremises, Clocks, IsSetUp, PossibleBy, SetByClocks, boot_by, clocks_of, happening_by, run_by, scene_by, tick_by}
+use Rattle.tsp_run.specs.Clocked.{ClockedRunsKeepPremises, Clocks, IsSetUp, PossibleBy, SetByClocks, boot_by, clocks_of, happening_by, run_by, scene_by}
+use Rattle.tsp_run.specs.Clocked.{tick_by}
 use Rattle.tsp_run.{specs.Run.Happening, specs.Run.goes_to, specs.Run.joins, proofs.CalmPorts.AreCalm}
 use Rattle.tsp_run.specs.{Networks.networks, Refusals.down, Refusals.impossible, Refusals.node_in}
 use Rattle.tsp_run.proofs.{SettingLemmas.clocks_are_set, OwnClocks.kept_own, OwnClocks.possible_own}
@@ -15,13 +17,15 @@ use Rattle.tsp_promises.specs.Premises.{Words, WordsAt, NamesApart, Honest, Hone
 use Rattle.tsp_rules.specs.Values.{Act, Boot, Placed, Event, BootAt, Turn, Take, Bytes, Took, Peer}
 use Rattle.tsp_rules.proofs.FewActs.{is_calm_act}
 use Rattle.tsp_rules.specs.{GateRows.boots_all, GateRows.GotOn, GateRows.NodeTurn, GateRows.answers_all, NodeRows.NodeRow}
-use Rattle.tsp_base.specs.Words.{HeaderValue, Acts, Begins, Booted, Cause, Line, Step, first_port, joined, line_of, stepped, Handed, Turned, dids, of, up, Within}
+use Rattle.tsp_base.specs.Words.{HeaderValue, Acts, Begins, Booted, Cause, Line, Step, first_port, joined, line_of, stepped, Handed, Turned, dids, of, up}
+use Rattle.tsp_base.specs.Words.{Within}
 use Rattle.tsp_codec.specs.Taken.{taken_of}
 
 -- where a run is honest, or its words differ, its text is so
 
 -- what holds everywhere after a step held before it
-before-joined : (P : Line → List Line → Type 0) (step : Step) (x : ℕ) (acts : List Placed) (h : List Line) → Everywhere P (joined step x acts h) → Everywhere P h
+before-joined : (P : Line → List Line → Type 0) (step : Step) (x : ℕ) (acts : List Placed) (h : List Line) → Everywhere P (joined step x acts h) →
+    Everywhere P h
 before-joined P step x [] h e = e
 before-joined P step x (a ∷ rest) h e = (before-joined P step x rest (line_of step x a.port (Acts a.act) ∷ h) e).1
 
@@ -30,7 +34,8 @@ before-joins P None h e = e
 before-joins P (Some s) h e = (before-joined P s.step s.tick s.acts (line_of s.step s.tick first_port Begins ∷ h) e).1
 
 -- it holds of each of the step's acts
-of-act : (P : Line → List Line → Type 0) (step : Step) (x : ℕ) (before : List Placed) (a : Placed) (after : List Placed) (h : List Line) → Everywhere P (joined step x (before ++ a ∷ after) h) → (s : List Line) × P (line_of step x a.port (Acts a.act)) s
+of-act : (P : Line → List Line → Type 0) (step : Step) (x : ℕ) (before : List Placed) (a : Placed) (after : List Placed) (h : List Line) →
+    Everywhere P (joined step x (before ++ a ∷ after) h) → (s : List Line) × P (line_of step x a.port (Acts a.act)) s
 of-act P step x [] a after h e = (h, (before-joined P step x after (line_of step x a.port (Acts a.act) ∷ h) e).0)
 of-act P step x (b ∷ before) a after h e = of-act P step x before a after (line_of step x b.port (Acts b.act) ∷ h) e
 
@@ -43,7 +48,8 @@ in-joins : (s : List Line) (o : Option Happening) (h : List Line) → Within s h
 in-joins s None h w = w
 in-joins s (Some k) h w = in-joined s k.step k.tick k.acts (line_of k.step k.tick first_port Begins ∷ h) (inr w)
 
-through-joins : (o : Option Happening) (h whole : List Line) → ((s : List Line) → Within s (joins o h) → Within s whole) → (s : List Line) → Within s h → Within s whole
+through-joins : (o : Option Happening) (h whole : List Line) → ((s : List Line) → Within s (joins o h) → Within s whole) → (s : List Line) → Within s h →
+    Within s whole
 through-joins o h whole k s w = k s (in-joins s o h w)
 
 module _ (clocks : Clocks) {header : HeaderValue} (is : IsSetUp header) (before : List Event) where
@@ -91,7 +97,14 @@ booted-by clocks header is at node word h =
     let boot = line_of step x first_port (Acts Boot) in
     subst (λ (k : Happening). BootIn word (joins (Some k) h)) (sym (steps-are clocks header h boots_all step))
     (subst (λ acts. BootIn word (stepped step x acts h)) (sym b.is)
-    (record { line = boot; older = mark ∷ h; place = in-joined (boot ∷ (mark ∷ h)) step x b.rest (boot ∷ (mark ∷ h)) (inl refl); boots = refl; wall = _; cause = refl }))
+    (record {
+      line = boot;
+      older = mark ∷ h;
+      place = in-joined (boot ∷ (mark ∷ h)) step x b.rest (boot ∷ (mark ∷ h)) (inl refl);
+      boots = refl;
+      wall = _;
+      cause = refl;
+    }))
 
 -- no boot of these events has the word of a boot before which their run stands
 all-otherwise : (clocks : Clocks) (header : HeaderValue) → IsSetUp header → (events : List Event) (word : ℕ) (whole : List Line) →
@@ -143,7 +156,8 @@ IsBelow count l before = node_of l < count
 is-known : (count n : ℕ) (h : List Line) → Everywhere (IsBelow count) h → up (dids (of n h)) ≡ true → n < count
 is-known count n [] all u = absurd (true≢false (sym u))
 is-known count n (l ∷ before) all u = by_node (l.did.step.node == n) refl u (λ v. is-known count n before all.1 v) where
-  by_node : (b : Bool) → (l.did.step.node == n) ≡ b → up (dids (if b then l ∷ of n before else of n before)) ≡ true → (up (dids (of n before)) ≡ true → n < count) → n < count
+  by_node : (b : Bool) → (l.did.step.node == n) ≡ b → up (dids (if b then l ∷ of n before else of n before)) ≡ true →
+      (up (dids (of n before)) ≡ true → n < count) → n < count
   by_node true same v older = subst (λ m. m < count) (eqb-true l.did.step.node n same) all.0
   by_node false other v older = older v
 
@@ -234,13 +248,16 @@ calm-boots strange a calm e =
     true≢false (sym (subst (λ k. is_calm_act strange true k ≡ true) same calm))
 
 -- calm acts boot nobody
-words-calm : (strange : Bool) (n : ℕ) (step : Step) (x : ℕ) (acts : List Placed) (h : List Line) → AreCalm strange n acts → Words h → Words (joined step x acts h)
+words-calm : (strange : Bool) (n : ℕ) (step : Step) (x : ℕ) (acts : List Placed) (h : List Line) → AreCalm strange n acts → Words h →
+    Words (joined step x acts h)
 words-calm strange n step x [] h c words = words
 words-calm strange n step x (a ∷ rest) h c words =
-    words-calm strange n step x rest (line_of step x a.port (Acts a.act) ∷ h) c.2 ((λ other older v w y z within own boot first second. absurd (calm-boots strange a.act c.1 own)), words)
+    words-calm strange n step x rest (line_of step x a.port (Acts a.act) ∷ h) c.2
+    ((λ other older v w y z within own boot first second. absurd (calm-boots strange a.act c.1 own)), words)
 
 -- the Boot of a step has another word than all before
-boot-words : (step : Step) (x word : ℕ) (wall : ℤ) (h : List Line) → step.cause ≡ Booted word wall → Everywhere (OtherWord word) h → WordsAt (line_of step x first_port (Acts Boot)) (line_of step x first_port Begins ∷ h)
+boot-words : (step : Step) (x word : ℕ) (wall : ℤ) (h : List Line) → step.cause ≡ Booted word wall → Everywhere (OtherWord word) h →
+    WordsAt (line_of step x first_port (Acts Boot)) (line_of step x first_port Begins ∷ h)
 boot-words step x word wall h cause others other older v w y z within own boot first second = elim within [
   | inl e ↦
       let mark : other ≡ line_of step x first_port Begins = cc in

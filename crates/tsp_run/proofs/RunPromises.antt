@@ -25,7 +25,8 @@ short-size m name is few = ap (λ n. 12 + (if nat_le (length n) 63 then 64 else 
 long-size : (m : MessageValue) (name : List ℕ) → m.name ≡ name → 63 < length name → written_size (Message m) ≡ 268
 long-size m name is many = ap (λ n. 12 + (if nat_le (length n) 63 then 64 else 256)) is ∙ ap (λ b. 12 + (if b then 64 else 256)) (lt-leb (length name) 63 many)
 
-size-fits : (asked datagram : Datagram) (setup : Setup) (before : List Seen) → AnswersWith asked datagram → ((m message : MessageValue) → datagram ≡ Message m → asked ≡ Message message → m.name ≡ answer_name message.kind setup before) → SizeFits asked datagram setup before
+size-fits : (asked datagram : Datagram) (setup : Setup) (before : List Seen) → AnswersWith asked datagram → ((m message : MessageValue) → datagram ≡ Message m →
+    asked ≡ Message message → m.name ≡ answer_name message.kind setup before) → SizeFits asked datagram setup before
 size-fits (Message asked) (Message answer) setup before w named =
     let is = named answer asked refl refl in
     (λ few. short-size answer (answer_name asked.kind setup before) is few, λ many. long-size answer (answer_name asked.kind setup before) is many)
@@ -35,16 +36,23 @@ size-fits _ _ setup before w named = absurd w
 octets-at : (setting : Setting) (l : Line) (world : List Line) → StrangersAt setting l world → AnswerOctetsAt setting l world
 octets-at setting l world s datagram is =
     let a = s datagram is in
-    record { asked = a.asked; took = a.took; size = size-fits a.asked datagram (setup_of setting (node_of l) l.port) (view l.port (of (node_of l) world)) a.answer a.named }
+    record {
+      asked = a.asked;
+      took = a.took;
+      size = size-fits a.asked datagram (setup_of setting (node_of l) l.port) (view l.port (of (node_of l) world))
+          a.answer a.named;
+    }
 
 pub answer_octets : (setting : Setting) (world : List Line) → Everywhere (StrangersAt setting) world → AnswerOctets setting world
-answer_octets setting world s = Everywhere-from (AnswerOctetsAt setting) world (λ l before w. octets-at setting l before (Everywhere-at (StrangersAt setting) l before world s w))
+answer_octets setting world s = Everywhere-from (AnswerOctetsAt setting) world (λ l before w. octets-at setting l before
+    (Everywhere-at (StrangersAt setting) l before world s w))
 
 dated : (setting : Setting) (world : List Line) → Fits setting world → Dated setting world
 dated setting world f = record {
   sets = Everywhere-from (SetsAt setting) world (λ l s w. sets_at setting l s (fits_at setting (l ∷ s) world f w));
   confirmed = λ honest life few. Everywhere-from DateConfirmedAt world (λ l s w.
-      date_confirmed setting l s (fits_at setting (l ∷ s) world f w) (Everywhere-within HonestAt (l ∷ s) world honest w) (Everywhere-within (TakenWithinAt LIFE) (l ∷ s) world life w) (Everywhere-within FewAt (l ∷ s) world few w));
+      date_confirmed setting l s (fits_at setting (l ∷ s) world f w) (Everywhere-within HonestAt (l ∷ s) world honest w)
+      (Everywhere-within (TakenWithinAt LIFE) (l ∷ s) world life w) (Everywhere-within FewAt (l ∷ s) world few w));
 }
 
 pub clocked_runs_keep_promises : ClockedRunsKeepPromises
@@ -72,7 +80,8 @@ pub runs-keep-promises : RunsKeepPromises
 runs-keep-promises header setting events set a = possible-runs-keep-promises header setting events set (accepted-possible header events a)
 
 -- what the posts of a schedule's run carry is read as it was posted
-pub posted-read : (header : HeaderValue) (events : List Event) → Accepted header events → (k : ℕ) (p : Posted) → slice_get (posts (run header events)) k ≡ Some p → taken_of (canon p.datagram) ≡ Good p.datagram
+pub posted-read : (header : HeaderValue) (events : List Event) → Accepted header events → (k : ℕ) (p : Posted) → slice_get (posts (run header events)) k ≡
+    Some p → taken_of (canon p.datagram) ≡ Good p.datagram
 posted-read header events s k p there =
     let possible = possible_own header events (accepted-possible header events s) in
     let set = clocks_are_set (clocks_of header) header possible.header_is possible.keeps in

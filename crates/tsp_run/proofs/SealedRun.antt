@@ -64,7 +64,8 @@ module _ (clocks : Clocks) {header : HeaderValue} (is : IsSetUp header) (before 
       let has = (can_happen (scene_by clocks header before) (Bytes at node port from octets) none).node.1 in
       let once = got_acts clocks is (run_by clocks header before) step port from (taken_of octets) has in
       let strange = unforged at node port from octets f in
-      let rest : TakeNone (record { port = port; act = Took from (taken_of octets) } ∷ once.after) = ((λ p t. stranger-takes from (taken_of octets) p t strange), take-none-all _ _ once.after once.calm_after) in
+      let rest : TakeNone (record { port = port; act = Took from (taken_of octets) } ∷ once.after) =
+      ((λ p t. stranger-takes from (taken_of octets) p t strange), take-none-all _ _ once.after once.calm_after) in
       subst (λ (h : Happening). Honest (joins (Some h) (run_by clocks header before)))
       (sym (steps-are clocks header (run_by clocks header before) (answers_all (GotOn port from (taken_of octets))) step))
       (honest-stepped step (tick_by clocks step)

@@ -1,8 +1,10 @@
 -- Where few datagrams are posted, no port begins many sends.
-use Rattle.std.proofs.Common.{arith, length-append, subst, sym, true≢false, ◌≡◌, ◌<◌, ◌≤◌, nat_le, ℕ, ◌+◌, ◌==◌, ◌&&◌, ◌||◌, Bool, true, false, if◌then◌else◌, List, [], ◌∷◌, length, refl}
+use Rattle.std.proofs.Common.{arith, length-append, subst, sym, true≢false, ◌≡◌, ◌<◌, ◌≤◌, nat_le, ℕ, ◌+◌, ◌==◌, ◌&&◌, ◌||◌, Bool, true, false, if◌then◌else◌}
+use Rattle.std.proofs.Common.{List, [], ◌∷◌, length, refl}
 use Rattle.std.proofs.lemmas.Bool.{le-leb}
 use Rattle.tsp_rules.specs.Values.{Boot, Post, Message, Kind, Ack, Conflict, DateAck, Election, QuitKind, SetDateReq, PeerId, Place, Peer, Stranger, Port}
-use Rattle.tsp_base.specs.Words.{MessageValue, Setup, Acts, Deed, Did, Line, Seen, Here, Elsewhere, is_shared, of, seen_as, view, acting, begun, begun_after, has_own_number}
+use Rattle.tsp_base.specs.Words.{MessageValue, Setup, Acts, Deed, Did, Line, Seen, Here, Elsewhere, is_shared, of, seen_as, view, acting, begun, begun_after}
+use Rattle.tsp_base.specs.Words.{has_own_number}
 use Rattle.tsp_promises.specs.{DeedFits.DeedFits, DeedFits.MessageFits, DeedFits.PostFits, DeedFits.StrangerFits, Everywhere.Everywhere}
 use Rattle.tsp_promises.{specs.Setting.Setting, specs.Setting.setup_of, proofs.OwnFitsProof.port_fits, specs.Fits.Fits, specs.Fits.node_of}
 use Rattle.tsp_promises.specs.{PortFits.PortFits, Premises.Few}
@@ -18,7 +20,8 @@ begins-posts l begins (Acts Boot) n m le = omega arith
 begins-posts l begins (Acts (Post to (Message k))) n m le = one_if (has_own_number k.kind && begins) n m le
 begins-posts l begins _ n m le = omega (arith, le)
 
-seen-posts : (l : Line) (here : Bool) (before : List Seen) (m : ℕ) → begun before ≤ m → begun (seen_as here l.did ∷ before) ≤ m + length (posted_in l.port l.did.step l.did.deed)
+seen-posts : (l : Line) (here : Bool) (before : List Seen) (m : ℕ) → begun before ≤ m →
+    begun (seen_as here l.did ∷ before) ≤ m + length (posted_in l.port l.did.step l.did.deed)
 seen-posts l true before m le = begins-posts l (acting before) l.did.deed (begun before) m le
 seen-posts l false before m le = omega (arith, le)
 
@@ -29,8 +32,10 @@ begun-posts q n (l ∷ before) = by_node (l.did.step.node == n) (begun-posts q n
   all : length (posts (l ∷ before)) ≡ length (posts before) + length (posted_in l.port l.did.step l.did.deed)
   all = length-append (posts before) (posted_in l.port l.did.step l.did.deed)
 
-  by_node : (b : Bool) → begun (view q (of n before)) ≤ length (posts before) → begun (view q (if b then l ∷ of n before else of n before)) ≤ length (posts (l ∷ before))
-  by_node true older = let some = seen-posts l ((l.port.0 == q.0) || is_shared l.did.deed) (view q (of n before)) (length (posts before)) older in omega (arith, all, some)
+  by_node : (b : Bool) → begun (view q (of n before)) ≤ length (posts before) → begun (view q (if b then l ∷ of n before else of n before)) ≤ length
+      (posts (l ∷ before))
+  by_node true older = let some = seen-posts l ((l.port.0 == q.0) || is_shared l.did.deed) (view q (of n before)) (length (posts before)) older in
+      omega (arith, all, some)
   by_node false older = omega (arith, all, older)
 
 -- so it is at each place of a history
@@ -42,7 +47,8 @@ short-few (l ∷ before) s =
     ((omega (arith, here, s)), short-few before (omega (arith, all, s)))
 
 -- a send with an own number begins with a post of a number from 32,768 on
-own-number : (setup : Setup) (k : Kind) (here : Did) (before : List Seen) (p : PeerId) (m : MessageValue) → has_own_number k ≡ true → MessageFits setup k here before p m → 32768 ≤ m.number
+own-number : (setup : Setup) (k : Kind) (here : Did) (before : List Seen) (p : PeerId) (m : MessageValue) → has_own_number k ≡ true →
+    MessageFits setup k here before p m → 32768 ≤ m.number
 own-number setup Election here before p m own f = f.numbered.number
 own-number setup Conflict here before p m own f = f.number
 own-number setup QuitKind here before p m own f = f.number
@@ -54,11 +60,13 @@ no-stranger Ack here before number own f = true≢false (sym own)
 no-stranger DateAck here before number own f = true≢false (sym own)
 no-stranger _ here before number own f = f
 
-number-posted : (setup : Setup) (to : Place) (here : Did) (before : List Seen) (m : MessageValue) → has_own_number m.kind ≡ true → PostFits setup to (Message m) here before → 32768 ≤ m.number
+number-posted : (setup : Setup) (to : Place) (here : Did) (before : List Seen) (m : MessageValue) → has_own_number m.kind ≡ true →
+    PostFits setup to (Message m) here before → 32768 ≤ m.number
 number-posted setup (Peer p) here before m own f = own-number setup m.kind here before p m own f
 number-posted setup Stranger here before m own f = absurd (no-stranger m.kind here before m.number own f.0)
 
-count-post : (own begins : Bool) (number n k : ℕ) → (own ≡ true → 32768 ≤ number) → n ≤ k → (if own && begins then n + 1 else n) ≤ (if nat_le 32768 number then k + 1 else k)
+count-post : (own begins : Bool) (number n k : ℕ) → (own ≡ true → 32768 ≤ number) → n ≤ k →
+    (if own && begins then n + 1 else n) ≤ (if nat_le 32768 number then k + 1 else k)
 count-post false begins number n k large le = more (nat_le 32768 number) where
   more : (b : Bool) → n ≤ (if b then k + 1 else k)
   more true = omega (arith, le)
@@ -69,9 +77,11 @@ count-post true false number n k large le = more (nat_le 32768 number) where
   more false = le
 count-post true true number n k large le = subst (λ b. n + 1 ≤ (if b then k + 1 else k)) (sym (le-leb 32768 number (large refl))) (omega (arith, le))
 
-begins-own : (setup : Setup) (d : Did) (before : List Seen) (deed : Deed) → DeedFits setup deed d before → begun before ≤ own_posts before → begun_after deed (acting before) (begun before) ≤ own_posts_after deed (own_posts before)
+begins-own : (setup : Setup) (d : Did) (before : List Seen) (deed : Deed) → DeedFits setup deed d before → begun before ≤ own_posts before →
+    begun_after deed (acting before) (begun before) ≤ own_posts_after deed (own_posts before)
 begins-own setup d before (Acts Boot) f le = omega arith
-begins-own setup d before (Acts (Post to (Message m))) f le = count-post (has_own_number m.kind) (acting before) m.number (begun before) (own_posts before) (λ own. number-posted setup to d before m own f.fits) le
+begins-own setup d before (Acts (Post to (Message m))) f le = count-post (has_own_number m.kind) (acting before) m.number (begun before) (own_posts before)
+    (λ own. number-posted setup to d before m own f.fits) le
 begins-own setup d before _ f le = le
 
 own-begun : (setup : Setup) (seen : List Seen) → PortFits setup seen → begun seen ≤ own_posts seen
@@ -80,8 +90,10 @@ own-begun setup (Elsewhere d ∷ before) f = own-begun setup before f
 own-begun setup (Here d ∷ before) f = begins-own setup d before d.deed f.0 (own-begun setup before f.1)
 
 -- so no port begins more sends in a life than it posts such numbers
-pub own-few : (setting : Setting) (h : List Line) → Fits setting h → Everywhere (λ (l : Line) (before : List Line). own_posts (view l.port (of (node_of l) (l ∷ before))) < 32768) h → Few h
+pub own-few : (setting : Setting) (h : List Line) → Fits setting h → Everywhere (λ (l : Line) (before : List Line). own_posts
+    (view l.port (of (node_of l) (l ∷ before))) < 32768) h → Few h
 own-few setting [] f o = tt
 own-few setting (l ∷ before) f o =
-    let few = own-begun (setup_of setting (node_of l) l.port) (view l.port (of (node_of l) (l ∷ before))) (port_fits setting (node_of l) (l ∷ before) f l.port) in
+    let few = own-begun (setup_of setting (node_of l) l.port) (view l.port (of (node_of l) (l ∷ before))) (port_fits setting (node_of l) (l ∷ before) f l.port)
+    in
     ((omega (arith, few, o.0)), own-few setting before f.1 o.1)

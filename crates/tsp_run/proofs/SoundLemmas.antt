@@ -31,7 +31,8 @@ be16_small o i h = let a = h i in let b = h (i + 1) in omega (arith, a, b)
 
 be64_small : (o : List ℕ) (i : ℕ) → AreOctets o → be64_at o i < 2 ^ 64
 be64_small o i h =
-    let a = h i in let b = h (i + 1) in let c = h (i + 2) in let d = h (i + 3) in let e = h (i + 4) in let f = h (i + 5) in let g = h (i + 6) in let k = h (i + 7) in
+    let a = h i in let b = h (i + 1) in let c = h (i + 2) in let d = h (i + 3) in let e = h (i + 4) in let f = h (i + 5) in let g = h (i + 6) in let k =
+    h (i + 7) in
     omega (arith, a, b, c, d, e, f, g, k)
 
 body_sound : (o : List ℕ) (k : Kind) (b : Body) → AreOctets o → SpellsBody o k b → (body_fits k b ≡ true) × IsSoundBody b
@@ -41,11 +42,22 @@ body_sound o k (Hops n) h s = (s.1, (let few = h 4 in let is = s.2 in omega (ari
 body_sound o k (TimeBody t) h s = (s.0, rw s.2 s.1.value)
 
 spelled_sound : (o : List ℕ) (d : Datagram) → AreOctets o → Spells o d → IsSound d
-spelled_sound o (Message m) h s = let b = body_sound o m.kind m.body h s.body in ((let few = be16_small o 2 h in let is = s.number in omega (arith, few, is)), b.0, s.name.0, b.1)
-spelled_sound o (Stamp (Request word counter)) h s =
-    ((let few = be64_small o 4 h in let is = s.word_read in omega (arith, few, is)), (let few = be64_small o 12 h in let is = s.counter_read in omega (arith, few, is)))
-spelled_sound o (Stamp (Reply r)) h s =
-    ((let few = be64_small o 4 h in let is = s.word in omega (arith, few, is)), (let few = be64_small o 12 h in let is = s.counter in omega (arith, few, is)), s.valid)
+spelled_sound o (Message m) h s = let b = body_sound o m.kind m.body h s.body in (
+  (let few = be16_small o 2 h in let is = s.number in omega (arith, few, is)),
+  b.0,
+  s.name.0,
+  b.1,
+)
+spelled_sound o (Stamp (Request word counter)) h s = (
+  (let few = be64_small o 4 h in let is = s.word_read in omega (arith, few, is)),
+  (let few = be64_small o 12 h in let is = s.counter_read in
+      omega (arith, few, is)),
+)
+spelled_sound o (Stamp (Reply r)) h s = (
+  (let few = be64_small o 4 h in let is = s.word in omega (arith, few, is)),
+  (let few = be64_small o 12 h in let is = s.counter in omega (arith, few, is)),
+  s.valid,
+)
 
 taken_sound : (o : List ℕ) (t : Taken) → AreOctets o → Reads o t → IsSoundTaken t
 taken_sound o (Good d) h r = spelled_sound o d h r

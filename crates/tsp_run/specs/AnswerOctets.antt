@@ -10,7 +10,8 @@ use Rattle.tsp_promises.specs.{DeedFits.answer_name, Everywhere.Everywhere, Fits
 abbrev pub SizeFits : Datagram → Datagram → Setup → List Seen → Type 0
 SizeFits (Stamp request) (Stamp reply) setup before = (written_size (Stamp request) ≡ 28) × (written_size (Stamp reply) ≡ 28)
 SizeFits (Message asked) (Message answer) setup before =
-    (length (answer_name asked.kind setup before) ≤ 63 → written_size (Message answer) ≡ 76) × (63 < length (answer_name asked.kind setup before) → written_size (Message answer) ≡ 268)
+    (length (answer_name asked.kind setup before) ≤ 63 → written_size (Message answer) ≡ 76) × (63 < length (answer_name asked.kind setup before) →
+    written_size (Message answer) ≡ 268)
 SizeFits _ _ setup before = ⊥
 
 -- a post to a stranger has the size that belongs to the datagram which its step has taken from one on that port

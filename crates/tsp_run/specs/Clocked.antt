@@ -3,7 +3,8 @@ use Rattle.std.specs.Prelude.{◌≡◌, ◌<◌, ◌≤◌, ◌^◌, ℕ, ◌+�
 use Rattle.tsp_rules.specs.Values.{Event, BootAt, Turn, Take, Bytes, LIFE, NodeLine, Port}
 use Rattle.tsp_rules.specs.GateRows.{NodeTurn, GotOn, answers_all, boots_all}
 use Rattle.tsp_rules.specs.NodeRows.{NodeRow, in_node_step}
-use Rattle.tsp_base.specs.Words.{HeaderValue, IsName, IsNet, nets_with, Booted, Turned, Came as TakesPost, Handed, Step, Line, of, view, dids, lives, tick_at, up}
+use Rattle.tsp_base.specs.Words.{HeaderValue, IsName, IsNet, nets_with, Booted, Turned, Came as TakesPost, Handed, Step, Line, of, view, dids, lives, tick_at}
+use Rattle.tsp_base.specs.Words.{up}
 use Rattle.tsp_codec.specs.Taken.{taken_of}
 use Rattle.tsp_promises.specs.{Everywhere.Everywhere, Fits.Fits, Fits.Finished, Fits.node_of, Setting.KeepsTime, Setting.Network, Setting.Setting}
 use Rattle.tsp_promises.specs.Premises.{Few, Honest, Life, NamesApart, OwnWords, Words}

@@ -1,6 +1,7 @@
 -- A run on two networks, written out: a node joins both, follows a master on each, and is corrected on one.
 use Rattle.std.specs.Prelude.{◌≡◌, ℕ, pos, false, List, [], ◌∷◌, codes, Option, None, Some}
-use Rattle.tsp_rules.specs.Values.{Act, Boot, Took, Post, Become, Arm, Ring, Correct, Quiet, Elect, Search, Message, Good, Event, BootAt, Turn, Bytes, NodeLine, Ack, AdjTime, MasterReq, MasterUp, SlaveUp, Peer, Starting, Loose, Follow}
+use Rattle.tsp_rules.specs.Values.{Act, Boot, Took, Post, Become, Arm, Ring, Correct, Quiet, Elect, Search, Message, Good, Event, BootAt, Turn, Bytes, NodeLine}
+use Rattle.tsp_rules.specs.Values.{Ack, AdjTime, MasterReq, MasterUp, SlaveUp, Peer, Starting, Loose, Follow}
 use Rattle.tsp_base.specs.Words.{HeaderValue, MessageValue, bare, timed, peer_of as peer}
 use Rattle.tsp_base.specs.declared.event.EventFault.TheVariants.{NoNode}
 use Rattle.tsp_run.specs.{Refusals.refusal, Refusals.scene, Refusals.Valid, Run.told, declared.line.Line.Line}

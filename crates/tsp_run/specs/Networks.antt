@@ -35,13 +35,15 @@ ports_on n (net ∷ rest) = if has_member n net then port_on n net ∷ ports_on 
 -- of them is its port p; none if n has no such port
 abbrev pub network_from : ℕ → ℕ → ℕ → ℕ → List (List ℕ) → Option ℕ
 network_from n q p k [] = None
-network_from n q p k (net ∷ rest) = if has_member n net then (if p == q then Some k else network_from n q (p + 1) (k + 1) rest) else network_from n q p (k + 1) rest
+network_from n q p k (net ∷ rest) = if has_member n net then (if p == q then Some k else network_from n q (p + 1) (k + 1) rest) else network_from n q p (k + 1)
+    rest
 
 -- by which port node n is on network k, if these networks' numbers begin with i and n's ports on them with p; none if
 -- it isn't on that network
 abbrev pub port_from : ℕ → ℕ → ℕ → ℕ → List (List ℕ) → Option ℕ
 port_from n k p i [] = None
-port_from n k p i (net ∷ rest) = if i == k then (if has_member n net then Some p else None) else (if has_member n net then port_from n k (p + 1) (i + 1) rest else port_from n k p (i + 1) rest)
+port_from n k p i (net ∷ rest) = if i == k then (if has_member n net then Some p else None) else (if has_member n net then port_from n k (p + 1) (i + 1) rest
+    else port_from n k p (i + 1) rest)
 
 -- the network of port q of node n, if it has such a port
 abbrev pub network_at : ℕ → Port → List (List ℕ) → Option ℕ

@@ -1,5 +1,6 @@
 -- When an event is refused after the events before it, and why: the first cause that applies.
-use Rattle.std.specs.Prelude.{◌≡◌, ◌⊎◌, ℕ, ◌+◌, ◌<◌, ◌≤◌, nat_lt, nat_le, ◌||◌, Bool, false, if◌then◌else◌, List, [], ◌∷◌, length, Option, None, Some, slice_get}
+use Rattle.std.specs.Prelude.{◌≡◌, ◌⊎◌, ℕ, ◌+◌, ◌<◌, ◌≤◌, nat_lt, nat_le, ◌||◌, Bool, false, if◌then◌else◌, List, [], ◌∷◌, length, Option, None, Some}
+use Rattle.std.specs.Prelude.{slice_get}
 use Rattle.tsp_rules.specs.Values.{Event, BootAt, Turn, Take, Bytes, Place, Peer, Stranger, Port}
 use Rattle.tsp_base.specs.{Words.HeaderValue, Words.of, Words.dids, Words.up, declared.event.EventFault.EventFault}
 use Rattle.tsp_base.specs.declared.event.EventFault.TheVariants.{TimeBack, NoNode, NoDatagram, NotUp, Limit, OutOfMemory}
@@ -113,7 +114,8 @@ limit events posted wanted = if nat_le most_events events || is_crowded posted w
 -- why an event is refused, if it is: the first cause of time, node, datagram, not booted, and limit
 abbrev pub refusal : Scene → Event → Option EventFault
 refusal s e =
-    first_of (time_back (event_at e) s.last) (first_of (no_node s e) (first_of (no_datagram (length s.posts) e) (first_of (not_up s e) (limit s.events (length s.posts) (room_at s.networks (actor s e))))))
+    first_of (time_back (event_at e) s.last) (first_of (no_node s e) (first_of (no_datagram (length s.posts) e)
+    (first_of (not_up s e) (limit s.events (length s.posts) (room_at s.networks (actor s e))))))
 
 -- why an event can't happen, if it can't: the first cause of time, node, datagram and not booted. The limits of a replay
 -- are no such cause

@@ -63,7 +63,12 @@ steps header history row step =
 
 -- the step of a boot: the wall clock then is the node's wall clock at tick 0 and its tick
 abbrev pub boot_step : HeaderValue → ℕ → ℕ → ℕ → Step
-boot_step header at node word = record { at = at; node = node; cause = Booted word ((node_line header node).wall +ℤ pos (tick_at (node_line header node).rate at)) }
+boot_step header at node word = record {
+  at = at;
+  node = node;
+  cause = Booted word
+      ((node_line header node).wall +ℤ pos (tick_at (node_line header node).rate at));
+}
 
 -- a posted datagram as it reaches a node: its sender is the node that posted it, and it is read again from its octets
 abbrev pub arrives_at : Posted → Option Address → Option Arrival
@@ -83,7 +88,11 @@ arrives nets (Some p) = arrives_at p (address_of nets p.from p.port p.to)
 -- what the coming of datagram k makes happen, if it reaches a node
 abbrev pub reaches : HeaderValue → List Line → ℕ → ℕ → Option Arrival → Option Happening
 reaches header history at k None = None
-reaches header history at k (Some a) = Some (steps header history (answers_all (GotOn a.port a.from a.taken)) (record { at = at; node = a.node; cause = TakesPost k }))
+reaches header history at k (Some a) = Some (steps header history (answers_all (GotOn a.port a.from a.taken)) (record {
+  at = at;
+  node = a.node;
+  cause = TakesPost k;
+}))
 
 -- what an event makes happen, if it makes a node act
 abbrev pub happening : HeaderValue → List Line → Event → Option Happening

@@ -33,19 +33,23 @@ pub record SetBy (header : HeaderValue) (setting : Setting) : Type 0 where
 
 -- the history of every accepted schedule fits, and ends where a step ends
 abbrev pub RunsFit : Type 0
-RunsFit = (header : HeaderValue) (setting : Setting) (events : List Event) → SetBy header setting → Accepted header events → Fits setting (run header events) × Finished setting (run header events)
+RunsFit = (header : HeaderValue) (setting : Setting) (events : List Event) → SetBy header setting → Accepted header events → Fits setting (run header events) ×
+    Finished setting (run header events)
 
 -- the history of every accepted schedule keeps the promises
 abbrev pub RunsKeepPromises : Type 0
-RunsKeepPromises = (header : HeaderValue) (setting : Setting) (events : List Event) → SetBy header setting → Accepted header events → Promises setting (run header events)
+RunsKeepPromises = (header : HeaderValue) (setting : Setting) (events : List Event) → SetBy header setting → Accepted header events →
+    Promises setting (run header events)
 
 -- the history of every possible schedule fits, and ends where a step ends
 abbrev pub PossibleRunsFit : Type 0
-PossibleRunsFit = (header : HeaderValue) (setting : Setting) (events : List Event) → SetBy header setting → Possible header events → Fits setting (run header events) × Finished setting (run header events)
+PossibleRunsFit = (header : HeaderValue) (setting : Setting) (events : List Event) → SetBy header setting → Possible header events →
+    Fits setting (run header events) × Finished setting (run header events)
 
 -- the history of every possible schedule keeps the promises
 abbrev pub PossibleRunsKeepPromises : Type 0
-PossibleRunsKeepPromises = (header : HeaderValue) (setting : Setting) (events : List Event) → SetBy header setting → Possible header events → Promises setting (run header events)
+PossibleRunsKeepPromises = (header : HeaderValue) (setting : Setting) (events : List Event) → SetBy header setting → Possible header events →
+    Promises setting (run header events)
 
 -- every header has a setting
 abbrev pub EachIsSet : Type 0

@@ -3,7 +3,8 @@ use Rattle.std.proofs.Common.{◌≡◌, ℕ, inl, inr, List, [], Some, sym, ap,
 use Rattle.tsp_base.specs.declared.event.EventFault.TheVariants.{Limit, OutOfMemory}
 use Rattle.tsp_base.specs.{Words.HeaderValue, declared.event.Event.Event, declared.event.EventFault.EventFault}
 use Rattle.tsp_script.{proofs.EventLines.events_apart, specs.declared.event_line.EventItem.TheVariants.Event as EventOf}
-use Rattle.tsp_schedule.specs.Schedules.{Progress, Untitled, Titled, Drifted, Heading, Running, Ended, IsCause, Refuses, RefusesRun, Limits, LimitsRun, Lacks, IsEnded}
+use Rattle.tsp_schedule.specs.Schedules.{Progress, Untitled, Titled, Drifted, Heading, Running, Ended, IsCause, Refuses, RefusesRun, Limits, LimitsRun, Lacks}
+use Rattle.tsp_schedule.specs.Schedules.{IsEnded}
 use Rattle.tsp_schedule.{proofs.OneReading.end_kept, specs.Refusing.Refusing}
 
 -- a fault has one cause
@@ -27,10 +28,12 @@ Lacks-not_ended _ cause e l = e
 
 module _ (refused : Refusing) where
   -- an event is refused for one fault
-  same_refusal : (header : HeaderValue) (events : List Event) (e f : Event) (fault other : EventFault) → e ≡ f → refused header events e ≡ Some fault → refused header events f ≡ Some other → fault ≡ other
+  same_refusal : (header : HeaderValue) (events : List Event) (e f : Event) (fault other : EventFault) → e ≡ f → refused header events e ≡ Some fault →
+      refused header events f ≡ Some other → fault ≡ other
   same_refusal header events e f fault other s r t = let p : Some fault ≡ Some other = sym r ∙ ap (λ x. refused header events x) s ∙ t in cc
 
-  RefusesRun-one : (header : HeaderValue) (events : List Event) (line cause other : List ℕ) → RefusesRun refused header events line cause → RefusesRun refused header events line other → cause ≡ other
+  RefusesRun-one : (header : HeaderValue) (events : List Event) (line cause other : List ℕ) → RefusesRun refused header events line cause →
+      RefusesRun refused header events line other → cause ≡ other
   RefusesRun-one header events line cause other (inl r) (inl s) = r.1 ∙ sym s.1
   RefusesRun-one header events line cause other (inl r) (inr s) = absurd (r.0 (EventOf s.0) s.2)
   RefusesRun-one header events line cause other (inr r) (inl s) = absurd (s.0 (EventOf r.0) r.2)
@@ -50,7 +53,8 @@ module _ (refused : Refusing) where
   Refuses-one (Running header events) line cause other r s = RefusesRun-one header events line cause other r s
   Refuses-one (Ended header events) line cause other r s = r ∙ sym s
 
-  run_within : (header : HeaderValue) (events : List Event) (line cause : List ℕ) → RefusesRun refused header events line cause → LimitsRun refused header events line → ⊥
+  run_within : (header : HeaderValue) (events : List Event) (line cause : List ℕ) → RefusesRun refused header events line cause →
+      LimitsRun refused header events line → ⊥
   run_within header events line cause (inl r) (e, a, b, spells, l) = r.0 (EventOf e) spells
   run_within header events line cause (inr (e, fault, spells, r, c)) (f, a, b, others, l) =
       let same = same_refusal header events e f fault (Limit a b) (events_apart line e f spells others) r l in

@@ -1,5 +1,6 @@
 -- No line of a schedule has more than 1,024 octets.
-use Rattle.std.proofs.Common.{sym, ap, ◌∙◌, inl, inr, arith, length-append, append_assoc, take-append-drop, subst, ◌≡◌, ℕ, ◌*◌, ◌^◌, ◌<◌, ◌≤◌, if◌then◌else◌, List, [], ◌∷◌, ◌++◌, length, take, drop, decimal, codes, Bool, true, false, ◌==◌, ◌&&◌, not, refl}
+use Rattle.std.proofs.Common.{sym, ap, ◌∙◌, inl, inr, arith, length-append, append_assoc, take-append-drop, subst, ◌≡◌, ℕ, ◌*◌, ◌^◌, ◌<◌, ◌≤◌, if◌then◌else◌}
+use Rattle.std.proofs.Common.{List, [], ◌∷◌, ◌++◌, length, take, drop, decimal, codes, Bool, true, false, ◌==◌, ◌&&◌, not, refl}
 use Rattle.std.specs.{List.All}
 use Rattle.std.proofs.lemmas.{Fmt.length-decimal-le, List.Elements.All-head, List.Elements.All-tail}
 use Rattle.tsp_base.specs.declared.event.Event.TheVariants.{Boot as BootAt, Turn, Take, Bytes}
@@ -8,7 +9,8 @@ use Rattle.tsp_base.specs.{Words.HeaderValue, declared.event.Event.Event, declar
 use Rattle.tsp_script.specs.{Traces.place_text, declared.event_line.EventItem.EventItem, declared.head_line.HeadItem.HeadItem}
 use Rattle.tsp_script.specs.declared.event_line.EventItem.TheVariants.{Event as EventOf, End}
 use Rattle.tsp_script.specs.declared.head_line.HeadItem.TheVariants.{Drift, Strict, Node, Net, NotHead}
-use Rattle.tsp_script.specs.Schedules.{event_text, port_text, node_text, numbers_text, net_text, flag_text, IsPlace, IsEvent, IsHexOf, IsNodeLine, IsNetLine, IsNotHead, SpellsEvent, SpellsHead}
+use Rattle.tsp_script.specs.Schedules.{event_text, port_text, node_text, numbers_text, net_text, flag_text, IsPlace, IsEvent, IsHexOf, IsNodeLine, IsNetLine}
+use Rattle.tsp_script.specs.Schedules.{IsNotHead, SpellsEvent, SpellsHead}
 use Rattle.tsp_script.proofs.{EventLines.short_hex, Lengths.number_length, Lengths.signed_length}
 use Rattle.tsp_schedule.specs.Schedules.{Progress, Titled, Drifted, Heading, Running, Ended, next_place, Refuses, IsComplete}
 use Rattle.tsp_schedule.specs.declared.stage.Stage.TheVariants.{Titled as AtTitled, Drifted as AtDrifted, Heading as AtHeading}
@@ -62,14 +64,20 @@ numbers_length : (ns : List ℕ) → All (λ n. n < 2 ^ 32) ns → length (numbe
 numbers_length [] h = omega arith
 numbers_length (n ∷ ns) h =
     let b : n < 2 ^ 32 = All-head (λ m. m < 2 ^ 32) n ns h in
-    omega (arith, length-append (32 ∷ decimal n) (numbers_text ns), length-decimal-le 10 n (omega arith) (omega (arith, b)) (omega (arith, b)), numbers_length ns (All-tail (λ m. m < 2 ^ 32) n ns h))
+    omega (
+      arith,
+      length-append (32 ∷ decimal n) (numbers_text ns),
+      length-decimal-le 10 n (omega arith) (omega (arith, b)) (omega (arith, b)),
+      numbers_length ns (All-tail (λ m. m < 2 ^ 32) n ns h),
+    )
 
 net_length : (members : List ℕ) → IsNetLine members → length (net_text members) ≤ 1024
 net_length members i = omega (arith, length-append (codes "net") (numbers_text members), numbers_length members i.small, i.few)
 
 -- a long line isn't a schedule's second one
 pub SpellsHead-second : (line : List ℕ) → 1024 < length line → (item : HeadItem) → SpellsHead 2 line item → ⊥
-SpellsHead-second line l (Drift p) s = let b : length line ≡ length (codes "drift " ++ decimal p) = ap length s.2 in omega (arith, l, b, length-append (codes "drift ") (decimal p), number_length p (omega (arith, s.1)))
+SpellsHead-second line l (Drift p) s = let b : length line ≡ length (codes "drift " ++ decimal p) = ap length s.2 in
+    omega (arith, l, b, length-append (codes "drift ") (decimal p), number_length p (omega (arith, s.1)))
 SpellsHead-second line l _ s = omega (arith, s.0)
 
 -- a long line from the third on is no line of the header, if it isn't behind it
@@ -105,32 +113,48 @@ not_head header line start l s a b = (
 
 module _ {C : Type 0} (refused : Refusing) (stands : HeaderValue → List Event → C → Type 0) where
   -- where a node is expected, a long line that begins as a node's or a network's is the header's
-  pub Refuses-node : (header : HeaderValue) (line start : List ℕ) → 1024 < length line → start ≡ take 8 line → (rest : List ℕ) × (start ≡ codes "node " ++ rest) → Refuses refused (Heading header) line (codes "header")
-  Refuses-node header line start l s r = inl (inl (SpellsHead-long (next_place header) line (next_place-low header) l (λ n. n.no_node (r.0 ++ drop 8 line) (starts (codes "node ") line start r.0 s r.1))), refl)
+  pub Refuses-node : (header : HeaderValue) (line start : List ℕ) → 1024 < length line → start ≡ take 8 line → (rest : List ℕ) ×
+      (start ≡ codes "node " ++ rest) → Refuses refused (Heading header) line (codes "header")
+  Refuses-node header line start l s r = inl (
+    inl (SpellsHead-long (next_place header) line (next_place-low header) l (λ n. n.no_node (r.0 ++
+        drop 8 line) (starts (codes "node ") line start r.0 s r.1))),
+    refl,
+  )
 
-  pub Refuses-net : (header : HeaderValue) (line start : List ℕ) → 1024 < length line → start ≡ take 8 line → (rest : List ℕ) × (start ≡ codes "net " ++ rest) → Refuses refused (Heading header) line (codes "header")
-  Refuses-net header line start l s r = inl (inl (SpellsHead-long (next_place header) line (next_place-low header) l (λ n. n.no_net (r.0 ++ drop 8 line) (starts (codes "net ") line start r.0 s r.1))), refl)
+  pub Refuses-net : (header : HeaderValue) (line start : List ℕ) → 1024 < length line → start ≡ take 8 line → (rest : List ℕ) × (start ≡ codes "net " ++ rest) →
+      Refuses refused (Heading header) line (codes "header")
+  Refuses-net header line start l s r = inl (
+    inl (SpellsHead-long (next_place header) line (next_place-low header) l (λ n. n.no_net (r.0 ++
+        drop 8 line) (starts (codes "net ") line start r.0 s r.1))),
+    refl,
+  )
 
-  pub Refuses-none : (header : HeaderValue) (line : List ℕ) → SpellsHead (next_place header) line NotHead → ¬ IsComplete header → Refuses refused (Heading header) line (codes "header")
+  pub Refuses-none : (header : HeaderValue) (line : List ℕ) → SpellsHead (next_place header) line NotHead → ¬ IsComplete header →
+      Refuses refused (Heading header) line (codes "header")
   Refuses-none header line s e = inl (inr (inr (inr (inl (s, e)))), refl)
 
-  pub Refuses-other : (header : HeaderValue) (line : List ℕ) → 1024 < length line → SpellsHead (next_place header) line NotHead → IsComplete header → Refuses refused (Heading header) line (codes "line")
+  pub Refuses-other : (header : HeaderValue) (line : List ℕ) → 1024 < length line → SpellsHead (next_place header) line NotHead → IsComplete header →
+      Refuses refused (Heading header) line (codes "line")
   Refuses-other header line l s h = inr (s, h, inl (SpellsEvent-long line l, refl))
 
   -- at a stage a long line is refused as where that stage stands
-  pub Refuses-titled : (p : Progress) (version : ℕ) (line : List ℕ) → StageStands stands p (AtTitled version) → 1024 < length line → Refuses refused p line (codes "header")
+  pub Refuses-titled : (p : Progress) (version : ℕ) (line : List ℕ) → StageStands stands p (AtTitled version) → 1024 < length line →
+      Refuses refused p line (codes "header")
   Refuses-titled (Titled read) version line s l = (SpellsHead-second line l, refl)
   Refuses-titled _ version line s l = absurd s
 
-  pub Refuses-drifted : (p : Progress) (held : HeaderValue) (line : List ℕ) → StageStands stands p (AtDrifted held) → 1024 < length line → Refuses refused p line (codes "header")
+  pub Refuses-drifted : (p : Progress) (held : HeaderValue) (line : List ℕ) → StageStands stands p (AtDrifted held) → 1024 < length line →
+      Refuses refused p line (codes "header")
   Refuses-drifted (Drifted drift) held line s l = ((λ k. let z : length line ≡ length (codes "strict") = ap length k.1 in omega (arith, l, z)), refl)
   Refuses-drifted _ held line s l = absurd s
 
-  pub Refuses-heading : (p : Progress) (held : HeaderValue) (line cause : List ℕ) → StageStands stands p (AtHeading held) → Refuses refused (Heading held) line cause → Refuses refused p line cause
+  pub Refuses-heading : (p : Progress) (held : HeaderValue) (line cause : List ℕ) → StageStands stands p (AtHeading held) →
+      Refuses refused (Heading held) line cause → Refuses refused p line cause
   Refuses-heading (Heading header) held line cause s r = subst {A = HeaderValue} (λ h. Refuses refused (Heading h) line cause) s r
   Refuses-heading _ held line cause s r = absurd s
 
-  pub Refuses-running : (p : Progress) (run : Run C) (line : List ℕ) → RunStands stands p run → run.over ≡ false → 1024 < length line → Refuses refused p line (codes "line")
+  pub Refuses-running : (p : Progress) (run : Run C) (line : List ℕ) → RunStands stands p run → run.over ≡ false → 1024 < length line →
+      Refuses refused p line (codes "line")
   Refuses-running (Running header events) run line s o l = inl (SpellsEvent-long line l, refl)
   Refuses-running (Ended header events) run line s o l = let e = sym s.0 ∙ o in absurd (cc)
   Refuses-running _ run line s o l = absurd s

@@ -5,7 +5,8 @@ use Rattle.tsp_script.specs.declared.event_line.EventItem.TheVariants.{Event as 
 use Rattle.tsp_script.specs.declared.head_line.HeadItem.TheVariants.{Title, Drift, Strict, Node, Net, NotHead}
 use Rattle.tsp_script.specs.Schedules.{SpellsEvent, SpellsHead}
 use Rattle.tsp_script.proofs.{EventLines.SpellsEvent-one, EventLines.events_apart, HeadLines.SpellsHead-one}
-use Rattle.tsp_schedule.specs.Schedules.{Progress, Untitled, Titled, Drifted, Heading, Running, Ended, Takes, TakesNet, next_place, RunsOn, GoesOn, Reaches, Refuses, RefusesRun, RefusesHeading, IsComplete, Limits, LimitsRun, drifted}
+use Rattle.tsp_schedule.specs.Schedules.{Progress, Untitled, Titled, Drifted, Heading, Running, Ended, Takes, TakesNet, next_place, RunsOn, GoesOn, Reaches}
+use Rattle.tsp_schedule.specs.Schedules.{Refuses, RefusesRun, RefusesHeading, IsComplete, Limits, LimitsRun, drifted}
 use Rattle.tsp_schedule.specs.Refusing.{Refusing}
 
 pub event_end : (line : List ℕ) (e : Event) → SpellsEvent line (EventOf e) → SpellsEvent line End → ⊥
@@ -27,7 +28,8 @@ pub net_end : (place : ℕ) (line m : List ℕ) → SpellsHead place line (Net m
 net_end place line m s t = let p = SpellsHead-one place line (Net m) NotHead s t in absurd (cc)
 
 -- a node or a network that the header takes, and a line that ends it where it may end, are not refused
-node_kept : (header : HeaderValue) (line : List ℕ) (n : NodeLine) → SpellsHead (next_place header) line (Node n) → Takes header n → RefusesHeading header line → ⊥
+node_kept : (header : HeaderValue) (line : List ℕ) (n : NodeLine) → SpellsHead (next_place header) line (Node n) → Takes header n → RefusesHeading header line →
+    ⊥
 node_kept header line n s t (inl none) = none (Node n) s
 node_kept header line n s t (inr (inl (node, u, k))) = k (subst (λ x. Takes header x) (same_node (next_place header) line n node s u) t)
 node_kept header line n s t (inr (inr (inl (members, u, k)))) = node_net (next_place header) line n members s u
@@ -50,7 +52,8 @@ end_kept header line s t (inr (inr (inr (inr r)))) = let p = SpellsHead-one (nex
 
 module _ (refused : Refusing) where
   -- a line brings a schedule to one place
-  RunsOn-one : (header : HeaderValue) (events : List Event) (line : List ℕ) (p q : Progress) → RunsOn refused header events line p → RunsOn refused header events line q → p ≡ q
+  RunsOn-one : (header : HeaderValue) (events : List Event) (line : List ℕ) (p q : Progress) → RunsOn refused header events line p →
+      RunsOn refused header events line q → p ≡ q
   RunsOn-one header events line p q (inl g) (inl h) = g.3 ∙ ap (λ e. Running header (e ∷ events)) (events_apart line g.0 h.0 g.1 h.1) ∙ sym h.3
   RunsOn-one header events line p q (inl g) (inr h) = absurd (event_end line g.0 g.1 h.0)
   RunsOn-one header events line p q (inr g) (inl h) = absurd (event_end line h.0 h.1 g.0)
@@ -64,11 +67,13 @@ module _ (refused : Refusing) where
       let t = SpellsHead-one 2 line (Drift g.0) (Drift h.0) g.1 h.1 in
       let same : g.0 ≡ h.0 = cc in g.2 ∙ ap (λ d. drifted version d) same ∙ sym h.2
   GoesOn-one (Drifted drift) line p q g h = g.1 ∙ sym h.1
-  GoesOn-one (Heading header) line p q (inl g) (inl h) = g.3 ∙ ap (λ n. Heading (record header { nodes = header.nodes ++ n ∷ [] })) (same_node (next_place header) line g.0 h.0 g.1 h.1) ∙ sym h.3
+  GoesOn-one (Heading header) line p q (inl g) (inl h) = g.3 ∙ ap (λ n. Heading (record header { nodes = header.nodes ++ n ∷ [] }))
+      (same_node (next_place header) line g.0 h.0 g.1 h.1) ∙ sym h.3
   GoesOn-one (Heading header) line p q (inl g) (inr (inl h)) = absurd (node_net (next_place header) line g.0 h.0 g.1 h.1)
   GoesOn-one (Heading header) line p q (inl g) (inr (inr h)) = absurd (node_end (next_place header) line g.0 g.1 h.0)
   GoesOn-one (Heading header) line p q (inr (inl g)) (inl h) = absurd (node_net (next_place header) line h.0 g.0 h.1 g.1)
-  GoesOn-one (Heading header) line p q (inr (inl g)) (inr (inl h)) = g.3 ∙ ap (λ m. Heading (record header { nets = header.nets ++ m ∷ [] })) (same_net (next_place header) line g.0 h.0 g.1 h.1) ∙ sym h.3
+  GoesOn-one (Heading header) line p q (inr (inl g)) (inr (inl h)) = g.3 ∙ ap (λ m. Heading (record header { nets = header.nets ++ m ∷ [] }))
+      (same_net (next_place header) line g.0 h.0 g.1 h.1) ∙ sym h.3
   GoesOn-one (Heading header) line p q (inr (inl g)) (inr (inr h)) = absurd (net_end (next_place header) line g.0 g.1 h.0)
   GoesOn-one (Heading header) line p q (inr (inr g)) (inl h) = absurd (node_end (next_place header) line h.0 h.1 g.0)
   GoesOn-one (Heading header) line p q (inr (inr g)) (inr (inl h)) = absurd (net_end (next_place header) line h.0 h.1 g.0)
@@ -81,7 +86,8 @@ module _ (refused : Refusing) where
   Reaches-one (line ∷ before) p q r s = GoesOn-one r.0 line p q r.2 (subst (λ x. GoesOn refused x line q) (sym (Reaches-one before r.0 s.0 r.1 s.1)) s.2)
 
   -- a line that goes on is not refused
-  RunsOn-not_refused : (header : HeaderValue) (events : List Event) (line cause : List ℕ) (p : Progress) → RunsOn refused header events line p → RefusesRun refused header events line cause → ⊥
+  RunsOn-not_refused : (header : HeaderValue) (events : List Event) (line cause : List ℕ) (p : Progress) → RunsOn refused header events line p →
+      RefusesRun refused header events line cause → ⊥
   RunsOn-not_refused header events line cause p (inl g) (inl (none, c)) = none (EventOf g.0) g.1
   RunsOn-not_refused header events line cause p (inl g) (inr (e, fault, s, f, w)) =
       let same = events_apart line g.0 e g.1 s in
@@ -104,7 +110,8 @@ module _ (refused : Refusing) where
   GoesOn-not_refused (Ended header events) line cause p g r = g
 
   -- and passes no limit
-  RunsOn-not_limited : (header : HeaderValue) (events : List Event) (line : List ℕ) (p : Progress) → RunsOn refused header events line p → LimitsRun refused header events line → ⊥
+  RunsOn-not_limited : (header : HeaderValue) (events : List Event) (line : List ℕ) (p : Progress) → RunsOn refused header events line p →
+      LimitsRun refused header events line → ⊥
   RunsOn-not_limited header events line p (inl g) (e, a, b, s, f) =
       let same = events_apart line g.0 e g.1 s in
       let none : refused header events e ≡ None = rw (sym same) g.2 in

@@ -38,7 +38,8 @@ one_net : (header : HeaderValue) (m : List ℕ) → IsHeader header → TakesNet
 one_net header m h t = IsHeader-joined header m h t.few t.joins
 
 module _ (refused : Refusing) where
-  run_header : (header : HeaderValue) (events : List Event) (line : List ℕ) (to : Progress) → IsHeader header → RunsOn refused header events line to → KeepsHeader to
+  run_header : (header : HeaderValue) (events : List Event) (line : List ℕ) (to : Progress) → IsHeader header → RunsOn refused header events line to →
+      KeepsHeader to
   run_header header events line to h (inl g) = subst (λ p. KeepsHeader p) (sym g.3) h
   run_header header events line to h (inr g) = subst (λ p. KeepsHeader p) (sym g.1) h
 

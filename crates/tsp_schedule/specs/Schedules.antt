@@ -1,4 +1,5 @@
--- Reading a schedule line by line: how far it is after a list of lines, which line may come next, and why one is refused. Why events are refused is a parameter.
+-- Reading a schedule line by line: how far it is after a list of lines, which line may come next, and why one is refused. Why events are refused is a
+-- parameter.
 use Rattle.std.specs.Prelude.{◌≡◌, ◌⊎◌, ℕ, ◌<◌, ◌==◌, if◌then◌else◌, false, List, [], ◌∷◌, ◌++◌, length, Some, None, codes, decimal, ◌&&◌, not, Bool, true}
 use Rattle.tsp_base.specs.declared.{event.Event.Event, event.EventFault.EventFault, header.NodeLine.NodeLine}
 use Rattle.tsp_base.specs.declared.event.EventFault.TheVariants.{TimeBack, NoNode, NoDatagram, NotUp, Limit, OutOfMemory}
@@ -64,8 +65,10 @@ GoesOn refused Untitled line next = (version : ℕ) × SpellsHead 1 line (Title 
 GoesOn refused (Titled version) line next = (drift : ℕ) × SpellsHead 2 line (Drift drift) × (next ≡ drifted version drift)
 GoesOn refused (Drifted drift) line next = SpellsHead 3 line Strict × (next ≡ Heading (new_header drift true))
 GoesOn refused (Heading header) line next =
-    ((node : NodeLine) × SpellsHead (next_place header) line (Node node) × Takes header node × (next ≡ Heading (record header { nodes = header.nodes ++ node ∷ [] })))
-    ⊎ (((members : List ℕ) × SpellsHead (next_place header) line (Net members) × TakesNet header members × (next ≡ Heading (record header { nets = header.nets ++ members ∷ [] })))
+    ((node : NodeLine) × SpellsHead (next_place header) line (Node node) × Takes header node ×
+    (next ≡ Heading (record header { nodes = header.nodes ++ node ∷ [] })))
+    ⊎ (((members : List ℕ) × SpellsHead (next_place header) line (Net members) × TakesNet header members ×
+    (next ≡ Heading (record header { nets = header.nets ++ members ∷ [] })))
     ⊎ (SpellsHead (next_place header) line NotHead × IsComplete header × RunsOn refused header [] line next))
 GoesOn refused (Running header events) line next = RunsOn refused header events line next
 GoesOn refused (Ended header events) line next = ⊥
@@ -90,7 +93,8 @@ RefusesRun refused header events line cause =
     (((item : EventItem) → SpellsEvent line item → ⊥) × (cause ≡ codes "line"))
     ⊎ ((e : Event) × (fault : EventFault) × SpellsEvent line (EventOf e) × (refused header events e ≡ Some fault) × IsCause fault cause)
 
--- a line of the header is refused: the grammar doesn't allow it, or it is a node or a network that can't be added, or it ends a header that isn't complete, or it is a `strict` that comes too late
+-- a line of the header is refused: the grammar doesn't allow it, or it is a node or a network that can't be added, or it ends a header that isn't complete, or
+-- it is a `strict` that comes too late
 abbrev pub RefusesHeading : HeaderValue → List ℕ → Type 0
 RefusesHeading header line =
     ((item : HeadItem) → SpellsHead (next_place header) line item → ⊥)

@@ -4,9 +4,11 @@ use Rattle.std.specs.declared.result.Result.{Result}
 use Rattle.tsp_base.specs.declared.event.EventFault.TheVariants.{TimeBack, NoNode, NoDatagram, NotUp, Limit as NoRoom, OutOfMemory as NoMemory}
 use Rattle.tsp_base.specs.declared.header.NodeLine.{NodeLine}
 use Rattle.tsp_base.specs.{Words.HeaderValue, declared.event.Event.Event, declared.event.EventFault.EventFault}
-use Rattle.tsp_schedule.specs.declared.stage.Stage.TheVariants.{Untitled as AtUntitled, Titled as AtTitled, Drifted as AtDrifted, Heading as AtHeading, Running as AtRunning}
+use Rattle.tsp_schedule.specs.declared.stage.Stage.TheVariants.{Untitled as AtUntitled, Titled as AtTitled, Drifted as AtDrifted, Heading as AtHeading}
+use Rattle.tsp_schedule.specs.declared.stage.Stage.TheVariants.{Running as AtRunning}
 use Rattle.tsp_schedule.specs.{Refusing.Refusing, declared.run.Run.Run, declared.stage.Stage.Stage}
-use Rattle.tsp_schedule.specs.Schedules.{Progress, Untitled, Titled, Drifted, Heading, Running, Ended, GoesOn, Reaches, Refuses, RefusesRun, Limits, LimitsRun, Takes, TakesNet, IsComplete, IsCause, new_header}
+use Rattle.tsp_schedule.specs.Schedules.{Progress, Untitled, Titled, Drifted, Heading, Running, Ended, GoesOn, Reaches, Refuses, RefusesRun, Limits, LimitsRun}
+use Rattle.tsp_schedule.specs.Schedules.{Takes, TakesNet, IsComplete, IsCause, new_header}
 use Rattle.tsp_lines.specs.{Lines.line_ahead, declared.treatment.Stop.Stop}
 use Rattle.tsp_lines.specs.declared.treatment.Stop.TheVariants.{Bad, Limit, WriteFault, OutOfMemory}
 
@@ -25,11 +27,12 @@ abbrev pub RunStands : {C : Type 0} → (HeaderValue → List Event → C → Ty
 RunStands stands p run = StageStands stands p (AtRunning run)
 
 -- a line was accepted: this is how far the schedule is after it, and no other progress is possible
-pub record Advances {C : Type 0} (refused : Refusing) (stands : HeaderValue → List Event → C → Type 0) (p : Progress) (line : List ℕ) (next : Stage C) : Type 0 where
-  pub to : Progress
-  pub goes : GoesOn refused p line to
-  pub stands_for : StageStands stands to next
-  pub only : (other : Progress) → GoesOn refused p line other → other ≡ to
+pub record Advances {C : Type 0} (refused : Refusing) (stands : HeaderValue → List Event → C → Type 0) (p : Progress) (line : List ℕ) (next : Stage C) : Type 0
+  where
+    pub to : Progress
+    pub goes : GoesOn refused p line to
+    pub stands_for : StageStands stands to next
+    pub only : (other : Progress) → GoesOn refused p line other → other ≡ to
 
 -- a line after the header was accepted
 abbrev pub RunAdvances : {C : Type 0} → Refusing → (HeaderValue → List Event → C → Type 0) → Progress → List ℕ → Run C → Type 0
@@ -38,7 +41,8 @@ RunAdvances refused stands p line run = Advances refused stands p line (AtRunnin
 -- the line of an event was accepted: the schedule ran before it, and has one event more after it
 abbrev pub AdvancesByEvent : {C : Type 0} → Refusing → (HeaderValue → List Event → C → Type 0) → Progress → List ℕ → Stage C → Type 0
 AdvancesByEvent refused stands p line next =
-    (header : HeaderValue) × (events : List Event) × (e : Event) × (p ≡ Running header events) × (a : Advances refused stands p line next) × (a.to ≡ Running header (e ∷ events))
+    (header : HeaderValue) × (events : List Event) × (e : Event) × (p ≡ Running header events) × (a : Advances refused stands p line next) ×
+    (a.to ≡ Running header (e ∷ events))
 
 -- a line was refused
 abbrev pub Halts : Refusing → Progress → List ℕ → Stop → Type 0
@@ -104,7 +108,9 @@ abbrev pub TriesEvent : {C : Type 0} → Refusing → (HeaderValue → List Even
 TriesEvent refused stands old e new result = (header : HeaderValue) (events : List Event) → stands header events old.handler →
     MatchBool result ((refused header events e ≡ None) × stands header (e ∷ events) new.handler) (stands header events new.handler)
 
--- the first of some lines after the header was tried where the last line wasn't read yet: it was accepted, and has so many octets with its line feed, or nothing has changed
+-- the first of some lines after the header was tried where the last line wasn't read yet: it was accepted, and has so many octets with its line feed, or
+-- nothing has changed
 abbrev pub TriesFront : {C : Type 0} → Refusing → (HeaderValue → List Event → C → Type 0) → Run C → List ℕ → Run C → Option ℕ → Type 0
 TriesFront refused stands old text new result = (header : HeaderValue) (events : List Event) → stands header events old.handler →
-    MatchOption result (RunStands stands (Running header events) new) (λ count. AdvancesByEvent refused stands (Running header events) (line_ahead text count) (AtRunning new))
+    MatchOption result (RunStands stands (Running header events) new) (λ count. AdvancesByEvent refused stands (Running header events) (line_ahead text count)
+    (AtRunning new))

@@ -26,13 +26,16 @@ abbrev is_post : Verb → Bool
 is_post PostWord = true
 is_post _ = false
 
-pub post_case : (Holds : ℕ → Act → Type 0) (rest : List ℕ) (number : ℕ) (a : Act) → IsAct a → IsNumberOf a number → PostWord ≡ verb_of a → rest ≡ rest_of_act number a
-    → ((to : Place) (d : Datagram) → number < 2 ^ 64 → IsPlace to → IsDatagram d → rest ≡ decimal number ++ 32 ∷ (place_text to ++ 32 ∷ message_text d) → Holds number (Post to d)) → Holds number a
+pub post_case : (Holds : ℕ → Act → Type 0) (rest : List ℕ) (number : ℕ) (a : Act) → IsAct a → IsNumberOf a number → PostWord ≡ verb_of a → rest ≡
+    rest_of_act number a
+    → ((to : Place) (d : Datagram) → number < 2 ^ 64 → IsPlace to → IsDatagram d → rest ≡ decimal number ++ 32 ∷ (place_text to ++ 32 ∷ message_text d) →
+    Holds number (Post to d)) → Holds number a
 post_case Holds rest number (Post to d) is n v r h = h to d n is.0 is.1 r
 post_case Holds rest number a is n v r h = absurd (told_apart is_post PostWord (verb_of a) refl refl v)
 
 -- an act that is no post has the number 0
-pub other_case : (rest : List ℕ) (number : ℕ) (a : Act) → IsNumberOf a number → PostWord ≢ verb_of a → rest ≡ rest_of_act number a → (number ≡ 0) × (rest ≡ rest_of_act 0 a)
+pub other_case : (rest : List ℕ) (number : ℕ) (a : Act) → IsNumberOf a number → PostWord ≢ verb_of a → rest ≡ rest_of_act number a → (number ≡ 0) ×
+    (rest ≡ rest_of_act 0 a)
 other_case rest number (Post to d) n v r = absurd (v refl)
 other_case rest number _ n v r = (n, r)
 
@@ -57,7 +60,8 @@ is v w = number v == number w
 abbrev Case : Verb → ((Act → Type 0) → List ℕ → Type 0) → Type 1
 Case verb Each = (Holds : Act → Type 0) (rest : List ℕ) (a : Act) → IsAct a → verb ≡ verb_of a → rest ≡ rest_of_act 0 a → Each Holds rest → Holds a
 
-pub took_case : Case TookWord (λ Holds rest. (from : Place) (t : Taken) → IsPlace from → IsTaken t → rest ≡ place_text from ++ 32 ∷ taken_text t → Holds (Took from t))
+pub took_case : Case TookWord (λ Holds rest. (from : Place) (t : Taken) → IsPlace from → IsTaken t → rest ≡ place_text from ++ 32 ∷ taken_text t →
+    Holds (Took from t))
 took_case Holds rest (Took from t) i v r h = h from t i.0 i.1 r
 took_case Holds rest a i v r h = absurd (told_apart (is TookWord) TookWord (verb_of a) refl refl v)
 
@@ -69,8 +73,10 @@ pub arm_case : Case ArmWord (λ Holds rest. (alarm : Alarm) (at : ℕ) → at < 
 arm_case Holds rest (Arm alarm at) i v r h = h alarm at i r
 arm_case Holds rest a i v r h = absurd (told_apart (is ArmWord) ArmWord (verb_of a) refl refl v)
 
-pub sample_case : Case SampleWord (λ Holds rest. (p : PeerId) (counter : ℕ) (diff err : ℤ) (ticket : ℕ) → p.0 < 2 ^ 32 → counter < 2 ^ 64 → FitsSigned w64 diff → FitsSigned w64 err → ticket < 2 ^ 16
-    → rest ≡ decimal p.0 ++ 32 ∷ (decimal counter ++ 32 ∷ (signed_decimal diff ++ 32 ∷ (signed_decimal err ++ 32 ∷ decimal ticket))) → Holds (Sample p counter diff err ticket))
+pub sample_case : Case SampleWord (λ Holds rest. (p : PeerId) (counter : ℕ) (diff err : ℤ) (ticket : ℕ) → p.0 < 2 ^ 32 → counter < 2 ^ 64 →
+    FitsSigned w64 diff → FitsSigned w64 err → ticket < 2 ^ 16
+    → rest ≡ decimal p.0 ++ 32 ∷ (decimal counter ++ 32 ∷ (signed_decimal diff ++ 32 ∷ (signed_decimal err ++ 32 ∷ decimal ticket))) →
+    Holds (Sample p counter diff err ticket))
 sample_case Holds rest (Sample p counter diff err ticket) i v r h = h p counter diff err ticket i.0 i.1 i.2 i.3 i.4 r
 sample_case Holds rest a i v r h = absurd (told_apart (is SampleWord) SampleWord (verb_of a) refl refl v)
 
@@ -99,7 +105,8 @@ correct_is : (amount shown : List ℕ) (stepped : Bool) → (amount ++ way_word 
 correct_is amount shown stepped = append_assoc amount (way_word stepped) shown ∙ ap (λ w. amount ++ w) (way_shown stepped shown)
 
 -- the text of an act that isn't one word is a word, a space, and what follows it
-pub act_joined : (number : ℕ) (a : Act) → BootWord ≢ verb_of a → AbandonWord ≢ verb_of a → act_text number a ≡ verb_word (verb_of a) ++ 32 ∷ rest_of_act number a
+pub act_joined : (number : ℕ) (a : Act) → BootWord ≢ verb_of a → AbandonWord ≢ verb_of a → act_text number a ≡ verb_word (verb_of a) ++ 32 ∷
+    rest_of_act number a
 unfolding verb_word
 act_joined number Boot n m = absurd (n refl)
 act_joined number (Took from taken) n m = simp append_assoc
@@ -132,14 +139,18 @@ pub act_splits : (number : ℕ) (a : Act) → Splits (act_text number a) (verb_w
 unfolding verb_word
 act_splits number Boot = (refl, refl)
 act_splits number Abandon = (refl, refl)
-act_splits number a = cut_front (act_text number a) (verb_word (verb_of a)) (rest_of_act number a) (no_space-spaceless (verb_word (verb_of a)) (spaceless-verb (verb_of a))) (act_joined number a (told_apart is_boot BootWord (verb_of a) refl refl) (told_apart is_abandon AbandonWord (verb_of a) refl refl))
+act_splits number a = cut_front (act_text number a) (verb_word (verb_of a)) (rest_of_act number a)
+    (no_space-spaceless (verb_word (verb_of a)) (spaceless-verb (verb_of a))) (act_joined number a (told_apart is_boot BootWord (verb_of a) refl refl)
+    (told_apart is_abandon AbandonWord (verb_of a) refl refl))
 
 -- an act whose text has no space is `boot` or `abandon`
-pub lone_case : (Holds : ℕ → Act → Type 0) (text : List ℕ) (number : ℕ) (a : Act) → IsNumberOf a number → ((word rest : List ℕ) → text ≡ word ++ 32 ∷ rest → ⊥) → text ≡ act_text number a
+pub lone_case : (Holds : ℕ → Act → Type 0) (text : List ℕ) (number : ℕ) (a : Act) → IsNumberOf a number → ((word rest : List ℕ) → text ≡ word ++ 32 ∷ rest →
+    ⊥) → text ≡ act_text number a
     → (text ≡ act_text 0 Boot → Holds 0 Boot) → (text ≡ act_text 0 Abandon → Holds 0 Abandon) → Holds number a
 lone_case Holds text number Boot n none e boot abandon = subst (λ k. Holds k Boot) (sym n) (boot e)
 lone_case Holds text number Abandon n none e boot abandon = subst (λ k. Holds k Abandon) (sym n) (abandon e)
-lone_case Holds text number a n none e boot abandon = absurd (none (verb_word (verb_of a)) (rest_of_act number a) (e ∙ act_joined number a (told_apart is_boot BootWord (verb_of a) refl refl) (told_apart is_abandon AbandonWord (verb_of a) refl refl)))
+lone_case Holds text number a n none e boot abandon = absurd (none (verb_word (verb_of a)) (rest_of_act number a) (e ∙
+    act_joined number a (told_apart is_boot BootWord (verb_of a) refl refl) (told_apart is_abandon AbandonWord (verb_of a) refl refl)))
 
 -- what stands behind the first, the second and the third number of a trace's line
 abbrev pub behind_port : Line2 → List ℕ
@@ -156,24 +167,35 @@ pub trace_parts : (l : Line2) → trace_text l.event l.node l.tick l.number l.pl
 trace_parts l = simp append_assoc
 
 -- a line of equal parts
-pub line_of_parts : (event node port tick number : ℕ) (act : Act) (l : Line2) → event ≡ l.event → node ≡ l.node → port ≡ l.placed.port.0 → tick ≡ l.tick → number ≡ l.number → act ≡ l.placed.act →
+pub line_of_parts : (event node port tick number : ℕ) (act : Act) (l : Line2) → event ≡ l.event → node ≡ l.node → port ≡ l.placed.port.0 → tick ≡ l.tick →
+    number ≡ l.number → act ≡ l.placed.act →
     Some (record { event = event; node = node; tick = tick; number = number; placed = record { port = record { 0 = port }; act = act } }) ≡ Some l
 line_of_parts event node port tick number act l a b c d e f = rw (a, b, c, d, e, f) refl
 
 -- a line of numbers and an act's text
-pub line_found : (line a b c d : List ℕ) (l : Line2) → line ≡ decimal l.event ++ 32 ∷ a → a ≡ decimal l.node ++ 32 ∷ b → b ≡ decimal l.placed.port.0 ++ 32 ∷ c → c ≡ decimal l.tick ++ 32 ∷ d → d ≡ act_text l.number l.placed.act
+pub line_found : (line a b c d : List ℕ) (l : Line2) → line ≡ decimal l.event ++ 32 ∷ a → a ≡ decimal l.node ++ 32 ∷ b → b ≡ decimal l.placed.port.0 ++ 32 ∷ c →
+    c ≡ decimal l.tick ++ 32 ∷ d → d ≡ act_text l.number l.placed.act
     → line ≡ trace_text l.event l.node l.tick l.number l.placed
 line_found line a b c d l e f g h i = e ∙ rw (f, g, h, i) (sym (trace_parts l))
 
 -- a word, a space and what follows are the text of an act that isn't one word
-pub joined_found : (text word rest : List ℕ) (v : Verb) (number : ℕ) (a : Act) → text ≡ word ++ 32 ∷ rest → word ≡ verb_word v → SpellsRest v number rest a → v ≢ BootWord → v ≢ AbandonWord → text ≡ act_text number a
+pub joined_found : (text word rest : List ℕ) (v : Verb) (number : ℕ) (a : Act) → text ≡ word ++ 32 ∷ rest → word ≡ verb_word v → SpellsRest v number rest a →
+    v ≢ BootWord → v ≢ AbandonWord → text ≡ act_text number a
 joined_found text word rest v number a l w s n m = l ∙ rw (w, s.0, s.1) (sym (act_joined number a (λ b. n (s.0 ∙ sym b)) (λ b. m (s.0 ∙ sym b))))
 
 -- an act whose text has a space is neither `boot` nor `abandon`
-pub not_lone : (text word rest : List ℕ) (v : Verb) (number : ℕ) (a : Act) → v ≡ verb_of a → text ≡ act_text number a → text ≡ word ++ 32 ∷ rest → (v ≢ BootWord) × (v ≢ AbandonWord)
+pub not_lone : (text word rest : List ℕ) (v : Verb) (number : ℕ) (a : Act) → v ≡ verb_of a → text ≡ act_text number a → text ≡ word ++ 32 ∷ rest →
+    (v ≢ BootWord) × (v ≢ AbandonWord)
 not_lone text word rest v number Boot w e l = (λ b. no_space-spaceless (codes "boot") refl (space_inside (codes "boot") word rest (sym e ∙ l)), λ b. cc)
-not_lone text word rest v number Abandon w e l = (λ b. cc, λ b. no_space-spaceless (codes "abandon") refl (space_inside (codes "abandon") word rest (sym e ∙ l)))
-not_lone text word rest v number a w e l = (λ b. told_apart is_boot BootWord (verb_of a) refl refl (sym b ∙ w), λ b. told_apart is_abandon AbandonWord (verb_of a) refl refl (sym b ∙ w))
+not_lone text word rest v number Abandon w e l = (
+  λ b. cc,
+  λ b. no_space-spaceless (codes "abandon") refl (space_inside (codes "abandon") word rest (sym e ∙
+      l)),
+)
+not_lone text word rest v number a w e l = (
+  λ b. told_apart is_boot BootWord (verb_of a) refl refl (sym b ∙ w),
+  λ b. told_apart is_abandon AbandonWord (verb_of a) refl refl (sym b ∙ w),
+)
 
 kind_word-not_refused : (k : Kind) → kind_word k ≡ codes "refused" → ⊥
 unfolding kind_word
@@ -187,24 +209,32 @@ reply_not_refused word a b = cc
 
 -- no datagram's line begins with `refused`
 pub not_refused : (text : List ℕ) (d : Datagram) → text ≡ message_text d → first_word text ≡ codes "refused" → ⊥
-not_refused text (Message m) t w = kind_word-not_refused m.kind (sym (cut_front text (kind_word m.kind) (message_rest m) (no_space-kind_word m.kind) (t ∙ simp append_assoc)).0 ∙ w)
-not_refused text (Stamp (Request word counter)) t w = request_not_refused (first_word text) (cut_front text (codes "request") (request_rest word counter) (no_space-spaceless (codes "request") refl) (t ∙ simp append_assoc)).0 w
-not_refused text (Stamp (Reply r)) t w = reply_not_refused (first_word text) (cut_front text (codes "reply") (reply_rest r) (no_space-spaceless (codes "reply") refl) (t ∙ simp append_assoc)).0 w
+not_refused text (Message m) t w = kind_word-not_refused m.kind (sym (cut_front text (kind_word m.kind) (message_rest m) (no_space-kind_word m.kind) (t ∙
+    simp append_assoc)).0 ∙ w)
+not_refused text (Stamp (Request word counter)) t w = request_not_refused (first_word text) (cut_front text (codes "request") (request_rest word counter)
+    (no_space-spaceless (codes "request") refl) (t ∙ simp append_assoc)).0 w
+not_refused text (Stamp (Reply r)) t w = reply_not_refused (first_word text) (cut_front text (codes "reply") (reply_rest r)
+    (no_space-spaceless (codes "reply") refl) (t ∙ simp append_assoc)).0 w
 
 -- behind `refused` stands a fault
-pub refused_case : (Holds : Taken → Type 0) (text rest : List ℕ) (t : Taken) → text ≡ taken_text t → text ≡ codes "refused " ++ rest → ((f : DecodeFault) → rest ≡ fault_word f → Holds (Bad f)) → Holds t
-refused_case Holds text rest (Good d) e w h = absurd (not_refused text d e (cut_front text (codes "refused") rest (no_space-spaceless (codes "refused") refl) w).0)
+pub refused_case : (Holds : Taken → Type 0) (text rest : List ℕ) (t : Taken) → text ≡ taken_text t → text ≡ codes "refused " ++ rest →
+    ((f : DecodeFault) → rest ≡ fault_word f → Holds (Bad f)) → Holds t
+refused_case Holds text rest (Good d) e w h = absurd (not_refused text d e (cut_front text (codes "refused") rest (no_space-spaceless (codes "refused") refl)
+    w).0)
 refused_case Holds text rest (Bad f) e w h = h f (append_cancel_left (codes "refused ") _ _ (sym w ∙ e))
 
 -- acts of equal parts
-pub sample_of_parts : (n counter : ℕ) (diff err : ℤ) (ticket : ℕ) (p : PeerId) (other : ℕ) (near wide : ℤ) (drawn : ℕ) → n ≡ p.0 → counter ≡ other → diff ≡ near → err ≡ wide → ticket ≡ drawn
+pub sample_of_parts : (n counter : ℕ) (diff err : ℤ) (ticket : ℕ) (p : PeerId) (other : ℕ) (near wide : ℤ) (drawn : ℕ) → n ≡ p.0 → counter ≡ other → diff ≡
+    near → err ≡ wide → ticket ≡ drawn
     → Sample (record { 0 = n }) counter diff err ticket ≡ Sample p other near wide drawn
 sample_of_parts n counter diff err ticket p other near wide drawn a b x y z = rw (a, b, x, y, z) refl
 
-pub close_of_parts : (count : ℕ) (lo width mean : ℤ) (other : ℕ) (least wide middle : ℤ) → count ≡ other → lo ≡ least → width ≡ wide → mean ≡ middle → Close count lo width mean ≡ Close other least wide middle
+pub close_of_parts : (count : ℕ) (lo width mean : ℤ) (other : ℕ) (least wide middle : ℤ) → count ≡ other → lo ≡ least → width ≡ wide → mean ≡ middle →
+    Close count lo width mean ≡ Close other least wide middle
 close_of_parts count lo width mean other least wide middle a b x y = rw (a, b, x, y) refl
 
-pub correct_of_parts : (amount : ℤ) (stepped : Bool) (shown other : ℤ) (way : Bool) (last : ℤ) → amount ≡ other → stepped ≡ way → shown ≡ last → Correct amount stepped shown ≡ Correct other way last
+pub correct_of_parts : (amount : ℤ) (stepped : Bool) (shown other : ℤ) (way : Bool) (last : ℤ) → amount ≡ other → stepped ≡ way → shown ≡ last →
+    Correct amount stepped shown ≡ Correct other way last
 correct_of_parts amount stepped shown other way last a b x = rw (a, b, x) refl
 
 -- the words of a correction's way have no space

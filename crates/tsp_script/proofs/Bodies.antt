@@ -33,7 +33,8 @@ hops_body k Nothing h f = absurd (neither_hops (carries_time k) (carries_hops k)
 hops_body k (TimeBody t) h f = absurd (not_both k f h)
 hops_body k (Hops n) h f = tt
 
-pub no_body : (k : Kind) (b : Body) (line rest : List ℕ) → carries_time k ≡ false → carries_hops k ≡ false → body_fits k b ≡ true → line ≡ body_text b ++ rest → (Nothing ≡ b) × (line ≡ rest)
+pub no_body : (k : Kind) (b : Body) (line rest : List ℕ) → carries_time k ≡ false → carries_hops k ≡ false → body_fits k b ≡ true → line ≡ body_text b ++ rest →
+    (Nothing ≡ b) × (line ≡ rest)
 unfolding body_fits
 no_body k Nothing line rest g h f e = (refl, e)
 no_body k (TimeBody t) line rest g h f e = absurd (true_or_false (carries_time k) f g)

@@ -25,14 +25,16 @@ after_mark-other : (m c : ℕ) (cs : List ℕ) → c ≢ m → after_mark m (c �
 after_mark-other m c cs h = grind arith
 
 -- a line with its first mark at a place
-pub before_mark-at : (m : ℕ) (line : List ℕ) (i : ℕ) → i < length line → ¬ Contains (take i line) m → slice_index_or line i 0 ≡ m → before_mark m line ≡ take i line
+pub before_mark-at : (m : ℕ) (line : List ℕ) (i : ℕ) → i < length line → ¬ Contains (take i line) m → slice_index_or line i 0 ≡ m → before_mark m line ≡
+    take i line
 before_mark-at m [] i h n e = absurd (omega arith)
 before_mark-at m (c ∷ cs) zero h n e = before_mark-mark m c cs e
 before_mark-at m (c ∷ cs) (suc i) h n e =
     let ne : c ≢ m = λ q. n (contains_first m (take i cs) c q) in
     before_mark-other m c cs ne ∙ ap (λ xs. c ∷ xs) (before_mark-at m cs i (omega arith) (λ k. n (contains_later m (take i cs) c k)) e)
 
-pub after_mark-at : (m : ℕ) (line : List ℕ) (i : ℕ) → i < length line → ¬ Contains (take i line) m → slice_index_or line i 0 ≡ m → after_mark m line ≡ drop (suc i) line
+pub after_mark-at : (m : ℕ) (line : List ℕ) (i : ℕ) → i < length line → ¬ Contains (take i line) m → slice_index_or line i 0 ≡ m → after_mark m line ≡
+    drop (suc i) line
 after_mark-at m [] i h n e = absurd (omega arith)
 after_mark-at m (c ∷ cs) zero h n e = after_mark-mark m c cs e
 after_mark-at m (c ∷ cs) (suc i) h n e =
@@ -77,7 +79,8 @@ pub line_of_marks : (m : ℕ) (line : List ℕ) → 0 < length (after_mark m lin
 line_of_marks m [] h = absurd (omega arith)
 line_of_marks m (c ∷ cs) h = elim (eqb_tells c m) [
   | inl e ↦ rw (before_mark-mark m c cs e.1, after_mark-mark m c cs e.1) (ap (λ x. x ∷ cs) e.1)
-  | inr e ↦ rw (before_mark-other m c cs e.1, after_mark-other m c cs e.1) (ap (λ xs. c ∷ xs) (line_of_marks m cs (let k = h in rw (after_mark-other m c cs e.1) at k)))
+  | inr e ↦ rw (before_mark-other m c cs e.1, after_mark-other m c cs e.1) (ap (λ xs. c ∷
+      xs) (line_of_marks m cs (let k = h in rw (after_mark-other m c cs e.1) at k)))
 ]
 
 -- a line with a mark at a place
@@ -141,7 +144,8 @@ numbers_apart m n r s h k e =
     (decimal_injective m n h k p.0, p.1)
 
 -- numbers with their signs in front of a space
-pub signs_apart : (t u : ℤ) (r s : List ℕ) → FitsSigned w64 t → FitsSigned w64 u → mag t < 2 ^ 63 → mag u < 2 ^ 63 → signed_decimal t ++ 32 ∷ r ≡ signed_decimal u ++ 32 ∷ s → (t ≡ u) × (r ≡ s)
+pub signs_apart : (t u : ℤ) (r s : List ℕ) → FitsSigned w64 t → FitsSigned w64 u → mag t < 2 ^ 63 → mag u < 2 ^ 63 → signed_decimal t ++ 32 ∷ r ≡
+    signed_decimal u ++ 32 ∷ s → (t ≡ u) × (r ≡ s)
 signs_apart t u r s h k l m e =
     let p = words_apart (signed_decimal t) (signed_decimal u) r s (no_space-signed t h) (no_space-signed u k) e in
     (signed_decimal_injective t u l m p.0, p.1)

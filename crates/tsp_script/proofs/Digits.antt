@@ -14,7 +14,8 @@ decimal-digit n d some small low high =
     rw (q, r) at s
 
 -- one digit more of those behind a number
-pub digits-more : (front n k : ℕ) (ds : List ℕ) → k < length ds → 0 < n → n ≤ 1000000000000000000 → 48 ≤ slice_index_or ds k 0 → slice_index_or ds k 0 < 58 → decimal n ≡ decimal front ++ take k ds
+pub digits-more : (front n k : ℕ) (ds : List ℕ) → k < length ds → 0 < n → n ≤ 1000000000000000000 → 48 ≤ slice_index_or ds k 0 → slice_index_or ds k 0 < 58 →
+    decimal n ≡ decimal front ++ take k ds
     → decimal (n * 10 + (slice_index_or ds k 0 - 48)) ≡ decimal front ++ take (k + 1) ds
 digits-more front n k ds h some small low high e =
     let s = decimal-digit n (slice_index_or ds k 0) some small low high in
@@ -77,8 +78,11 @@ pairs_value a b c d e f g h w a' b' c' d' e' f' g' h' is =
     let top : ℕ = h * 10 * 256 + (g * 10 + h) in
     let shifted : w / 256 ≡ (((((h * 256 + g) * 256 + f) * 256 + e) * 256 + d) * 256 + c) * 256 + b = omega arith in
     let whole : w * 10 + w / 256 ≡ ((top * 65536 + third) * 65536 + next) * 65536 + low = omega arith in
-    let s : bit_and (((top * 65536 + third) * 65536 + next) * 65536 + low) 0x00FF00FF00FF00FF ≡ bit_and ((top * 65536 + third) * 65536 + next) 0xFF00FF00FF * 65536 + low % 256 = low_octet ((top * 65536 + third) * 65536 + next) low 0xFF00FF00FF (omega arith) in
-    let t : bit_and ((top * 65536 + third) * 65536 + next) 0xFF00FF00FF ≡ bit_and (top * 65536 + third) 0xFF00FF * 65536 + next % 256 = low_octet (top * 65536 + third) next 0xFF00FF (omega arith) in
+    let s : bit_and (((top * 65536 + third) * 65536 + next) * 65536 + low) 0x00FF00FF00FF00FF ≡
+    bit_and ((top * 65536 + third) * 65536 + next) 0xFF00FF00FF * 65536 + low % 256 =
+    low_octet ((top * 65536 + third) * 65536 + next) low 0xFF00FF00FF (omega arith) in
+    let t : bit_and ((top * 65536 + third) * 65536 + next) 0xFF00FF00FF ≡ bit_and (top * 65536 + third) 0xFF00FF * 65536 + next % 256 =
+    low_octet (top * 65536 + third) next 0xFF00FF (omega arith) in
     let u : bit_and (top * 65536 + third) 0xFF00FF ≡ bit_and top 255 * 65536 + third % 256 = low_octet top third 255 (omega arith) in
     let v : bit_and top 255 ≡ top % 256 = and_mask top 8 in
     ap (λ (x : ℕ). bit_and x 0x00FF00FF00FF00FF) whole ∙ omega (arith, s, t, u, v)
@@ -91,7 +95,8 @@ fours_value a b c d p a' b' c' d' is =
     let top : ℕ = d * 100 * 65536 + (c * 100 + d) in
     let shifted : p / 65536 ≡ (d * 65536 + c) * 65536 + b = omega arith in
     let whole : p * 100 + p / 65536 ≡ top * 4294967296 + low = omega arith in
-    let s : bit_and (top * 4294967296 + low) 0x0000FFFF0000FFFF ≡ bit_and top 65535 * 4294967296 + bit_and low 65535 = and_block 32 top 65535 low 65535 (omega arith) (omega arith) in
+    let s : bit_and (top * 4294967296 + low) 0x0000FFFF0000FFFF ≡ bit_and top 65535 * 4294967296 + bit_and low 65535 =
+    and_block 32 top 65535 low 65535 (omega arith) (omega arith) in
     let t : bit_and low 65535 ≡ low % 65536 = and_mask low 16 in
     let u : bit_and top 65535 ≡ top % 65536 = and_mask top 16 in
     ap (λ (x : ℕ). bit_and x 0x0000FFFF0000FFFF) whole ∙ omega (arith, s, t, u)
@@ -118,10 +123,12 @@ abbrev Grown : ℕ → ℕ → ℕ → ℕ → List ℕ → Type 0
 Grown front n k most ds = (0 < n) × (n ≤ most) × (decimal n ≡ decimal front ++ take k ds)
 
 -- one digit more
-grow : (front n k most : ℕ) (ds : List ℕ) → k < 8 → 8 ≤ length ds → most ≤ 1000000000000000000 → IsDigit (slice_index_or ds k 0) → Grown front n k most ds → Grown front (n * 10 + (slice_index_or ds k 0 - 48)) (k + 1) (most * 10 + 9) ds
+grow : (front n k most : ℕ) (ds : List ℕ) → k < 8 → 8 ≤ length ds → most ≤ 1000000000000000000 → IsDigit (slice_index_or ds k 0) → Grown front n k most ds →
+    Grown front (n * 10 + (slice_index_or ds k 0 - 48)) (k + 1) (most * 10 + 9) ds
 grow front n k most ds k' l small d g = (omega arith, omega arith, digits-more front n k ds (omega arith) g.0 (omega arith) d.0 d.1 g.2)
 
-joined_eight : (front n a b c d e f g h : ℕ) → n ≡ eight_value a b c d e f g h → front * 100000000 + n ≡ (((((((front * 10 + a) * 10 + b) * 10 + c) * 10 + d) * 10 + e) * 10 + f) * 10 + g) * 10 + h
+joined_eight : (front n a b c d e f g h : ℕ) → n ≡ eight_value a b c d e f g h → front * 100000000 + n ≡
+    (((((((front * 10 + a) * 10 + b) * 10 + c) * 10 + d) * 10 + e) * 10 + f) * 10 + g) * 10 + h
 joined_eight front n a b c d e f g h is = omega (arith, is)
 
 -- eight digits behind a number
@@ -144,22 +151,28 @@ eight_more front n ds l some small a b c d e f g h is =
 
 -- the first eight of some octets are in the half of the digits
 abbrev pub AreHigh : List ℕ → Type 0
-AreHigh ds = (IsHigh (slice_index_or ds 0 0) × IsHigh (slice_index_or ds 1 0) × IsHigh (slice_index_or ds 2 0) × IsHigh (slice_index_or ds 3 0)) × (IsHigh (slice_index_or ds 4 0) × IsHigh (slice_index_or ds 5 0) × IsHigh (slice_index_or ds 6 0) × IsHigh (slice_index_or ds 7 0))
+AreHigh ds = (IsHigh (slice_index_or ds 0 0) × IsHigh (slice_index_or ds 1 0) × IsHigh (slice_index_or ds 2 0) × IsHigh (slice_index_or ds 3 0)) ×
+    (IsHigh (slice_index_or ds 4 0) × IsHigh (slice_index_or ds 5 0) × IsHigh (slice_index_or ds 6 0) × IsHigh (slice_index_or ds 7 0))
 
 -- they are digits
 abbrev pub AreDigits : List ℕ → Type 0
-AreDigits ds = (IsDigit (slice_index_or ds 0 0) × IsDigit (slice_index_or ds 1 0) × IsDigit (slice_index_or ds 2 0) × IsDigit (slice_index_or ds 3 0)) × (IsDigit (slice_index_or ds 4 0) × IsDigit (slice_index_or ds 5 0) × IsDigit (slice_index_or ds 6 0) × IsDigit (slice_index_or ds 7 0))
+AreDigits ds = (IsDigit (slice_index_or ds 0 0) × IsDigit (slice_index_or ds 1 0) × IsDigit (slice_index_or ds 2 0) × IsDigit (slice_index_or ds 3 0)) ×
+    (IsDigit (slice_index_or ds 4 0) × IsDigit (slice_index_or ds 5 0) × IsDigit (slice_index_or ds 6 0) × IsDigit (slice_index_or ds 7 0))
 
-pub high_word : (ds : List ℕ) (word : ℕ) → ((k : ℕ) → Fits w8 (slice_index_or ds k 0)) → word ≡ word_at ds → bit_and word 0xF0F0F0F0F0F0F0F0 ≡ 0x3030303030303030 → AreHigh ds
+pub high_word : (ds : List ℕ) (word : ℕ) → ((k : ℕ) → Fits w8 (slice_index_or ds k 0)) → word ≡ word_at ds → bit_and word 0xF0F0F0F0F0F0F0F0 ≡
+    0x3030303030303030 → AreHigh ds
 high_word ds word fits is high =
-    all_high (slice_index_or ds 0 0) (slice_index_or ds 1 0) (slice_index_or ds 2 0) (slice_index_or ds 3 0) (slice_index_or ds 4 0) (slice_index_or ds 5 0) (slice_index_or ds 6 0) (slice_index_or ds 7 0)
-    (fits 0).fits (fits 1).fits (fits 2).fits (fits 3).fits (fits 4).fits (fits 5).fits (fits 6).fits (fits 7).fits (ap (λ (x : ℕ). bit_and x 0xF0F0F0F0F0F0F0F0) (sym is) ∙ high)
+    all_high (slice_index_or ds 0 0) (slice_index_or ds 1 0) (slice_index_or ds 2 0) (slice_index_or ds 3 0) (slice_index_or ds 4 0) (slice_index_or ds 5 0)
+    (slice_index_or ds 6 0) (slice_index_or ds 7 0)
+    (fits 0).fits (fits 1).fits (fits 2).fits (fits 3).fits (fits 4).fits (fits 5).fits (fits 6).fits (fits 7).fits
+    (ap (λ (x : ℕ). bit_and x 0xF0F0F0F0F0F0F0F0) (sym is) ∙ high)
 
 -- two words of which one is octet by octet at most the other, and one by so much more
 more_le : (x y a i : ℕ) → x ≤ y → a ≤ i → x * 256 + a ≤ y * 256 + i
 more_le x y a i h k = omega arith
 
-octets_le : (a b c d e f g h i j l m n o p q : ℕ) → a ≤ i → b ≤ j → c ≤ l → d ≤ m → e ≤ n → f ≤ o → g ≤ p → h ≤ q → octets_word a b c d e f g h ≤ octets_word i j l m n o p q
+octets_le : (a b c d e f g h i j l m n o p q : ℕ) → a ≤ i → b ≤ j → c ≤ l → d ≤ m → e ≤ n → f ≤ o → g ≤ p → h ≤ q →
+    octets_word a b c d e f g h ≤ octets_word i j l m n o p q
 octets_le a b c d e f g h i j l m n o p q a' b' c' d' e' f' g' h' =
     more_le _ _ a i (more_le _ _ b j (more_le _ _ c l (more_le _ _ d m (more_le _ _ e n (more_le _ _ f o (more_le h q g p h' g') f') e') d') c') b') a'
 
@@ -169,7 +182,8 @@ more_sum x y z a i k h e = omega arith
 octets_sum : (k a b c d e f g h i j l m n o p q : ℕ) → a ≡ i + k → b ≡ j + k → c ≡ l + k → d ≡ m + k → e ≡ n + k → f ≡ o + k → g ≡ p + k → h ≡ q + k
     → octets_word a b c d e f g h ≡ octets_word i j l m n o p q + octets_word k k k k k k k k
 octets_sum k a b c d e f g h i j l m n o p q a' b' c' d' e' f' g' h' =
-    more_sum _ _ _ a i k (more_sum _ _ _ b j k (more_sum _ _ _ c l k (more_sum _ _ _ d m k (more_sum _ _ _ e n k (more_sum _ _ _ f o k (more_sum h q k g p k h' g') f') e') d') c') b') a'
+    more_sum _ _ _ a i k (more_sum _ _ _ b j k (more_sum _ _ _ c l k (more_sum _ _ _ d m k
+    (more_sum _ _ _ e n k (more_sum _ _ _ f o k (more_sum h q k g p k h' g') f') e') d') c') b') a'
 
 high_top : (b : ℕ) → IsHigh b → b ≤ 63
 high_top b h = omega (arith, h.1)
@@ -177,20 +191,31 @@ high_top b h = omega (arith, h.1)
 -- how large the word of such octets is
 pub high_word-bounds : (ds : List ℕ) (word : ℕ) → word ≡ word_at ds → AreHigh ds → (3472328296227680304 ≤ word) × (word < 4629771061636907072)
 high_word-bounds ds word is p =
-    let low : octets_word 48 48 48 48 48 48 48 48 ≤ word_at ds = octets_le 48 48 48 48 48 48 48 48 _ _ _ _ _ _ _ _ p.0.0.0 p.0.1.0 p.0.2.0 p.0.3.0 p.1.0.0 p.1.1.0 p.1.2.0 p.1.3.0 in
-    let high : word_at ds ≤ octets_word 63 63 63 63 63 63 63 63 = octets_le _ _ _ _ _ _ _ _ 63 63 63 63 63 63 63 63 (high_top _ p.0.0) (high_top _ p.0.1) (high_top _ p.0.2) (high_top _ p.0.3) (high_top _ p.1.0) (high_top _ p.1.1) (high_top _ p.1.2) (high_top _ p.1.3) in
+    let low : octets_word 48 48 48 48 48 48 48 48 ≤ word_at ds = octets_le 48 48 48 48 48 48 48 48 _ _ _ _ _ _ _ _ p.0.0.0 p.0.1.0 p.0.2.0 p.0.3.0 p.1.0.0
+    p.1.1.0 p.1.2.0 p.1.3.0 in
+    let high : word_at ds ≤ octets_word 63 63 63 63 63 63 63 63 = octets_le _ _ _ _ _ _ _ _ 63 63 63 63 63 63 63 63 (high_top _ p.0.0) (high_top _ p.0.1)
+    (high_top _ p.0.2) (high_top _ p.0.3) (high_top _ p.1.0) (high_top _ p.1.1) (high_top _ p.1.2) (high_top _ p.1.3) in
     bounds_of word (word_at ds) is low high
   where
     bounds_of : (w v : ℕ) → w ≡ v → 3472328296227680304 ≤ v → v ≤ 4557430888798830399 → (3472328296227680304 ≤ w) × (w < 4629771061636907072)
     bounds_of w v e l h = (omega arith, omega arith)
 
-pub digits_word : (ds : List ℕ) (word : ℕ) → ((k : ℕ) → Fits w8 (slice_index_or ds k 0)) → word ≡ word_at ds → AreHigh ds → bit_and (word + 0x0606060606060606) 0xF0F0F0F0F0F0F0F0 ≡ 0x3030303030303030 → AreDigits ds
+pub digits_word : (ds : List ℕ) (word : ℕ) → ((k : ℕ) → Fits w8 (slice_index_or ds k 0)) → word ≡ word_at ds → AreHigh ds →
+    bit_and (word + 0x0606060606060606) 0xF0F0F0F0F0F0F0F0 ≡ 0x3030303030303030 → AreDigits ds
 digits_word ds word fits is p high =
-    let more = octets_sum 6 (slice_index_or ds 0 0 + 6) (slice_index_or ds 1 0 + 6) (slice_index_or ds 2 0 + 6) (slice_index_or ds 3 0 + 6) (slice_index_or ds 4 0 + 6) (slice_index_or ds 5 0 + 6) (slice_index_or ds 6 0 + 6) (slice_index_or ds 7 0 + 6) _ _ _ _ _ _ _ _ refl refl refl refl refl refl refl refl in
-    let sum : word + 0x0606060606060606 ≡ octets_word (slice_index_or ds 0 0 + 6) (slice_index_or ds 1 0 + 6) (slice_index_or ds 2 0 + 6) (slice_index_or ds 3 0 + 6) (slice_index_or ds 4 0 + 6) (slice_index_or ds 5 0 + 6) (slice_index_or ds 6 0 + 6) (slice_index_or ds 7 0 + 6) = ap (λ (x : ℕ). x + 0x0606060606060606) is ∙ sym more in
-    let q = all_high (slice_index_or ds 0 0 + 6) (slice_index_or ds 1 0 + 6) (slice_index_or ds 2 0 + 6) (slice_index_or ds 3 0 + 6) (slice_index_or ds 4 0 + 6) (slice_index_or ds 5 0 + 6) (slice_index_or ds 6 0 + 6) (slice_index_or ds 7 0 + 6)
-    (omega (arith, p.0.0.1)) (omega (arith, p.0.1.1)) (omega (arith, p.0.2.1)) (omega (arith, p.0.3.1)) (omega (arith, p.1.0.1)) (omega (arith, p.1.1.1)) (omega (arith, p.1.2.1)) (omega (arith, p.1.3.1)) (ap (λ (x : ℕ). bit_and x 0xF0F0F0F0F0F0F0F0) (sym sum) ∙ high) in
-    (((p.0.0.0, omega (arith, q.0.0.1)), (p.0.1.0, omega (arith, q.0.1.1)), (p.0.2.0, omega (arith, q.0.2.1)), (p.0.3.0, omega (arith, q.0.3.1))), ((p.1.0.0, omega (arith, q.1.0.1)), (p.1.1.0, omega (arith, q.1.1.1)), (p.1.2.0, omega (arith, q.1.2.1)), (p.1.3.0, omega (arith, q.1.3.1))))
+    let more = octets_sum 6 (slice_index_or ds 0 0 + 6) (slice_index_or ds 1 0 + 6) (slice_index_or ds 2 0 + 6) (slice_index_or ds 3 0 + 6)
+    (slice_index_or ds 4 0 + 6) (slice_index_or ds 5 0 + 6) (slice_index_or ds 6 0 + 6) (slice_index_or ds 7 0 + 6) _ _ _ _ _ _ _ _ refl refl refl refl refl
+    refl refl refl in
+    let sum : word + 0x0606060606060606 ≡ octets_word (slice_index_or ds 0 0 + 6) (slice_index_or ds 1 0 + 6) (slice_index_or ds 2 0 + 6)
+    (slice_index_or ds 3 0 + 6) (slice_index_or ds 4 0 + 6) (slice_index_or ds 5 0 + 6) (slice_index_or ds 6 0 + 6) (slice_index_or ds 7 0 + 6) =
+    ap (λ (x : ℕ). x + 0x0606060606060606) is ∙ sym more in
+    let q = all_high (slice_index_or ds 0 0 + 6) (slice_index_or ds 1 0 + 6) (slice_index_or ds 2 0 + 6) (slice_index_or ds 3 0 + 6) (slice_index_or ds 4 0 + 6)
+    (slice_index_or ds 5 0 + 6) (slice_index_or ds 6 0 + 6) (slice_index_or ds 7 0 + 6)
+    (omega (arith, p.0.0.1)) (omega (arith, p.0.1.1)) (omega (arith, p.0.2.1)) (omega (arith, p.0.3.1)) (omega (arith, p.1.0.1)) (omega (arith, p.1.1.1))
+    (omega (arith, p.1.2.1)) (omega (arith, p.1.3.1)) (ap (λ (x : ℕ). bit_and x 0xF0F0F0F0F0F0F0F0) (sym sum) ∙ high) in (
+      ((p.0.0.0, omega (arith, q.0.0.1)), (p.0.1.0, omega (arith, q.0.1.1)), (p.0.2.0, omega (arith, q.0.2.1)), (p.0.3.0, omega (arith, q.0.3.1))),
+      ((p.1.0.0, omega (arith, q.1.0.1)), (p.1.1.0, omega (arith, q.1.1.1)), (p.1.2.0, omega (arith, q.1.2.1)), (p.1.3.0, omega (arith, q.1.3.1))),
+    )
 
 -- a digit's octet is its value and 48
 octet_of_value : (b : ℕ) → IsDigit b → (b ≡ (b - 48) + 48) × (b - 48 < 10)
@@ -203,7 +228,9 @@ value_top : (x : ℕ) → x < 10 → x ≤ 9
 value_top x h = omega arith
 
 -- the word of the digits' values
-pub values_word : (ds : List ℕ) (word : ℕ) → word ≡ word_at ds → AreDigits ds → (word - 3472328296227680304 ≤ 651061555542690057) × (word - 3472328296227680304 ≡ octets_word (slice_index_or ds 0 0 - 48) (slice_index_or ds 1 0 - 48) (slice_index_or ds 2 0 - 48) (slice_index_or ds 3 0 - 48) (slice_index_or ds 4 0 - 48) (slice_index_or ds 5 0 - 48) (slice_index_or ds 6 0 - 48) (slice_index_or ds 7 0 - 48))
+pub values_word : (ds : List ℕ) (word : ℕ) → word ≡ word_at ds → AreDigits ds → (word - 3472328296227680304 ≤ 651061555542690057) ×
+    (word - 3472328296227680304 ≡ octets_word (slice_index_or ds 0 0 - 48) (slice_index_or ds 1 0 - 48) (slice_index_or ds 2 0 - 48)
+    (slice_index_or ds 3 0 - 48) (slice_index_or ds 4 0 - 48) (slice_index_or ds 5 0 - 48) (slice_index_or ds 6 0 - 48) (slice_index_or ds 7 0 - 48))
 values_word ds word is p =
     let a = octet_of_value (slice_index_or ds 0 0) p.0.0 in
     let b = octet_of_value (slice_index_or ds 1 0) p.0.1 in
@@ -213,14 +240,22 @@ values_word ds word is p =
     let f = octet_of_value (slice_index_or ds 5 0) p.1.1 in
     let g = octet_of_value (slice_index_or ds 6 0) p.1.2 in
     let h = octet_of_value (slice_index_or ds 7 0) p.1.3 in
-    let values : ℕ = octets_word (slice_index_or ds 0 0 - 48) (slice_index_or ds 1 0 - 48) (slice_index_or ds 2 0 - 48) (slice_index_or ds 3 0 - 48) (slice_index_or ds 4 0 - 48) (slice_index_or ds 5 0 - 48) (slice_index_or ds 6 0 - 48) (slice_index_or ds 7 0 - 48) in
-    let shift : word ≡ values + 3472328296227680304 = is ∙ octets_sum 48 _ _ _ _ _ _ _ _ (slice_index_or ds 0 0 - 48) (slice_index_or ds 1 0 - 48) (slice_index_or ds 2 0 - 48) (slice_index_or ds 3 0 - 48) (slice_index_or ds 4 0 - 48) (slice_index_or ds 5 0 - 48) (slice_index_or ds 6 0 - 48) (slice_index_or ds 7 0 - 48) a.0 b.0 c.0 d.0 e.0 f.0 g.0 h.0 in
+    let values : ℕ = octets_word (slice_index_or ds 0 0 - 48) (slice_index_or ds 1 0 - 48) (slice_index_or ds 2 0 - 48) (slice_index_or ds 3 0 - 48)
+    (slice_index_or ds 4 0 - 48) (slice_index_or ds 5 0 - 48) (slice_index_or ds 6 0 - 48) (slice_index_or ds 7 0 - 48) in
+    let shift : word ≡ values + 3472328296227680304 = is ∙ octets_sum 48 _ _ _ _ _ _ _ _ (slice_index_or ds 0 0 - 48) (slice_index_or ds 1 0 - 48)
+    (slice_index_or ds 2 0 - 48) (slice_index_or ds 3 0 - 48) (slice_index_or ds 4 0 - 48) (slice_index_or ds 5 0 - 48) (slice_index_or ds 6 0 - 48)
+    (slice_index_or ds 7 0 - 48) a.0 b.0 c.0 d.0 e.0 f.0 g.0 h.0 in
     let less : word - 3472328296227680304 ≡ values = without word values 3472328296227680304 shift in
-    let small : values ≤ 651061555542690057 = octets_le (slice_index_or ds 0 0 - 48) (slice_index_or ds 1 0 - 48) (slice_index_or ds 2 0 - 48) (slice_index_or ds 3 0 - 48) (slice_index_or ds 4 0 - 48) (slice_index_or ds 5 0 - 48) (slice_index_or ds 6 0 - 48) (slice_index_or ds 7 0 - 48) 9 9 9 9 9 9 9 9 (value_top _ a.1) (value_top _ b.1) (value_top _ c.1) (value_top _ d.1) (value_top _ e.1) (value_top _ f.1) (value_top _ g.1) (value_top _ h.1) in
+    let small : values ≤ 651061555542690057 = octets_le (slice_index_or ds 0 0 - 48) (slice_index_or ds 1 0 - 48) (slice_index_or ds 2 0 - 48)
+    (slice_index_or ds 3 0 - 48) (slice_index_or ds 4 0 - 48) (slice_index_or ds 5 0 - 48) (slice_index_or ds 6 0 - 48) (slice_index_or ds 7 0 - 48) 9 9 9 9
+    9 9 9 9 (value_top _ a.1) (value_top _ b.1) (value_top _ c.1) (value_top _ d.1) (value_top _ e.1) (value_top _ f.1) (value_top _ g.1) (value_top _ h.1)
+    in
     (subst (λ (v : ℕ). v ≤ 651061555542690057) (sym less) small, less)
 
 -- the number of eight digits
-pub eight_read : (ds : List ℕ) (n : ℕ) → 8 ≤ length ds → AreDigits ds → n ≡ eight_value (slice_index_or ds 0 0 - 48) (slice_index_or ds 1 0 - 48) (slice_index_or ds 2 0 - 48) (slice_index_or ds 3 0 - 48) (slice_index_or ds 4 0 - 48) (slice_index_or ds 5 0 - 48) (slice_index_or ds 6 0 - 48) (slice_index_or ds 7 0 - 48)
+pub eight_read : (ds : List ℕ) (n : ℕ) → 8 ≤ length ds → AreDigits ds → n ≡ eight_value (slice_index_or ds 0 0 - 48) (slice_index_or ds 1 0 - 48)
+    (slice_index_or ds 2 0 - 48) (slice_index_or ds 3 0 - 48) (slice_index_or ds 4 0 - 48) (slice_index_or ds 5 0 - 48) (slice_index_or ds 6 0 - 48)
+    (slice_index_or ds 7 0 - 48)
     → (n < 100000000) × ((front : ℕ) → 0 < front → front ≤ 10000000000 → decimal (front * 100000000 + n) ≡ decimal front ++ take 8 ds)
 eight_read ds n l p is = (
   omega (arith, is, p.0.0.1, p.0.1.1, p.0.2.1, p.0.3.1, p.1.0.1, p.1.1.1, p.1.2.1, p.1.3.1),

@@ -49,11 +49,13 @@ event_parts (BootAt at node word) hex = simp append_assoc
 event_parts e hex = simp append_assoc
 
 -- the line of an event with octets, and that of a boot, as what was read of them
-pub bytes_written : (at node : ℕ) (port : Port) (from : Place) (octets line a b c hex : List ℕ) → line ≡ codes "at " ++ (decimal at ++ 32 ∷ a) → a ≡ codes "bytes " ++ b → b ≡ (decimal node ++ port_text port) ++ 32 ∷ c → c ≡ place_text from ++ 32 ∷ hex
+pub bytes_written : (at node : ℕ) (port : Port) (from : Place) (octets line a b c hex : List ℕ) → line ≡ codes "at " ++ (decimal at ++ 32 ∷ a) → a ≡
+    codes "bytes " ++ b → b ≡ (decimal node ++ port_text port) ++ 32 ∷ c → c ≡ place_text from ++ 32 ∷ hex
     → line ≡ event_text (Bytes at node port from octets) hex
 bytes_written at node port from octets line a b c hex e f g h = e ∙ rw (f, g, h) (sym (event_parts (Bytes at node port from octets) hex))
 
-pub boot_written : (at node word : ℕ) (line a b c : List ℕ) → line ≡ codes "at " ++ (decimal at ++ 32 ∷ a) → a ≡ codes "boot " ++ b → b ≡ decimal node ++ 32 ∷ c → c ≡ decimal word → line ≡ event_text (BootAt at node word) []
+pub boot_written : (at node word : ℕ) (line a b c : List ℕ) → line ≡ codes "at " ++ (decimal at ++ 32 ∷ a) → a ≡ codes "boot " ++ b → b ≡ decimal node ++ 32 ∷
+    c → c ≡ decimal word → line ≡ event_text (BootAt at node word) []
 boot_written at node word line a b c e f g h = e ∙ rw (f, g, h) (sym (event_parts (BootAt at node word) []))
 
 pub after_at : (e : Event) (line hex : List ℕ) → line ≡ event_text e hex → after_word line ≡ decimal (at_of e) ++ 32 ∷ (verb_of e ++ 32 ∷ rest_of e hex)
@@ -92,7 +94,8 @@ pub words_differ : (v w : List ℕ) → v ≡ w → slice_index_or v 1 0 ≢ sli
 words_differ v w e n = n (ap (λ l. slice_index_or l 1 0) e)
 
 -- what follows the word is one event's
-rests_apart : (e f : Event) (hex other : List ℕ) → IsEvent e → IsEvent f → IsHexOf hex e → IsHexOf other f → at_of e ≡ at_of f → verb_of e ≡ verb_of f → rest_of e hex ≡ rest_of f other → e ≡ f
+rests_apart : (e f : Event) (hex other : List ℕ) → IsEvent e → IsEvent f → IsHexOf hex e → IsHexOf other f → at_of e ≡ at_of f → verb_of e ≡ verb_of f →
+    rest_of e hex ≡ rest_of f other → e ≡ f
 rests_apart (BootAt at node word) (BootAt t n w) hex other h k x y a v r =
     let p = numbers_apart node n (decimal word) (decimal w) (omega (arith, h.1)) (omega (arith, k.1)) r in
     let q = decimal_injective word w h.2 k.2 p.1 in
@@ -104,7 +107,8 @@ rests_apart (Bytes at node port from octets) (Bytes t n q place handed) hex othe
     let b64 : n < 2 ^ 64 = omega (arith, k.1) in
     let p64 : port.0 < 2 ^ 64 = omega (arith, h.2) in
     let q64 : q.0 < 2 ^ 64 = omega (arith, k.2) in
-    let v = words_apart (decimal node ++ port_text port) (decimal n ++ port_text q) (place_text from ++ 32 ∷ hex) (place_text place ++ 32 ∷ other) (no_space-port node port a64 p64) (no_space-port n q b64 q64) r in
+    let v = words_apart (decimal node ++ port_text port) (decimal n ++ port_text q) (place_text from ++ 32 ∷ hex) (place_text place ++ 32 ∷
+    other) (no_space-port node port a64 p64) (no_space-port n q b64 q64) r in
     let p = ports_apart node n port q a64 b64 p64 q64 v.0 in
     let w = words_apart (place_text from) (place_text place) hex other (no_space-place from h.3) (no_space-place place k.3) v.1 in
     let o = decode_of-same hex octets handed x (rw w.1 y) in
@@ -114,8 +118,10 @@ rests_apart e f hex other h k x y a v r = absurd (words_differ (verb_of e) (verb
 
 pub events_apart : (line : List ℕ) (e f : Event) → SpellsEvent line (EventOf e) → SpellsEvent line (EventOf f) → e ≡ f
 events_apart line e f (h, (hex, x, l)) (k, (other, y, m)) =
-    let s : decimal (at_of e) ++ 32 ∷ (verb_of e ++ 32 ∷ rest_of e hex) ≡ decimal (at_of f) ++ 32 ∷ (verb_of f ++ 32 ∷ rest_of f other) = sym (after_at e line hex l) ∙ after_at f line other m in
-    let a = numbers_apart (at_of e) (at_of f) (verb_of e ++ 32 ∷ rest_of e hex) (verb_of f ++ 32 ∷ rest_of f other) (omega (arith, IsTrueTime-at_of e h)) (omega (arith, IsTrueTime-at_of f k)) s in
+    let s : decimal (at_of e) ++ 32 ∷ (verb_of e ++ 32 ∷ rest_of e hex) ≡ decimal (at_of f) ++ 32 ∷ (verb_of f ++ 32 ∷ rest_of f other) =
+    sym (after_at e line hex l) ∙ after_at f line other m in
+    let a = numbers_apart (at_of e) (at_of f) (verb_of e ++ 32 ∷ rest_of e hex) (verb_of f ++ 32 ∷ rest_of f other) (omega (arith, IsTrueTime-at_of e h))
+    (omega (arith, IsTrueTime-at_of f k)) s in
     let v = words_apart (verb_of e) (verb_of f) (rest_of e hex) (rest_of f other) (no_space-verb_of e) (no_space-verb_of f) a.1 in
     rests_apart e f hex other h k x y a.0 v.0 v.1
 
@@ -131,11 +137,13 @@ SpellsEvent-one line End (EventOf f) s t = absurd (event_text-end f t.1.0 (sym t
 SpellsEvent-one line End End s t = refl
 
 -- a place in front of a space is one place
-pub places_apart : (line : List ℕ) (p q : Place) (r s : List ℕ) → IsPlace p → IsPlace q → line ≡ place_text p ++ 32 ∷ r → line ≡ place_text q ++ 32 ∷ s → (p ≡ q) × (r ≡ s)
+pub places_apart : (line : List ℕ) (p q : Place) (r s : List ℕ) → IsPlace p → IsPlace q → line ≡ place_text p ++ 32 ∷ r → line ≡ place_text q ++ 32 ∷ s →
+    (p ≡ q) × (r ≡ s)
 places_apart line p q r s h k e f =
     let w = words_apart (place_text p) (place_text q) r s (no_space-place p h) (no_space-place q k) (sym e ∙ f) in
     (place_text-injective p q h k w.0, w.1)
 
-pub no_place : (line rest : List ℕ) (p : Place) → IsPlace p → line ≡ place_text p ++ 32 ∷ rest → ((rest : List ℕ) → line ≡ codes "- " ++ rest → ⊥) → ((n : ℕ) → n < 2 ^ 32 → line ≡ decimal n ++ 32 ∷ rest → ⊥) → ⊥
+pub no_place : (line rest : List ℕ) (p : Place) → IsPlace p → line ≡ place_text p ++ 32 ∷ rest → ((rest : List ℕ) → line ≡ codes "- " ++ rest → ⊥) →
+    ((n : ℕ) → n < 2 ^ 32 → line ≡ decimal n ++ 32 ∷ rest → ⊥) → ⊥
 no_place line rest Stranger h e stranger peer = stranger rest e
 no_place line rest (Peer p) h e stranger peer = peer p.0 h e

@@ -1,5 +1,6 @@
 -- Laws of the number whose digits some octets begin with.
-use Rattle.std.proofs.Common.{◌≡◌, ℕ, ◌+◌, ◌-◌, ◌*◌, ◌/◌, ◌%◌, ◌<◌, ◌≤◌, ◌^◌, List, [], ◌∷◌, ◌++◌, length, take, drop, take-append-drop, zero, suc, refl, sym, ap, ◌∙◌, append_assoc, arith, get_or, decimal, Option, None, Some, IfSome, IfNone, ℤ, pos, negsuc}
+use Rattle.std.proofs.Common.{◌≡◌, ℕ, ◌+◌, ◌-◌, ◌*◌, ◌/◌, ◌%◌, ◌<◌, ◌≤◌, ◌^◌, List, [], ◌∷◌, ◌++◌, length, take, drop, take-append-drop, zero, suc, refl, sym}
+use Rattle.std.proofs.Common.{ap, ◌∙◌, append_assoc, arith, get_or, decimal, Option, None, Some, IfSome, IfNone, ℤ, pos, negsuc}
 use Rattle.std.specs.{Char.digit_value, Fmt.signed_decimal, Int.w64, Int.RustNames.FitsSigned, Str.Parse.AllDigits, Str.Parse.digits_value}
 use Rattle.std.proofs.lemmas.Fmt.{decimal_is_IsNumeral, decimal_is_IsNumeral_wide, decimal_injective, decimal_step_wide, decimal_digit, first_decimal}
 use Rattle.std.proofs.lemmas.{List.append-nil, Str.Parse.digit_from_value, Str.Parse.digits_value-take-le}
@@ -65,12 +66,14 @@ digit_behind n d some small low =
     let s = decimal_step_wide (n * 10 + d) (omega arith) (omega arith) in
     rw (q, r) at s
 
-pub digit_taken : (front n d : ℕ) (digits rest behind : List ℕ) → 0 < n → n < 2 ^ 64 → d < 10 → rest ≡ (48 + d) ∷ behind → decimal front ++ digits ≡ decimal n ++ rest → decimal front ++ digits ≡ decimal (n * 10 + d) ++ behind
+pub digit_taken : (front n d : ℕ) (digits rest behind : List ℕ) → 0 < n → n < 2 ^ 64 → d < 10 → rest ≡ (48 + d) ∷ behind → decimal front ++ digits ≡
+    decimal n ++ rest → decimal front ++ digits ≡ decimal (n * 10 + d) ++ behind
 digit_taken front n d digits rest behind some small low e w =
     w ∙ ap (λ x. decimal n ++ x) e ∙ sym (append_assoc (decimal n) ((48 + d) ∷ []) behind) ∙ ap (λ x. x ++ behind) (sym (digit_behind n d some small low))
 
 -- no number of 64 bits is written so where the first digits make more
-pub too_large : (front n d : ℕ) (digits rest behind : List ℕ) → 0 < n → n < 2 ^ 64 → d < 10 → rest ≡ (48 + d) ∷ behind → decimal front ++ digits ≡ decimal n ++ rest → 2 ^ 64 ≤ n * 10 + d
+pub too_large : (front n d : ℕ) (digits rest behind : List ℕ) → 0 < n → n < 2 ^ 64 → d < 10 → rest ≡ (48 + d) ∷ behind → decimal front ++ digits ≡ decimal n ++
+    rest → 2 ^ 64 ≤ n * 10 + d
     → (m : ℕ) (s : List ℕ) → m < 2 ^ 64 → NoDigit s → decimal front ++ digits ≡ decimal m ++ s → ⊥
 too_large front n d digits rest behind some small low e w large m s k b f =
     let t = digit_taken front n d digits rest behind some small low e w in
@@ -89,13 +92,16 @@ no_number octets none n rest h b e = first (decimal n) (decimal_is_IsNumeral n h
   first (c ∷ cs) some all f = not_first c (cs ++ rest) octets all.0 none f
 
 -- a number with a dash before it is below zero
-pub signed_behind : (word digits : List ℕ) (z : ℤ) → FitsSigned w64 z → word ≡ 45 ∷ digits → word ≡ signed_decimal z → (n : ℕ) × (z ≡ negsuc n) × (n < 2 ^ 63) × (digits ≡ decimal (suc n))
+pub signed_behind : (word digits : List ℕ) (z : ℤ) → FitsSigned w64 z → word ≡ 45 ∷ digits → word ≡ signed_decimal z → (n : ℕ) × (z ≡ negsuc n) × (n < 2 ^ 63) ×
+    (digits ≡ decimal (suc n))
 signed_behind word digits (pos n) h d e =
-    absurd (no_number (45 ∷ digits) (NoDigit-other 45 digits (λ x. omega (arith, x))) n [] (omega (arith, h.sfits)) NoDigit-nil (sym d ∙ e ∙ sym (append-nil (decimal n))))
+    absurd (no_number (45 ∷ digits) (NoDigit-other 45 digits (λ x. omega (arith, x))) n [] (omega (arith, h.sfits)) NoDigit-nil (sym d ∙ e ∙
+    sym (append-nil (decimal n))))
 signed_behind word digits (negsuc n) h d e = (n, refl, omega (arith, h.sfits), tail_is 45 45 digits (decimal (suc n)) (sym d ∙ e))
 
 -- no number is written with a 0 and another digit
-pub no_leading_zero : (d : ℕ) (octets behind rest : List ℕ) → d < 10 → octets ≡ 48 ∷ behind → behind ≡ (48 + d) ∷ rest → (n : ℕ) (s : List ℕ) → n < 2 ^ 64 → NoDigit s → octets ≡ decimal n ++ s → ⊥
+pub no_leading_zero : (d : ℕ) (octets behind rest : List ℕ) → d < 10 → octets ≡ 48 ∷ behind → behind ≡ (48 + d) ∷ rest → (n : ℕ) (s : List ℕ) → n < 2 ^ 64 →
+    NoDigit s → octets ≡ decimal n ++ s → ⊥
 no_leading_zero d octets behind rest h e f n s k b g = zero_case n k g where
   written : (ds : List ℕ) → 0 < length ds → octets ≡ ds ++ s → get_or ds 0 0 ≡ 48
   written [] some q = absurd (omega (arith, some))
@@ -115,16 +121,19 @@ zero_first d octets rest z e = rw z at e
 -- digits of which the first were read
 pub digits_split : (front n k : ℕ) (ds back : List ℕ) → decimal n ≡ decimal front ++ take k ds → back ≡ drop k ds → decimal front ++ ds ≡ decimal n ++ back
 digits_split front n k ds back e b =
-    ap (λ x. decimal front ++ x) (sym (take-append-drop k ds)) ∙ sym (append_assoc (decimal front) (take k ds) (drop k ds)) ∙ ap (λ x. x ++ drop k ds) (sym e) ∙ ap (λ x. decimal n ++ x) (sym b)
+    ap (λ x. decimal front ++ x) (sym (take-append-drop k ds)) ∙ sym (append_assoc (decimal front) (take k ds) (drop k ds)) ∙ ap (λ x. x ++ drop k ds) (sym e) ∙
+    ap (λ x. decimal n ++ x) (sym b)
 
 -- what is found of a text is found of one that is the same
 pub if_found : {T : Type 0} (r : Option T) (n : T → ℕ) (back : T → List ℕ) (text other : List ℕ) → text ≡ other
-    → IfSome r (λ t. (n t < 2 ^ 64) × NoDigit (back t) × (other ≡ decimal (n t) ++ back t)) → IfSome r (λ t. (n t < 2 ^ 64) × NoDigit (back t) × (text ≡ decimal (n t) ++ back t))
+    → IfSome r (λ t. (n t < 2 ^ 64) × NoDigit (back t) × (other ≡ decimal (n t) ++ back t)) → IfSome r (λ t. (n t < 2 ^ 64) × NoDigit (back t) ×
+    (text ≡ decimal (n t) ++ back t))
 if_found None n back text other e h = h
 if_found (Some t) n back text other e h = (h.0, h.1, e ∙ h.2)
 
 pub if_unfound : {T : Type 0} (r : Option T) (text other : List ℕ) → text ≡ other
-    → IfNone r ((n : ℕ) (rest : List ℕ) → n < 2 ^ 64 → NoDigit rest → other ≡ decimal n ++ rest → ⊥) → IfNone r ((n : ℕ) (rest : List ℕ) → n < 2 ^ 64 → NoDigit rest → text ≡ decimal n ++ rest → ⊥)
+    → IfNone r ((n : ℕ) (rest : List ℕ) → n < 2 ^ 64 → NoDigit rest → other ≡ decimal n ++ rest → ⊥) → IfNone r ((n : ℕ) (rest : List ℕ) → n < 2 ^ 64 →
+    NoDigit rest → text ≡ decimal n ++ rest → ⊥)
 if_unfound None text other e h = λ n rest k b f. h n rest k b (sym e ∙ f)
 if_unfound (Some t) text other e h = h
 

@@ -64,24 +64,28 @@ node_item Holds line rest NotHead l s reads = absurd (s.1.no_node rest l)
 node_item Holds line rest item l s reads = absurd (omega (arith, s.0))
 
 -- every other line from the fourth on is no longer the header's
-pub other_line : (line : List ℕ) → ((rest : List ℕ) → line ≡ codes "node " ++ rest → ⊥) → ((rest : List ℕ) → line ≡ codes "net " ++ rest → ⊥) → SpellsHead 4 line NotHead
+pub other_line : (line : List ℕ) → ((rest : List ℕ) → line ≡ codes "node " ++ rest → ⊥) → ((rest : List ℕ) → line ≡ codes "net " ++ rest → ⊥) →
+    SpellsHead 4 line NotHead
 other_line line a b = (omega arith, record { no_node = a; no_net = b; not_strict = λ e. absurd (omega (arith, e)) })
 
 -- the places from the third on are alike but for `strict`
-to_later : (place : ℕ) (line : List ℕ) (item : HeadItem) → 3 ≤ place → (place ≡ 3 → line ≡ codes "strict" → ⊥) → SpellsHead 4 line item → SpellsHead place line item
+to_later : (place : ℕ) (line : List ℕ) (item : HeadItem) → 3 ≤ place → (place ≡ 3 → line ≡ codes "strict" → ⊥) → SpellsHead 4 line item →
+    SpellsHead place line item
 to_later place line (Node m) h n s = (h, s.1, s.2)
 to_later place line (Net members) h n s = (h, s.1, s.2)
 to_later place line NotHead h n s = (h, record { no_node = s.1.no_node; no_net = s.1.no_net; not_strict = n })
 to_later place line item h n s = absurd (omega (arith, s.0))
 
-pub from_later : (place : ℕ) (line : List ℕ) (item : HeadItem) → 3 ≤ place → (place ≡ 3 → line ≡ codes "strict" → ⊥) → SpellsHead place line item → SpellsHead 4 line item
+pub from_later : (place : ℕ) (line : List ℕ) (item : HeadItem) → 3 ≤ place → (place ≡ 3 → line ≡ codes "strict" → ⊥) → SpellsHead place line item →
+    SpellsHead 4 line item
 from_later place line Strict h n s = absurd (n s.0 s.1)
 from_later place line (Node m) h n s = (omega arith, s.1, s.2)
 from_later place line (Net members) h n s = (omega arith, s.1, s.2)
 from_later place line NotHead h n s = other_line line s.1.no_node s.1.no_net
 from_later place line item h n s = absurd (omega (arith, h, s.0))
 
-pub reads_later : (place : ℕ) (line : List ℕ) (r : Result HeadItem LineFault) → 3 ≤ place → (place ≡ 3 → line ≡ codes "strict" → ⊥) → ReadsHead 4 line r → ReadsHead place line r
+pub reads_later : (place : ℕ) (line : List ℕ) (r : Result HeadItem LineFault) → 3 ≤ place → (place ≡ 3 → line ≡ codes "strict" → ⊥) → ReadsHead 4 line r →
+    ReadsHead place line r
 reads_later place line (Ok item) h n s = to_later place line item h n s
 reads_later place line (Err Bad) h n s = λ item t. s item (from_later place line item h n t)
 
@@ -105,11 +109,14 @@ flag_text-injective false false e = refl
 
 nodes_apart : (m n : NodeLine) → IsNodeLine m → IsNodeLine n → node_rest m ≡ node_rest n → m ≡ n
 nodes_apart m n h k e =
-    let a = words_apart m.name n.name (signed_decimal m.rate ++ 32 ∷ (signed_decimal m.wall ++ 32 ∷ flag_text m.may)) (signed_decimal n.rate ++ 32 ∷ (signed_decimal n.wall ++ 32 ∷ flag_text n.may)) (no_space-host m.name h.host) (no_space-host n.name k.host) e in
+    let a = words_apart m.name n.name (signed_decimal m.rate ++ 32 ∷ (signed_decimal m.wall ++ 32 ∷ flag_text m.may)) (signed_decimal n.rate ++ 32 ∷
+    (signed_decimal n.wall ++ 32 ∷ flag_text n.may)) (no_space-host m.name h.host) (no_space-host n.name k.host) e in
     let i : nat_abs m.rate ≤ 1000000000000000 = omega (arith, h.rate) in
     let j : nat_abs n.rate ≤ 1000000000000000 = omega (arith, k.rate) in
-    let b = signs_apart m.rate n.rate (signed_decimal m.wall ++ 32 ∷ flag_text m.may) (signed_decimal n.wall ++ 32 ∷ flag_text n.may) (fits_wall m.rate i) (fits_wall n.rate j) (small m.rate i) (small n.rate j) a.1 in
-    let c = signs_apart m.wall n.wall (flag_text m.may) (flag_text n.may) (fits_wall m.wall h.wall) (fits_wall n.wall k.wall) (small m.wall h.wall) (small n.wall k.wall) b.1 in
+    let b = signs_apart m.rate n.rate (signed_decimal m.wall ++ 32 ∷ flag_text m.may) (signed_decimal n.wall ++ 32 ∷ flag_text n.may) (fits_wall m.rate i)
+    (fits_wall n.rate j) (small m.rate i) (small n.rate j) a.1 in
+    let c = signs_apart m.wall n.wall (flag_text m.may) (flag_text n.may) (fits_wall m.wall h.wall) (fits_wall n.wall k.wall) (small m.wall h.wall)
+    (small n.wall k.wall) b.1 in
     node_of_parts m.name m.rate m.wall m.may n a.0 b.0 c.0 (flag_text-injective m.may n.may c.1)
 
 networks_apart : (k l : List ℕ) → IsNetLine k → IsNetLine l → net_text k ≡ net_text l → k ≡ l
@@ -118,13 +125,15 @@ networks_apart k l h i e = joined_text-injective k l h.small i.small (append_can
 -- a line at a place of the header is one item
 pub SpellsHead-one : (place : ℕ) (line : List ℕ) (a b : HeadItem) → SpellsHead place line a → SpellsHead place line b → a ≡ b
 SpellsHead-one place line (Title v) (Title w) s t = ap Title (one_version line v w s.1 t.1)
-SpellsHead-one place line (Drift p) (Drift q) s t = ap Drift (decimal_injective p q (omega (arith, s.1)) (omega (arith, t.1)) (append_cancel_left (codes "drift ") _ _ (sym s.2 ∙ t.2)))
+SpellsHead-one place line (Drift p) (Drift q) s t = ap Drift (decimal_injective p q (omega (arith, s.1)) (omega (arith, t.1))
+    (append_cancel_left (codes "drift ") _ _ (sym s.2 ∙ t.2)))
 SpellsHead-one place line Strict Strict s t = refl
 SpellsHead-one place line Strict (Node n) s t = absurd (strict_not_node (node_rest n) (sym s.1 ∙ (t.2 ∙ node_form n)))
 SpellsHead-one place line Strict (Net l) s t = absurd (strict_not_net (numbers_text l) (sym s.1 ∙ t.2))
 SpellsHead-one place line Strict NotHead s t = absurd (t.1.not_strict s.0 s.1)
 SpellsHead-one place line (Node m) Strict s t = absurd (strict_not_node (node_rest m) (sym t.1 ∙ (s.2 ∙ node_form m)))
-SpellsHead-one place line (Node m) (Node n) s t = ap Node (nodes_apart m n s.1 t.1 (append_cancel_left (codes "node ") _ _ (sym (node_form m) ∙ (sym s.2 ∙ (t.2 ∙ node_form n)))))
+SpellsHead-one place line (Node m) (Node n) s t = ap Node (nodes_apart m n s.1 t.1 (append_cancel_left (codes "node ") _ _ (sym (node_form m) ∙
+    (sym s.2 ∙ (t.2 ∙ node_form n)))))
 SpellsHead-one place line (Node m) (Net l) s t = absurd (node_not_net (node_rest m) (numbers_text l) (sym (node_form m) ∙ (sym s.2 ∙ t.2)))
 SpellsHead-one place line (Node m) NotHead s t = absurd (t.1.no_node (node_rest m) (s.2 ∙ node_form m))
 SpellsHead-one place line (Net k) Strict s t = absurd (strict_not_net (numbers_text k) (sym t.1 ∙ s.2))
@@ -138,6 +147,7 @@ SpellsHead-one place line NotHead NotHead s t = refl
 SpellsHead-one place line a b s t = absurd (omega (arith, s.0, t.0))
 
 -- so what is read there is the only one
-pub reads_one : (place : ℕ) (line : List ℕ) (r : Result HeadItem LineFault) → ReadsHead place line r → (item : HeadItem) → SpellsHead place line item → r ≡ Ok item
+pub reads_one : (place : ℕ) (line : List ℕ) (r : Result HeadItem LineFault) → ReadsHead place line r → (item : HeadItem) → SpellsHead place line item → r ≡
+    Ok item
 reads_one place line (Ok read) s item t = ap Ok (SpellsHead-one place line read item s t)
 reads_one place line (Err Bad) s item t = absurd (s item t)

@@ -1,5 +1,6 @@
 -- Pairs of hexadecimal digits that are read by a table.
-use Rattle.std.proofs.Common.{◌≡◌, ℕ, zero, suc, ◌+◌, ◌*◌, ◌%◌, ◌<◌, ◌≤◌, ◌==◌, Bool, true, ◌&&◌, inl, inr, List, length, take, drop, slice_index_or, Option, Some, None, unwrap_or, Result, Ok, Err, refl, sym, ap, ◌∙◌, subst, append-nil, arith, IsErr}
+use Rattle.std.proofs.Common.{◌≡◌, ℕ, zero, suc, ◌+◌, ◌*◌, ◌%◌, ◌<◌, ◌≤◌, ◌==◌, Bool, true, ◌&&◌, inl, inr, List, length, take, drop, slice_index_or, Option}
+use Rattle.std.proofs.Common.{Some, None, unwrap_or, Result, Ok, Err, refl, sym, ap, ◌∙◌, subst, append-nil, arith, IsErr}
 use Rattle.std.proofs.lemmas.{Bool.and_parts, Bool.cases_lt, Bool.eqb-true, List.drop_all}
 use Rattle.hex.specs.Hex.{decode_of, decode_pairs, digit_or_error, hex_digit_value, pair_value, value_at}
 use Rattle.hex.specs.declared.error.FromHexError.{FromHexError, TheVariants.InvalidHexCharacter}
@@ -62,22 +63,28 @@ is_err : (r : Result (List ℕ) FromHexError) (e : FromHexError) → r ≡ Err e
 is_err r e p = subst IsErr (sym p) refl
 
 -- a text with an octet that is no digit
-refused_at : (s out : List ℕ) (i : ℕ) (e : FromHexError) → length s % 2 ≡ 0 → 2 * i + 1 < length s → pair_value (slice_index_or s (2 * i) 0) (slice_index_or s (2 * i + 1) 0) (2 * i) ≡ Err e
+refused_at : (s out : List ℕ) (i : ℕ) (e : FromHexError) → length s % 2 ≡ 0 → 2 * i + 1 < length s →
+    pair_value (slice_index_or s (2 * i) 0) (slice_index_or s (2 * i + 1) 0) (2 * i) ≡ Err e
     → decode_pairs 0 s ≡ prepend (take i out) (decode_pairs (2 * i) (drop (2 * i) s)) → IsErr (decode_of s)
 refused_at s out i e even fits bad inv = is_err (decode_of s) e (decode_of-even s even ∙ decode_err s out i e fits bad inv)
 
-pub refused_high : (s out : List ℕ) (i v : ℕ) → length s % 2 ≡ 0 → 2 * i + 1 < length s → v ≡ unwrap_or (hex_digit_value (slice_index_or s (2 * i) 0)) 255 → 15 < v
+pub refused_high : (s out : List ℕ) (i v : ℕ) → length s % 2 ≡ 0 → 2 * i + 1 < length s → v ≡ unwrap_or (hex_digit_value (slice_index_or s (2 * i) 0)) 255 →
+    15 < v
     → decode_pairs 0 s ≡ prepend (take i out) (decode_pairs (2 * i) (drop (2 * i) s)) → IsErr (decode_of s)
-refused_high s out i v even fits e h inv = refused_at s out i _ even fits (pair_high (slice_index_or s (2 * i) 0) (slice_index_or s (2 * i + 1) 0) (2 * i) (value_none (slice_index_or s (2 * i) 0) v e h)) inv
+refused_high s out i v even fits e h inv = refused_at s out i _ even fits (pair_high (slice_index_or s (2 * i) 0) (slice_index_or s (2 * i + 1) 0) (2 * i)
+    (value_none (slice_index_or s (2 * i) 0) v e h)) inv
 
-pub refused_low : (s out : List ℕ) (i v w : ℕ) → length s % 2 ≡ 0 → 2 * i + 1 < length s → v ≡ unwrap_or (hex_digit_value (slice_index_or s (2 * i) 0)) 255 → v ≤ 15
+pub refused_low : (s out : List ℕ) (i v w : ℕ) → length s % 2 ≡ 0 → 2 * i + 1 < length s → v ≡ unwrap_or (hex_digit_value (slice_index_or s (2 * i) 0)) 255 →
+    v ≤ 15
     → w ≡ unwrap_or (hex_digit_value (slice_index_or s (2 * i + 1) 0)) 255 → 15 < w
     → decode_pairs 0 s ≡ prepend (take i out) (decode_pairs (2 * i) (drop (2 * i) s)) → IsErr (decode_of s)
 refused_low s out i v w even fits e h f l inv =
-    refused_at s out i _ even fits (pair_low (slice_index_or s (2 * i) 0) (slice_index_or s (2 * i + 1) 0) (2 * i) v (value_read (slice_index_or s (2 * i) 0) v e h) (value_none (slice_index_or s (2 * i + 1) 0) w f l)) inv
+    refused_at s out i _ even fits (pair_low (slice_index_or s (2 * i) 0) (slice_index_or s (2 * i + 1) 0) (2 * i) v
+    (value_read (slice_index_or s (2 * i) 0) v e h) (value_none (slice_index_or s (2 * i + 1) 0) w f l)) inv
 
 -- a text whose pairs were all read
-pub decoded : (s out : List ℕ) (i : ℕ) → length s % 2 ≡ 0 → length s ≤ 2 * i → decode_pairs 0 s ≡ prepend (take i out) (decode_pairs (2 * i) (drop (2 * i) s)) → decode_of s ≡ Ok (take i out)
+pub decoded : (s out : List ℕ) (i : ℕ) → length s % 2 ≡ 0 → length s ≤ 2 * i → decode_pairs 0 s ≡ prepend (take i out) (decode_pairs (2 * i) (drop (2 * i) s)) →
+    decode_of s ≡ Ok (take i out)
 unfolding decode_pairs
 decoded s out i even fits inv =
     decode_of-even s even ∙ inv ∙ ap (prepend (take i out)) (ap (decode_pairs (2 * i)) (drop_all (2 * i) s fits)) ∙ ap Ok (append-nil (take i out))

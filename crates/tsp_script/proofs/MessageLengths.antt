@@ -1,5 +1,6 @@
 -- How long a message line is at most.
-use Rattle.std.proofs.Common.{ℕ, ◌*◌, ◌^◌, ◌<◌, ◌≤◌, List, [], ◌∷◌, ◌++◌, Bool, true, false, length, arith, length-append, ℤ, pos, negsuc, ◌≤ℤ◌, ◌<ℤ◌, decimal, flat_map, if◌then◌else◌}
+use Rattle.std.proofs.Common.{ℕ, ◌*◌, ◌^◌, ◌<◌, ◌≤◌, List, [], ◌∷◌, ◌++◌, Bool, true, false, length, arith, length-append, ℤ, pos, negsuc, ◌≤ℤ◌, ◌<ℤ◌, decimal}
+use Rattle.std.proofs.Common.{flat_map, if◌then◌else◌}
 use Rattle.std.{proofs.lemmas.Int.ints, specs.Fmt.signed_decimal}
 use Rattle.hex.specs.Hex.{encode_lower, encode_with}
 use Rattle.tsp_base.specs.Words.{kind_word, IsName, MessageValue, ReplyValue, IsReply}

@@ -1,5 +1,6 @@
 -- Laws of message lines.
-use Rattle.std.proofs.Common.{◌≡◌, ℕ, ◌<◌, ◌^◌, List, ◌∷◌, ◌++◌, length, refl, sym, ap, ◌∙◌, Option, Some, None, append_assoc, length-append, arith, true, IfSome, decimal, codes}
+use Rattle.std.proofs.Common.{◌≡◌, ℕ, ◌<◌, ◌^◌, List, ◌∷◌, ◌++◌, length, refl, sym, ap, ◌∙◌, Option, Some, None, append_assoc, length-append, arith, true}
+use Rattle.std.proofs.Common.{IfSome, decimal, codes}
 use Rattle.std.specs.Fmt.{signed_decimal}
 use Rattle.hex.specs.Hex.{IsBytes}
 use Rattle.tsp_base.specs.Words.{kind_word, IsName, MessageValue, body_fits, ReplyValue, IsReply}
@@ -27,7 +28,8 @@ message_splits : (line : List ℕ) (m : MessageValue) → line ≡ message_line 
 message_splits line m e = cut_front line (kind_word m.kind) (message_rest m) (no_space-kind_word m.kind) (e ∙ simp append_assoc)
 
 request_splits : (line : List ℕ) (word counter : ℕ) → line ≡ stamp_text (Request word counter) → Splits line (codes "request") (request_rest word counter)
-request_splits line word counter e = cut_front line (codes "request") (request_rest word counter) (no_space-spaceless (codes "request") refl) (e ∙ simp append_assoc)
+request_splits line word counter e = cut_front line (codes "request") (request_rest word counter) (no_space-spaceless (codes "request") refl) (e ∙
+    simp append_assoc)
 
 reply_splits : (line : List ℕ) (r : ReplyValue) → line ≡ reply_text r → Splits line (codes "reply") (reply_rest r)
 reply_splits line r e = cut_front line (codes "reply") (reply_rest r) (no_space-spaceless (codes "reply") refl) (e ∙ simp append_assoc)
@@ -91,7 +93,8 @@ reply_found line a b rest r h k v f g i e =
     let l : line ≡ reply_rest r = f ∙ rw (g, i, e) refl in
     ((h, k, v), some_behind line _ a f, rw l (sym (reply_form r)))
 
-pub plain_found : (word line more rest : List ℕ) (kind : Kind) (number : ℕ) (body : Body) (name : List ℕ) (m : MessageValue) → word ≡ kind_word kind → number < 2 ^ 16
+pub plain_found : (word line more rest : List ℕ) (kind : Kind) (number : ℕ) (body : Body) (name : List ℕ) (m : MessageValue) → word ≡ kind_word kind →
+    number < 2 ^ 16
     → IsBody body → body_fits kind body ≡ true → IsName name × IsBytes name × (rest ≡ name_text name)
     → line ≡ decimal number ++ 32 ∷ more → more ≡ body_text body ++ rest
     → m ≡ record { kind = kind; number = number; body = body; name = name } → IsRestOf word line (Message m)
@@ -101,7 +104,8 @@ plain_found word line more rest kind number body name m w h b fits n f g e =
     rw e (record { number = h; fits = fits; body = b; name = n.0; octets = n.1 }, some_behind line _ more f, whole)
 
 -- the line of a word and what was read behind it
-pub line_found : (r : Option Datagram) (line word rest text : List ℕ) → word ≡ first_word line → rest ≡ after_word line → word ≡ text → IfSome r (IsRestOf text rest)
+pub line_found : (r : Option Datagram) (line word rest text : List ℕ) → word ≡ first_word line → rest ≡ after_word line → word ≡ text →
+    IfSome r (IsRestOf text rest)
     → IfSome r (λ d. IsDatagram d × (line ≡ message_text d))
 line_found None line word rest text v e w h = h
 line_found (Some d) line word rest text v e w h = (h.0, cut_back line word rest text v e w h.1 ∙ h.2)

@@ -1,5 +1,6 @@
 -- Laws of name texts.
-use Rattle.std.proofs.Common.{◌≡◌, ℕ, ◌<◌, ◌≤◌, List, [], ◌∷◌, ◌++◌, zero, suc, length, take, drop, refl, ap, sym, ◌∙◌, arith, true, false, Bool, Result, Ok, Err, Some, ◌^◌, append_assoc, length-append, MatchResult, IfSome, flat_map, if◌then◌else◌}
+use Rattle.std.proofs.Common.{◌≡◌, ℕ, ◌<◌, ◌≤◌, List, [], ◌∷◌, ◌++◌, zero, suc, length, take, drop, refl, ap, sym, ◌∙◌, arith, true, false, Bool, Result, Ok}
+use Rattle.std.proofs.Common.{Err, Some, ◌^◌, append_assoc, length-append, MatchResult, IfSome, flat_map, if◌then◌else◌}
 use Rattle.std.{proofs.lemmas.Grind.common_steps, proofs.lemmas.List.flat_map_more, specs.List.AllPass, specs.Result.result_ok}
 use Rattle.hex.specs.Hex.{encode_lower, encode_with, decode_sized, IsBytes}
 use Rattle.hex.{proofs.HexLemmas.decode_sized-encode_lower, specs.declared.error.FromHexError.FromHexError}
@@ -31,7 +32,8 @@ pub percent_front : (c x : ℕ) (xs rest : List ℕ) → x ≡ 37 → x ∷ xs �
 percent_front c x xs rest h e = percent_case (is_plain c) c x xs rest refl h e
 
 -- such an octet doesn't stand for itself
-escapes_case : (b : Bool) (c x : ℕ) (xs rest : List ℕ) → is_plain c ≡ b → x ≡ 37 → x ∷ xs ≡ (if b then c ∷ [] else 37 ∷ encode_lower (c ∷ [])) ++ rest → is_plain c ≡ false
+escapes_case : (b : Bool) (c x : ℕ) (xs rest : List ℕ) → is_plain c ≡ b → x ≡ 37 → x ∷ xs ≡ (if b then c ∷ [] else 37 ∷ encode_lower (c ∷ [])) ++ rest →
+    is_plain c ≡ false
 escapes_case true c x xs rest p h e =
     let q : c ≡ 37 = cc in
     absurd (true_or_false (is_plain c) p (rw q refl))
@@ -99,7 +101,8 @@ Left name items rest = (left : List ℕ) × (name ≡ items ++ left) × (rest �
 abbrev pub Reads : List ℕ → ℕ → List ℕ → Type 0
 Reads rest octet after = (c : ℕ) (r : List ℕ) → c < 2 ^ 8 → rest ≡ escaped c ++ r → (octet ≡ c) × (after ≡ r)
 
-pub one_more : (name items more rest after : List ℕ) (octet : ℕ) → IsBytes name → 0 < length rest → Reads rest octet after → more ≡ items ++ octet ∷ [] → Left name items rest → Left name more after
+pub one_more : (name items more rest after : List ℕ) (octet : ℕ) → IsBytes name → 0 < length rest → Reads rest octet after → more ≡ items ++ octet ∷ [] →
+    Left name items rest → Left name more after
 one_more name items more rest after octet b n reads m ([], p, q) = absurd (let z : length rest ≡ 0 = ap length q in omega arith)
 one_more name items more rest after octet b n reads m (c ∷ cs, p, q) =
     let r = reads c (flat_map escaped cs) (IsBytes-next name items c cs b p) q in
@@ -142,7 +145,8 @@ plain_text (c ∷ cs) h =
     let t : flat_map escaped cs ≡ cs = plain_text cs (λ k d b. h (suc k) d (omega (arith, b))) in
     rw (plain_one c e, t) refl
 
-plain_case : (b : Bool) (c : ℕ) (cs text : List ℕ) → is_plain c ≡ b → AllPass is_plain text → (AllPass is_plain (flat_map escaped cs) → cs ≡ flat_map escaped cs)
+plain_case : (b : Bool) (c : ℕ) (cs text : List ℕ) → is_plain c ≡ b → AllPass is_plain text →
+    (AllPass is_plain (flat_map escaped cs) → cs ≡ flat_map escaped cs)
     → text ≡ (if b then c ∷ [] else 37 ∷ encode_lower (c ∷ [])) ++ flat_map escaped cs → c ∷ cs ≡ text
 plain_case true c cs text p h more e =
     let t : AllPass is_plain (c ∷ flat_map escaped cs) = rw e at h in
@@ -158,10 +162,12 @@ plain_name [] text h e = sym e
 plain_name (c ∷ cs) text h e = plain_case (is_plain c) c cs text refl h (λ t. plain_name cs (flat_map escaped cs) t refl) e
 
 -- one octet more of those that were read
-pub more_read : (text items more rest after : List ℕ) (octet : ℕ) → text ≡ flat_map escaped items ++ rest → rest ≡ escaped octet ++ after → more ≡ items ++ octet ∷ []
+pub more_read : (text items more rest after : List ℕ) (octet : ℕ) → text ≡ flat_map escaped items ++ rest → rest ≡ escaped octet ++ after → more ≡ items ++
+    octet ∷ []
     → text ≡ flat_map escaped more ++ after
 more_read text items more rest after octet e f m =
-    let t : (flat_map escaped items ++ escaped octet) ++ after ≡ flat_map escaped (items ++ octet ∷ []) ++ after = ap (λ x. x ++ after) (flat_map_more escaped [] items octet) in
+    let t : (flat_map escaped items ++ escaped octet) ++ after ≡ flat_map escaped (items ++ octet ∷ []) ++ after =
+    ap (λ x. x ++ after) (flat_map_more escaped [] items octet) in
     e ∙ rw (f, m) (sym (append_assoc (flat_map escaped items) (escaped octet) after) ∙ t)
 
 -- a text that was read whole

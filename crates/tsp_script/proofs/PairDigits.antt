@@ -1,5 +1,6 @@
 -- Numbers as text, two digits at a time.
-use Rattle.std.proofs.Common.{◌≡◌, ℕ, zero, suc, ◌+◌, ◌*◌, ◌/◌, ◌%◌, ◌^◌, ◌<◌, ◌≤◌, ◌==◌, Bool, true, ◌&&◌, inl, inr, List, [], ◌∷◌, ◌++◌, slice_index_or, refl, ap, sym, ◌∙◌, append_assoc, length, length-append, arith, decimal}
+use Rattle.std.proofs.Common.{◌≡◌, ℕ, zero, suc, ◌+◌, ◌*◌, ◌/◌, ◌%◌, ◌^◌, ◌<◌, ◌≤◌, ◌==◌, Bool, true, ◌&&◌, inl, inr, List, [], ◌∷◌, ◌++◌, slice_index_or, refl}
+use Rattle.std.proofs.Common.{ap, sym, ◌∙◌, append_assoc, length, length-append, arith, decimal}
 use Rattle.std.proofs.lemmas.{Bool.and_parts, Bool.cases_lt, Bool.eqb-true, Fmt.decimal_digit}
 use Rattle.itoa.proofs.Decimal.{decimal_two, decimal_pair, decimal_four}
 use Rattle.tsp_script.specs.declared.decimals.TheConstants.{PAIRS}
@@ -9,7 +10,8 @@ abbrev are_pairs : ℕ → Bool
 are_pairs zero = true
 are_pairs (suc p) = ((slice_index_or PAIRS (p * 2) 0 == 48 + p / 10) && (slice_index_or PAIRS (p * 2 + 1) 0 == 48 + p % 10)) && are_pairs p
 
-are_pairs-at : (n p : ℕ) → are_pairs n ≡ true → p < n → ((slice_index_or PAIRS (p * 2) 0 == 48 + p / 10) && (slice_index_or PAIRS (p * 2 + 1) 0 == 48 + p % 10)) ≡ true
+are_pairs-at : (n p : ℕ) → are_pairs n ≡ true → p < n → ((slice_index_or PAIRS (p * 2) 0 == 48 + p / 10) && (slice_index_or PAIRS (p * 2 + 1) 0 == 48 + p % 10))
+    ≡ true
 are_pairs-at zero p t h = absurd (omega arith)
 are_pairs-at (suc n) p t h =
     let parts = and_parts ((slice_index_or PAIRS (n * 2) 0 == 48 + n / 10) && (slice_index_or PAIRS (n * 2 + 1) 0 == 48 + n % 10)) (are_pairs n) t in
@@ -52,7 +54,8 @@ decimal_eight n low high =
     let a : n / 10000 / 10000 ≡ n / 100000000 = omega arith in
     let b : n / 10000 % 10000 ≡ n % 100000000 / 10000 = omega arith in
     let d : n % 10000 ≡ n % 100000000 % 10000 = omega arith in
-    let whole = decimal_four n (omega arith) high ∙ ap (λ l. l ++ four (n % 10000)) (decimal_four (n / 10000) (omega arith) (omega arith)) ∙ append_assoc (decimal (n / 10000 / 10000)) (four (n / 10000 % 10000)) (four (n % 10000)) in
+    let whole = decimal_four n (omega arith) high ∙ ap (λ l. l ++ four (n % 10000)) (decimal_four (n / 10000) (omega arith) (omega arith)) ∙
+    append_assoc (decimal (n / 10000 / 10000)) (four (n / 10000 % 10000)) (four (n % 10000)) in
     rw (a, b, d) at whole
 
 -- how many digits they are
@@ -63,7 +66,8 @@ pub length_four_alone : (n : ℕ) → 1000 ≤ n → n < 10000 → length (decim
 length_four_alone n low high = ap length (decimal_four_alone n low high)
 
 pub length_eight : (n : ℕ) → 100000000 ≤ n → n < 2 ^ 64 → length (decimal n) ≡ length (decimal (n / 100000000)) + 8
-length_eight n low high = ap length (decimal_eight n low high) ∙ length-append (decimal (n / 100000000)) (four (n % 100000000 / 10000) ++ four (n % 100000000 % 10000))
+length_eight n low high = ap length (decimal_eight n low high) ∙ length-append (decimal (n / 100000000)) (four (n % 100000000 / 10000) ++
+    four (n % 100000000 % 10000))
 
 pub length_written : (out now front : List ℕ) → now ≡ out ++ front → length now ≡ length out + length front
 length_written out now front e = ap length e ∙ length-append out front

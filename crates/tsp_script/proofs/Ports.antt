@@ -1,5 +1,6 @@
 -- Laws of a node's number with its port.
-use Rattle.std.proofs.Common.{◌≡◌, ℕ, ◌<◌, ◌^◌, List, [], ◌∷◌, ◌++◌, Bool, true, false, ◌==◌, if◌then◌else◌, length, refl, sym, ap, ◌∙◌, ◌⊎◌, inl, inr, zero, suc, arith, decimal, Contains}
+use Rattle.std.proofs.Common.{◌≡◌, ℕ, ◌<◌, ◌^◌, List, [], ◌∷◌, ◌++◌, Bool, true, false, ◌==◌, if◌then◌else◌, length, refl, sym, ap, ◌∙◌, ◌⊎◌, inl, inr, zero}
+use Rattle.std.proofs.Common.{suc, arith, decimal, Contains}
 use Rattle.std.proofs.lemmas.{Bool.eqb-true, Fmt.decimal_is_IsNumeral, Fmt.decimal_injective, List.append-nil}
 use Rattle.std.proofs.lemmas.List.Elements.{Contains-append_cases}
 use Rattle.tsp_base.specs.declared.place.Port.{Port}
@@ -10,7 +11,8 @@ use Rattle.tsp_script.{proofs.Cuts.no_space-later, specs.Schedules.port_text, sp
 abbrev NamesPort : List ℕ → Port → Type 0
 NamesPort word port = ((port ≡ record { 0 = 0 }) × (word ≡ [])) ⊎ (word ≡ decimal port.0)
 
-parts_by : (node : ℕ) (port : Port) (word : List ℕ) → node < 2 ^ 64 → (b : Bool) → (port.0 == 0) ≡ b → word ≡ decimal node ++ (if b then [] else 47 ∷ decimal port.0)
+parts_by : (node : ℕ) (port : Port) (word : List ℕ) → node < 2 ^ 64 → (b : Bool) → (port.0 == 0) ≡ b → word ≡ decimal node ++
+    (if b then [] else 47 ∷ decimal port.0)
     → (before_mark 47 word ≡ decimal node) × NamesPort (after_mark 47 word) port
 parts_by node port word h true z e =
     let w : word ≡ decimal node = e ∙ append-nil (decimal node) in
@@ -37,7 +39,8 @@ one_port p q word h k (inr a) (inl b) = absurd (decimal_some p.0 h (sym b.1 ∙ 
 one_port p q word h k (inr a) (inr b) = ap (λ n. record { 0 = n }) (decimal_injective p.0 q.0 h k (sym a ∙ b))
 
 -- a node's number with its port is one node's and one port's
-pub ports_apart : (m n : ℕ) (p q : Port) → m < 2 ^ 64 → n < 2 ^ 64 → p.0 < 2 ^ 64 → q.0 < 2 ^ 64 → decimal m ++ port_text p ≡ decimal n ++ port_text q → (m ≡ n) × (p ≡ q)
+pub ports_apart : (m n : ℕ) (p q : Port) → m < 2 ^ 64 → n < 2 ^ 64 → p.0 < 2 ^ 64 → q.0 < 2 ^ 64 → decimal m ++ port_text p ≡ decimal n ++ port_text q →
+    (m ≡ n) × (p ≡ q)
 ports_apart m n p q h k i j e =
     let a = port_parts m p (decimal m ++ port_text p) h refl in
     let b = port_parts n q (decimal m ++ port_text p) k e in
@@ -57,10 +60,12 @@ no_space-port node port h k = no_space-by node port (port.0 == 0) h k
 port_text-some : (port : Port) → 0 < port.0 → port_text port ≡ 47 ∷ decimal port.0
 port_text-some port h = grind arith
 
-pub stroke_parts : (node : ℕ) (port : Port) (word : List ℕ) → node < 2 ^ 64 → 0 < port.0 → word ≡ decimal node ++ port_text port → (before_mark 47 word ≡ decimal node) × (after_mark 47 word ≡ decimal port.0)
+pub stroke_parts : (node : ℕ) (port : Port) (word : List ℕ) → node < 2 ^ 64 → 0 < port.0 → word ≡ decimal node ++ port_text port →
+    (before_mark 47 word ≡ decimal node) × (after_mark 47 word ≡ decimal port.0)
 stroke_parts node port word h s e = mark_front 47 word (decimal node) (decimal port.0) (no_slash-decimal node h) (e ∙ rw (port_text-some port s) refl)
 
-pub node_found : (word front rest : List ℕ) (node : ℕ) (port : Port) → front ≡ before_mark 47 word → rest ≡ after_mark 47 word → front ≡ decimal node → rest ≡ decimal port.0 → 0 < port.0 → port.0 < 2 ^ 8 → word ≡ decimal node ++ port_text port
+pub node_found : (word front rest : List ℕ) (node : ℕ) (port : Port) → front ≡ before_mark 47 word → rest ≡ after_mark 47 word → front ≡ decimal node → rest ≡
+    decimal port.0 → 0 < port.0 → port.0 < 2 ^ 8 → word ≡ decimal node ++ port_text port
 node_found word front rest node port f r n p h k =
     let some : 0 < length (after_mark 47 word) = omega (arith, ap length r, ap length p, (decimal_is_IsNumeral port.0 (omega (arith, k))).0.0) in
     line_of_marks 47 word some ∙ rw (sym f ∙ n, sym r ∙ p, port_text-some port h) refl
@@ -82,8 +87,10 @@ number_cases zero = inl refl
 number_cases (suc n) = inr (omega arith)
 
 -- where no number stands in front of a space, a node's number has a port other than 0
-pub port_stands : (line rest : List ℕ) (node : ℕ) (port : Port) → line ≡ (decimal node ++ port_text port) ++ 32 ∷ rest → (line ≡ decimal node ++ 32 ∷ rest → ⊥) → 0 < port.0
+pub port_stands : (line rest : List ℕ) (node : ℕ) (port : Port) → line ≡ (decimal node ++ port_text port) ++ 32 ∷ rest →
+    (line ≡ decimal node ++ 32 ∷ rest → ⊥) → 0 < port.0
 port_stands line rest node port e none = elim (number_cases port.0) [
-  | inl z ↦ absurd (none (e ∙ ap (λ (n : ℕ). (decimal node ++ port_text (record { 0 = n })) ++ 32 ∷ rest) z ∙ ap (λ (w : List ℕ). w ++ 32 ∷ rest) (append-nil (decimal node))))
+  | inl z ↦ absurd (none (e ∙ ap (λ (n : ℕ). (decimal node ++ port_text (record { 0 = n })) ++ 32 ∷ rest) z ∙
+      ap (λ (w : List ℕ). w ++ 32 ∷ rest) (append-nil (decimal node))))
   | inr s ↦ s
 ]

@@ -12,7 +12,8 @@ chosen-ask c at posted v low high = grind arith
 pub chosen-request : (c at posted : ℕ) (v : StormValue) → 7 ≤ c → as_event (asks_one at v) ≡ chosen c at posted v
 chosen-request c at posted v low = grind arith
 
-draw-chosen : (posted : ℕ) (v : StormValue) → v.nodes ≤ v.given → chosen (drawn 8 (moved (moved v))) (v.at + drawn 20001 (moved v)) posted (moved (moved v)) ≡ storm_draw posted v
+draw-chosen : (posted : ℕ) (v : StormValue) → v.nodes ≤ v.given → chosen (drawn 8 (moved (moved v))) (v.at + drawn 20001 (moved v)) posted (moved (moved v)) ≡
+    storm_draw posted v
 draw-chosen posted v booted = grind arith
 
 -- a boot, while a node hasn't booted
@@ -20,7 +21,8 @@ pub draw-boot : (posted : ℕ) (v : StormValue) → v.given < v.nodes → as_eve
 draw-boot posted v more = grind arith
 
 -- what was drawn once all nodes have booted
-pub drawn-chosen : (posted at step c : ℕ) (v one two : StormValue) → v.nodes ≤ v.given → one ≡ moved v → two ≡ moved one → at ≡ v.at + step → step ≡ drawn 20001 (moved v) → c ≡ drawn 8 (moved one) → chosen c at posted two ≡ storm_draw posted v
+pub drawn-chosen : (posted at step c : ℕ) (v one two : StormValue) → v.nodes ≤ v.given → one ≡ moved v → two ≡ moved one → at ≡ v.at + step → step ≡
+    drawn 20001 (moved v) → c ≡ drawn 8 (moved one) → chosen c at posted two ≡ storm_draw posted v
 drawn-chosen posted at step c v one two booted first second time amount number =
     let same : chosen c at posted two ≡ chosen (drawn 8 (moved (moved v))) (v.at + drawn 20001 (moved v)) posted (moved (moved v)) = cc in
     same ∙ draw-chosen posted v booted

@@ -23,7 +23,8 @@ first_with w (a ∷ rest) word = if same_word (w a) word then Some a else first_
 abbrev StandsIn : {A : Type 0} → List A → A → Type 0
 StandsIn {A} all a = (i : ℕ) × (i < length all) × ((d : A) → slice_index_or all i d ≡ a)
 
-stands_behind : {A : Type 0} (s : Bool) (b : A) (rest : List A) (r : Option A) (a : A) → (r ≡ Some a → StandsIn rest a) → (if s then Some b else r) ≡ Some a → StandsIn (b ∷ rest) a
+stands_behind : {A : Type 0} (s : Bool) (b : A) (rest : List A) (r : Option A) (a : A) → (r ≡ Some a → StandsIn rest a) → (if s then Some b else r) ≡ Some a →
+    StandsIn (b ∷ rest) a
 stands_behind true b rest r a h e = (0, omega arith, λ d. some_injective b a e)
 stands_behind false b rest r a h e = let there = h e in (suc there.0, omega (arith, there.1), there.2)
 
@@ -32,7 +33,8 @@ stands_there w [] word a e = absurd (none_not_some a e)
 stands_there w (b ∷ rest) word a e = stands_behind (same_word (w b) word) b rest (first_with w rest word) a (stands_there w rest word a) e
 
 -- where no value of the table has a word, it is no value's
-pub no_word : {A : Type 0} (w : A → List ℕ) (all : List A) (word : List ℕ) (n : ℕ) (a : A) → first_with w all (w a) ≡ Some a → length all ≤ n → ((i : ℕ) (d : A) → i < n → word ≡ w (slice_index_or all i d) → ⊥) → word ≡ w a → ⊥
+pub no_word : {A : Type 0} (w : A → List ℕ) (all : List A) (word : List ℕ) (n : ℕ) (a : A) → first_with w all (w a) ≡ Some a → length all ≤ n →
+    ((i : ℕ) (d : A) → i < n → word ≡ w (slice_index_or all i d) → ⊥) → word ≡ w a → ⊥
 no_word w all word n a first whole none e = let there = stands_there w all (w a) a first in none there.0 a (omega (arith, there.1)) (e ∙ ap w (sym (there.2 a)))
 
 -- a word is one value's

@@ -1,5 +1,6 @@
 -- The lines of a schedule.
-use Rattle.std.specs.Prelude.{◌≡◌, ◌⊎◌, ℕ, ◌^◌, ◌<◌, ◌≤◌, List, [], ◌∷◌, ◌++◌, Bool, true, false, ◌&&◌, ◌||◌, ◌==◌, nat_le, if◌then◌else◌, length, flat_map, decimal, codes, nat_abs}
+use Rattle.std.specs.Prelude.{◌≡◌, ◌⊎◌, ℕ, ◌^◌, ◌<◌, ◌≤◌, List, [], ◌∷◌, ◌++◌, Bool, true, false, ◌&&◌, ◌||◌, ◌==◌, nat_le, if◌then◌else◌, length, flat_map}
+use Rattle.std.specs.Prelude.{decimal, codes, nat_abs}
 use Rattle.std.specs.{Fmt.signed_decimal, List.All, List.AllPass, List.Sorted.IsStrictlyIncreasing, declared.result.Result.Result}
 use Rattle.std.specs.declared.result.Result.TheVariants.{Ok, Err}
 use Rattle.hex.specs.Hex.{decode_of}
@@ -20,7 +21,8 @@ abbrev pub event_text : Event → List ℕ → List ℕ
 event_text (BootAt at node word) hex = codes "at " ++ decimal at ++ codes " boot " ++ decimal node ++ space ++ decimal word
 event_text (Turn at node) hex = codes "at " ++ decimal at ++ codes " turn " ++ decimal node
 event_text (Take at datagram) hex = codes "at " ++ decimal at ++ codes " take " ++ decimal datagram
-event_text (Bytes at node port from octets) hex = codes "at " ++ decimal at ++ codes " bytes " ++ decimal node ++ port_text port ++ space ++ place_text from ++ space ++ hex
+event_text (Bytes at node port from octets) hex = codes "at " ++ decimal at ++ codes " bytes " ++ decimal node ++ port_text port ++ space ++ place_text from ++
+    space ++ hex
 
 -- the octets of a `bytes` are those of this hexadecimal, whose letters may be in either case; for other events it is empty
 abbrev pub IsHexOf : List ℕ → Event → Type 0
@@ -108,7 +110,8 @@ pub record IsNotHead (place : ℕ) (line : List ℕ) : Type 0 where
   pub no_net : (rest : List ℕ) → line ≡ codes "net " ++ rest → ⊥
   pub not_strict : place ≡ 3 → line ≡ codes "strict" → ⊥
 
--- the line at a place of the header is this item's, places counted from 1: the title, the drift, and then `strict`, nodes and networks up to the first other line
+-- the line at a place of the header is this item's, places counted from 1: the title, the drift, and then `strict`, nodes and networks up to the first other
+-- line
 abbrev pub SpellsHead : ℕ → List ℕ → HeadItem → Type 0
 SpellsHead place line (Title version) = (place ≡ 1) × IsTitle line version
 SpellsHead place line (Drift p) = (place ≡ 2) × (p ≤ 1000) × (line ≡ codes "drift " ++ decimal p)

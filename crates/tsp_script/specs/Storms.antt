@@ -1,5 +1,6 @@
 -- The generator of schedules: what it draws from a number.
-use Rattle.std.specs.Prelude.{ℕ, ◌+◌, ◌-◌, ◌*◌, ◌/◌, ◌%◌, ◌^◌, ◌≤◌, ◌<◌, nat_lt, nat_le, ◌==◌, min, true, if◌then◌else◌, pos, ◌-ℤ◌, List, ◌∷◌, decimal, Option, None, Some}
+use Rattle.std.specs.Prelude.{ℕ, ◌+◌, ◌-◌, ◌*◌, ◌/◌, ◌%◌, ◌^◌, ◌≤◌, ◌<◌, nat_lt, nat_le, ◌==◌, min, true, if◌then◌else◌, pos, ◌-ℤ◌, List, ◌∷◌, decimal, Option}
+use Rattle.std.specs.Prelude.{None, Some}
 use Rattle.tsp_base.specs.declared.event.Event.TheVariants.{Boot as BootAt, Turn, Take, Bytes}
 use Rattle.tsp_base.specs.declared.{header.NodeLine.NodeLine, place.Place.TheVariants.Stranger, stamp.Stamp.TheVariants.Request}
 use Rattle.tsp_base.specs.{Words.first_port, Words.event_in, declared.datagram.Datagram.TheVariants.Stamp, declared.event.Event.Event}
@@ -8,7 +9,8 @@ use Rattle.tsp_script.specs.{Schedules.IsEvent, Schedules.IsTrueTime, declared.s
 use Rattle.tsp_script.specs.declared.storm.Choice.TheVariants.{Plain, Request as Asked, Ask as Asks}
 use Rattle.tsp_script.specs.declared.storm.Draw.TheVariants.{Event as Gives, Ask}
 
--- a generator: its state, how many nodes the schedule has, how many of their lines and how many events it gave, the time of its last event, and the datagram that it asks for
+-- a generator: its state, how many nodes the schedule has, how many of their lines and how many events it gave, the time of its last event, and the datagram
+-- that it asks for
 pub record StormValue : Type 0 where
   pub state : ℕ
   pub nodes : ℕ
@@ -35,7 +37,12 @@ drawn m v = v.state / 2 ^ 33 % m
 
 -- the line of the next node: `n` and its number, a rate from -100 to 100, a wall clock at most a second from 0, and it may be master
 abbrev pub storm_line : StormValue → NodeLine
-storm_line v = record { name = 110 ∷ decimal v.named; rate = pos (drawn 201 (moved v)) -ℤ pos 100; wall = pos (drawn 2000001 (moved (moved v))) -ℤ pos 1000000; may = true }
+storm_line v = record {
+  name = 110 ∷ decimal v.named;
+  rate = pos (drawn 201 (moved v)) -ℤ pos 100;
+  wall = pos (drawn 2000001 (moved (moved v))) -ℤ pos 1000000;
+  may = true;
+}
 
 -- the generator after a node's line
 abbrev pub storm_named : StormValue → StormValue

@@ -3,7 +3,8 @@ use Rattle.std.specs.Prelude.{ℕ, List, ◌++◌, Bool, true, false, decimal, c
 use Rattle.std.specs.Fmt.{signed_decimal}
 use Rattle.tsp_script.specs.Texts.{space, message_text}
 use Rattle.tsp_base.specs.{Words.alarm_word, declared.act.Act.Act, declared.act.Placed.Placed, declared.datagram.DecodeFault.DecodeFault}
-use Rattle.tsp_base.specs.declared.act.Act.TheVariants.{Boot, Took, Post, Become, Back, Backer, Quit, Arm, Ring, Late, Join, Leave, Rival, Acked, Gave, Sample, Close, Correct, Abandon, Trace}
+use Rattle.tsp_base.specs.declared.act.Act.TheVariants.{Boot, Took, Post, Become, Back, Backer, Quit, Arm, Ring, Late, Join, Leave, Rival, Acked, Gave, Sample}
+use Rattle.tsp_base.specs.declared.act.Act.TheVariants.{Close, Correct, Abandon, Trace}
 use Rattle.tsp_base.specs.declared.datagram.DecodeFault.TheVariants.{Short, Long, Version, Kind, StampLength, NoEnd, NameTooLong, Reserved, Time}
 use Rattle.tsp_base.specs.declared.{datagram.Taken.Taken, datagram.Taken.TheVariants.Good, datagram.Taken.TheVariants.Bad, role.Role.Role}
 use Rattle.tsp_base.specs.declared.place.Place.{Place, TheVariants.Peer, TheVariants.Stranger}
@@ -68,8 +69,10 @@ act_text number (Leave p) = codes "leave " ++ decimal p.0
 act_text number (Rival p) = codes "rival " ++ decimal p.0
 act_text number (Acked p) = codes "acked " ++ decimal p.0
 act_text number (Gave p) = codes "gave " ++ decimal p.0
-act_text number (Sample p counter diff err ticket) = codes "sample " ++ decimal p.0 ++ space ++ decimal counter ++ space ++ signed_decimal diff ++ space ++ signed_decimal err ++ space ++ decimal ticket
-act_text number (Close count lo width mean) = codes "close " ++ decimal count ++ space ++ signed_decimal lo ++ space ++ signed_decimal width ++ space ++ signed_decimal mean
+act_text number (Sample p counter diff err ticket) = codes "sample " ++ decimal p.0 ++ space ++ decimal counter ++ space ++ signed_decimal diff ++ space ++
+    signed_decimal err ++ space ++ decimal ticket
+act_text number (Close count lo width mean) = codes "close " ++ decimal count ++ space ++ signed_decimal lo ++ space ++ signed_decimal width ++ space ++
+    signed_decimal mean
 act_text number (Correct amount stepped shown) = codes "correct " ++ signed_decimal amount ++ way_word stepped ++ signed_decimal shown
 act_text number Abandon = codes "abandon"
 act_text number (Trace true) = codes "trace on"
@@ -77,4 +80,5 @@ act_text number (Trace false) = codes "trace off"
 
 -- a line of the trace: the event's number, node, port and tick, and then the act
 abbrev pub trace_text : ℕ → ℕ → ℕ → ℕ → Placed → List ℕ
-trace_text event node tick number placed = decimal event ++ space ++ decimal node ++ space ++ decimal placed.port.0 ++ space ++ decimal tick ++ space ++ act_text number placed.act
+trace_text event node tick number placed = decimal event ++ space ++ decimal node ++ space ++ decimal placed.port.0 ++ space ++ decimal tick ++ space ++
+    act_text number placed.act

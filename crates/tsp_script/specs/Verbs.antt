@@ -2,13 +2,19 @@
 use Rattle.std.specs.Prelude.{◌≡◌, ℕ, Option, None, Some, List, [], ◌∷◌, ◌++◌, Bool, true, false, decimal, codes}
 use Rattle.std.specs.Fmt.{signed_decimal}
 use Rattle.tsp_base.specs.{Words.alarm_word, declared.act.Act.Act, declared.place.PeerId.PeerId}
-use Rattle.tsp_base.specs.declared.act.Act.TheVariants.{Boot, Took, Post, Become, Back, Backer, Quit, Arm, Ring, Late, Join, Leave, Rival, Acked, Gave, Sample, Close, Correct, Abandon, Trace}
+use Rattle.tsp_base.specs.declared.act.Act.TheVariants.{Boot, Took, Post, Become, Back, Backer, Quit, Arm, Ring, Late, Join, Leave, Rival, Acked, Gave, Sample}
+use Rattle.tsp_base.specs.declared.act.Act.TheVariants.{Close, Correct, Abandon, Trace}
 use Rattle.tsp_script.specs.{ActLines.IsSilent, Texts.message_text, Traces.role_text, Traces.place_text, Traces.taken_text, declared.verbs.Verb.Verb}
-use Rattle.tsp_script.specs.declared.verbs.Verb.TheVariants.{Boot as BootWord, Took as TookWord, Post as PostWord, Become as BecomeWord, Back as BackWord, Backer as BackerWord, Quit as QuitWord, Arm as ArmWord, Ring as RingWord, Late as LateWord, Join as JoinWord, Leave as LeaveWord, Rival as RivalWord, Acked as AckedWord, Gave as GaveWord, Sample as SampleWord, Close as CloseWord, Correct as CorrectWord, Abandon as AbandonWord, Trace as TraceWord}
+use Rattle.tsp_script.specs.declared.verbs.Verb.TheVariants.{Boot as BootWord, Took as TookWord, Post as PostWord, Become as BecomeWord, Back as BackWord}
+use Rattle.tsp_script.specs.declared.verbs.Verb.TheVariants.{Backer as BackerWord, Quit as QuitWord, Arm as ArmWord, Ring as RingWord, Late as LateWord}
+use Rattle.tsp_script.specs.declared.verbs.Verb.TheVariants.{Join as JoinWord, Leave as LeaveWord, Rival as RivalWord, Acked as AckedWord, Gave as GaveWord}
+use Rattle.tsp_script.specs.declared.verbs.Verb.TheVariants.{Sample as SampleWord, Close as CloseWord, Correct as CorrectWord, Abandon as AbandonWord}
+use Rattle.tsp_script.specs.declared.verbs.Verb.TheVariants.{Trace as TraceWord}
 
 -- all of them
 abbrev pub verbs : List Verb
-verbs = BootWord ∷ TookWord ∷ PostWord ∷ BecomeWord ∷ BackWord ∷ BackerWord ∷ QuitWord ∷ ArmWord ∷ RingWord ∷ LateWord ∷ JoinWord ∷ LeaveWord ∷ RivalWord ∷ AckedWord ∷ GaveWord ∷ SampleWord ∷ CloseWord ∷ CorrectWord ∷ AbandonWord ∷ TraceWord ∷ []
+verbs = BootWord ∷ TookWord ∷ PostWord ∷ BecomeWord ∷ BackWord ∷ BackerWord ∷ QuitWord ∷ ArmWord ∷ RingWord ∷ LateWord ∷ JoinWord ∷ LeaveWord ∷ RivalWord ∷
+    AckedWord ∷ GaveWord ∷ SampleWord ∷ CloseWord ∷ CorrectWord ∷ AbandonWord ∷ TraceWord ∷ []
 
 -- a word's letters
 unfoldable pub verb_word : Verb → List ℕ
@@ -94,7 +100,8 @@ rest_of_act number (Leave p) = decimal p.0
 rest_of_act number (Rival p) = decimal p.0
 rest_of_act number (Acked p) = decimal p.0
 rest_of_act number (Gave p) = decimal p.0
-rest_of_act number (Sample p counter diff err ticket) = decimal p.0 ++ 32 ∷ (decimal counter ++ 32 ∷ (signed_decimal diff ++ 32 ∷ (signed_decimal err ++ 32 ∷ decimal ticket)))
+rest_of_act number (Sample p counter diff err ticket) = decimal p.0 ++ 32 ∷ (decimal counter ++ 32 ∷
+    (signed_decimal diff ++ 32 ∷ (signed_decimal err ++ 32 ∷ decimal ticket)))
 rest_of_act number (Close count lo width mean) = decimal count ++ 32 ∷ (signed_decimal lo ++ 32 ∷ (signed_decimal width ++ 32 ∷ signed_decimal mean))
 rest_of_act number (Correct amount stepped shown) = signed_decimal amount ++ 32 ∷ (way_text stepped ++ 32 ∷ signed_decimal shown)
 rest_of_act number Abandon = []

@@ -1,5 +1,6 @@
 -- Lemmas on the places of a tree: the first leaves.
-use Rattle.std.proofs.Common.{◌≡◌, ◌≢◌, ℕ, ◌+◌, ◌-◌, ◌*◌, ◌%◌, ◌^◌, ◌≤◌, ◌<◌, nat_le, true, false, List, length, take, drop, replicate, Option, None, Some, set, length-take, length-drop, get_or-take, get_or-drop, get_or-set_other, refl, sym, ◌∙◌, ap, arith, inl, inr}
+use Rattle.std.proofs.Common.{◌≡◌, ◌≢◌, ℕ, ◌+◌, ◌-◌, ◌*◌, ◌%◌, ◌^◌, ◌≤◌, ◌<◌, nat_le, true, false, List, length, take, drop, replicate, Option, None, Some, set}
+use Rattle.std.proofs.Common.{length-take, length-drop, get_or-take, get_or-drop, get_or-set_other, refl, sym, ◌∙◌, ap, arith, inl, inr}
 use Rattle.std.proofs.{Math.Seq.take-set-lt, lemmas.Bool.cases_lt, lemmas.Bool.lt-leb, lemmas.Bool.Decides.nat_tests, lemmas.Nat.shl_whole}
 use Rattle.std.proofs.lemmas.List.{get_or_past, length-replicate, get_or-replicate, drop-set-add, take-replicate, drop-replicate}
 use Rattle.tsp_sends.specs.{Deadlines.is_due, Deadlines.deadline_at, Deadlines.IsLeast, Trees.HoldsEarlier, Trees.IsTree}
@@ -13,10 +14,12 @@ pub places_in-length : (nodes : List (Option ℕ)) (places levels : ℕ) → IsT
 places_in-length nodes places levels t = omega (arith, length-take places (drop (2 ^ levels) nodes), length-drop (2 ^ levels) nodes, t.size, t.enough)
 
 -- a place is a leaf
-pub places_in-at : (nodes : List (Option ℕ)) (places levels : ℕ) → IsTree nodes places levels → (i : ℕ) → deadline_at (places_in nodes places levels) i ≡ deadline_at nodes (2 ^ levels + i)
+pub places_in-at : (nodes : List (Option ℕ)) (places levels : ℕ) → IsTree nodes places levels → (i : ℕ) → deadline_at (places_in nodes places levels) i ≡
+    deadline_at nodes (2 ^ levels + i)
 places_in-at nodes places levels t i = elim (cases_lt i places) [
   | inl inside ↦ get_or-take places (drop (2 ^ levels) nodes) i None inside ∙ get_or-drop (2 ^ levels) nodes i None
-  | inr past ↦ get_or_past (places_in nodes places levels) i None (omega (arith, places_in-length nodes places levels t)) ∙ sym (t.spare (2 ^ levels + i) (omega arith))
+  | inr past ↦ get_or_past (places_in nodes places levels) i None (omega (arith, places_in-length nodes places levels t)) ∙
+      sym (t.spare (2 ^ levels + i) (omega arith))
 ]
 
 none_late : (tick : ℕ) (d : Option ℕ) → is_due tick d ≡ true → d ≡ None → ⊥
@@ -24,11 +27,13 @@ none_late tick None e f = cc
 none_late tick (Some u) e f = cc
 
 -- where the root isn't due, no place is
-none_due-root : (nodes : List (Option ℕ)) (places levels tick : ℕ) → IsTree nodes places levels → is_due tick (deadline_at nodes 1) ≡ false → (i : ℕ) → is_due tick (deadline_at (places_in nodes places levels) i) ≡ false
+none_due-root : (nodes : List (Option ℕ)) (places levels tick : ℕ) → IsTree nodes places levels → is_due tick (deadline_at nodes 1) ≡ false → (i : ℕ) →
+    is_due tick (deadline_at (places_in nodes places levels) i) ≡ false
 none_due-root nodes places levels tick t late i =
     let size : length nodes ≡ 2 * 2 ^ levels = t.size in
     elim (cases_lt (2 ^ levels + i) (length nodes)) [
-      | inl inside ↦ rw (places_in-at nodes places levels t i) (none_due_below levels nodes 1 tick t.earlier (omega arith) (omega arith) late (2 ^ levels + i) (omega arith) (omega arith))
+      | inl inside ↦ rw (places_in-at nodes places levels t i) (none_due_below levels nodes 1 tick t.earlier (omega arith) (omega arith) late (2 ^ levels + i)
+          (omega arith) (omega arith))
       | inr past ↦ rw (places_in-at nodes places levels t i, get_or_past nodes (2 ^ levels + i) None past) refl
     ]
 
@@ -40,7 +45,8 @@ due_means t None e = let bad : ⊥ = cc in absurd bad
 due_means t (Some u) e = (u, refl, grind (arith, nat_tests))
 
 -- no place has a deadline before the root's
-first_of_root : (nodes : List (Option ℕ)) (places levels t : ℕ) → IsTree nodes places levels → deadline_at nodes 1 ≡ Some t → (i u : ℕ) → deadline_at (places_in nodes places levels) i ≡ Some u → t ≤ u
+first_of_root : (nodes : List (Option ℕ)) (places levels t : ℕ) → IsTree nodes places levels → deadline_at nodes 1 ≡ Some t → (i u : ℕ) →
+    deadline_at (places_in nodes places levels) i ≡ Some u → t ≤ u
 first_of_root nodes places levels t tree e i u f = elim (cases_lt u t) [
   | inl before ↦
       let late : is_due u (deadline_at nodes 1) ≡ false = rw e (lt-leb t u before) in
@@ -52,7 +58,8 @@ first_of_root nodes places levels t tree e i u f = elim (cases_lt u t) [
 ]
 
 -- the root holds the least deadline
-pub IsLeast-root : (nodes : List (Option ℕ)) (places levels : ℕ) (r : Option ℕ) → IsTree nodes places levels → deadline_at nodes 1 ≡ r → IsLeast (places_in nodes places levels) r
+pub IsLeast-root : (nodes : List (Option ℕ)) (places levels : ℕ) (r : Option ℕ) → IsTree nodes places levels → deadline_at nodes 1 ≡ r →
+    IsLeast (places_in nodes places levels) r
 IsLeast-root nodes places levels None tree e = λ i. none_here i (deadline_at (places_in nodes places levels) i) refl where
   none_here : (i : ℕ) (d : Option ℕ) → deadline_at (places_in nodes places levels) i ≡ d → d ≡ None
   none_here i None f = refl
@@ -67,7 +74,8 @@ IsLeast-root nodes places levels (Some t) tree e =
     let low : 1 * 2 ^ levels ≤ w.0 = w.1 in
     let back : 2 ^ levels + (w.0 - 2 ^ levels) ≡ w.0 = omega arith in
     let d = due_means t (deadline_at nodes w.0) w.3 in
-    let here : deadline_at (places_in nodes places levels) (w.0 - 2 ^ levels) ≡ Some d.0 = places_in-at nodes places levels tree (w.0 - 2 ^ levels) ∙ rw back d.1 in
+    let here : deadline_at (places_in nodes places levels) (w.0 - 2 ^ levels) ≡ Some d.0 = places_in-at nodes places levels tree (w.0 - 2 ^ levels) ∙
+    rw back d.1 in
     let least : t ≤ d.0 = first_of_root nodes places levels t tree e (w.0 - 2 ^ levels) d.0 here in
     let same : d.0 ≡ t = omega (arith, d.2) in
     record {
@@ -83,11 +91,14 @@ IsLeast-root nodes places levels (Some t) tree e =
     }
 
 -- a place gets another deadline
-pub places_in-set : (nodes new : List (Option ℕ)) (places levels i : ℕ) (at : Option ℕ) → i < places → drop (2 ^ levels) new ≡ drop (2 ^ levels) (set nodes (2 ^ levels + i) at)
+pub places_in-set : (nodes new : List (Option ℕ)) (places levels i : ℕ) (at : Option ℕ) → i < places → drop (2 ^ levels) new ≡
+    drop (2 ^ levels) (set nodes (2 ^ levels + i) at)
     → places_in new places levels ≡ set (places_in nodes places levels) i at
-places_in-set nodes new places levels i at h e = ap (take places) (e ∙ drop-set-add (2 ^ levels) nodes i at) ∙ take-set-lt places (drop (2 ^ levels) nodes) i at h
+places_in-set nodes new places levels i at h e = ap (take places) (e ∙ drop-set-add (2 ^ levels) nodes i at) ∙
+    take-set-lt places (drop (2 ^ levels) nodes) i at h
 
-pub IsTree-set : (nodes new : List (Option ℕ)) (places levels i : ℕ) (at : Option ℕ) → i < places → IsTree nodes places levels → HoldsEarlier 0 new → length new ≡ length nodes
+pub IsTree-set : (nodes new : List (Option ℕ)) (places levels i : ℕ) (at : Option ℕ) → i < places → IsTree nodes places levels → HoldsEarlier 0 new →
+    length new ≡ length nodes
     → drop (2 ^ levels) new ≡ drop (2 ^ levels) (set nodes (2 ^ levels + i) at) → IsTree new places levels
 IsTree-set nodes new places levels i at inside t holds size leaves = record {
   size = size ∙ t.size;
@@ -99,7 +110,8 @@ IsTree-set nodes new places levels i at inside t holds size leaves = record {
       let back : 2 ^ levels + (j - 2 ^ levels) ≡ j = omega arith in
       let other : j ≢ 2 ^ levels + i = λ e. omega arith in
       ap (deadline_at new) (sym back) ∙ sym (get_or-drop (2 ^ levels) new (j - 2 ^ levels) None) ∙ ap (λ xs. deadline_at xs (j - 2 ^ levels)) leaves
-      ∙ get_or-drop (2 ^ levels) (set nodes (2 ^ levels + i) at) (j - 2 ^ levels) None ∙ ap (deadline_at (set nodes (2 ^ levels + i) at)) back ∙ get_or-set_other nodes (2 ^ levels + i) j at None other ∙ t.spare j h;
+      ∙ get_or-drop (2 ^ levels) (set nodes (2 ^ levels + i) at) (j - 2 ^ levels) None ∙ ap (deadline_at (set nodes (2 ^ levels + i) at)) back ∙
+      get_or-set_other nodes (2 ^ levels + i) j at None other ∙ t.spare j h;
 }
 
 none_everywhere : (n i : ℕ) → deadline_at (replicate n None) i ≡ None
@@ -108,13 +120,20 @@ none_everywhere n i = elim (cases_lt i n) [
   | inr past ↦ get_or_past (replicate n None) i None (omega (arith, length-replicate n (let d : Option ℕ = None in d)))
 ]
 
-pub IsTree-new : (places levels : ℕ) → levels ≤ 60 → places ≤ 2 ^ levels → ((k : ℕ) → places ≤ 2 ^ k → levels ≤ k) → IsTree (replicate (2 * 2 ^ levels) None) places levels
+pub IsTree-new : (places levels : ℕ) → levels ≤ 60 → places ≤ 2 ^ levels → ((k : ℕ) → places ≤ 2 ^ k → levels ≤ k) →
+    IsTree (replicate (2 * 2 ^ levels) None) places levels
 IsTree-new places levels small enough tight = record {
   size = length-replicate (2 * 2 ^ levels) None;
   small = small;
   enough = enough;
   tight = tight;
-  earlier = record { parents = λ i some other inside. rw (none_everywhere (2 * 2 ^ levels) i, none_everywhere (2 * 2 ^ levels) (2 * i), none_everywhere (2 * 2 ^ levels) (2 * i + 1)) refl };
+  earlier = record {
+    parents = λ i some other inside. rw (
+      none_everywhere (2 * 2 ^ levels) i,
+      none_everywhere (2 * 2 ^ levels) (2 * i),
+      none_everywhere (2 * 2 ^ levels) (2 * i + 1),
+    ) refl;
+  };
   spare = λ i h. none_everywhere (2 * 2 ^ levels) i;
 }
 

@@ -12,7 +12,8 @@ peer_at : (slots : List Slot) (k : ℕ) (d : Slot) → k < length slots → (get
 peer_at slots k d h = ap (λ (q : PeerId). q.0) (get_or-map (λ (s : Slot). s.peer) slots k d d.peer h)
 
 -- what a binary search by the peers' numbers finds
-pub IsPlaceOf-searched : (slots : List Slot) (p : PeerId) (r : Result ℕ ℕ) → IsAscending (peers_of slots) → IsSearchInRange r (length (peers_of slots)) → IsBinarySearchResult (λ (q : PeerId). nat_cmp q.0 p.0) (peers_of slots) r → IsPlaceOf p slots r
+pub IsPlaceOf-searched : (slots : List Slot) (p : PeerId) (r : Result ℕ ℕ) → IsAscending (peers_of slots) → IsSearchInRange r (length (peers_of slots)) →
+    IsBinarySearchResult (λ (q : PeerId). nat_cmp q.0 p.0) (peers_of slots) r → IsPlaceOf p slots r
 IsPlaceOf-searched slots p (Ok i) up bound found =
     let inside : i < length slots = omega (arith, length-map slots (λ (s : Slot). s.peer), bound) in
     (inside, λ d. sym (peer_at slots i d inside) ∙ equal_means (get_or (peers_of slots) i d.peer).0 p.0 (found d.peer))
@@ -43,7 +44,8 @@ always_found slots p i c place =
     no_slot slots p i place c.0 d inside (ap (λ (q : PeerId). q.0) here)
 
 -- after a peer's own slot comes the first one of a later peer
-pub IsFirstAfter-next : (slots : List Slot) (after : Option PeerId) (p : PeerId) (i : ℕ) → Rising slots → after ≡ Some p → IsPlaceOf p slots (Ok i) → IsFirstAfter after slots (i + 1)
+pub IsFirstAfter-next : (slots : List Slot) (after : Option PeerId) (p : PeerId) (i : ℕ) → Rising slots → after ≡ Some p → IsPlaceOf p slots (Ok i) →
+    IsFirstAfter after slots (i + 1)
 IsFirstAfter-next slots after p i rise e place = rw e (record {
   before = λ k d l later inside.
       let low : (get_or slots k d).peer.0 ≤ (get_or slots i d).peer.0 = never_falls (λ (s : Slot). s.peer.0) slots rise k i d (omega arith) place.0 in

@@ -1,5 +1,6 @@
 -- Lemmas on trees of deadlines.
-use Rattle.std.proofs.Common.{◌≡◌, ◌≢◌, ℕ, zero, suc, ◌+◌, ◌-◌, ◌*◌, ◌/◌, ◌%◌, ◌^◌, ◌≤◌, ◌<◌, nat_le, Bool, true, false, ◌||◌, List, length, drop, Option, None, Some, set, length-set, get_or-set_same, get_or-set_other, refl, sym, ◌∙◌, ap, add-one, arith, inl, inr}
+use Rattle.std.proofs.Common.{◌≡◌, ◌≢◌, ℕ, zero, suc, ◌+◌, ◌-◌, ◌*◌, ◌/◌, ◌%◌, ◌^◌, ◌≤◌, ◌<◌, nat_le, Bool, true, false, ◌||◌, List, length, drop, Option, None}
+use Rattle.std.proofs.Common.{Some, set, length-set, get_or-set_same, get_or-set_other, refl, sym, ◌∙◌, ap, add-one, arith, inl, inr}
 use Rattle.std.proofs.Math.Nat.{pow-suc, le-mul_of_pos_right, mul-le-mul_right, le_of_mul-le-mul_right, pow-le-pow_right}
 use Rattle.std.proofs.lemmas.Nat.{pow_pos, pow-add}
 use Rattle.std.proofs.lemmas.{Bool.cases_lt, Bool.cases_eq, Bool.Decides.nat_tests, List.get_or_past, List.drop-set-lt}
@@ -39,7 +40,8 @@ has_children : (n i w : ℕ) → 0 < w → (i + 1) * (2 * w) ≤ n → 2 * i + 1
 has_children n i w some h = let wide : 2 * (i + 1) ≤ 2 * (i + 1) * w = le-mul_of_pos_right (2 * (i + 1)) some in omega arith
 
 -- where a node's deadline hasn't come, no leaf's below it has
-pub none_due_below : (h : ℕ) (nodes : List (Option ℕ)) (i tick : ℕ) → HoldsEarlier 0 nodes → 0 < i → (i + 1) * 2 ^ h ≤ length nodes → is_due tick (deadline_at nodes i) ≡ false
+pub none_due_below : (h : ℕ) (nodes : List (Option ℕ)) (i tick : ℕ) → HoldsEarlier 0 nodes → 0 < i → (i + 1) * 2 ^ h ≤ length nodes →
+    is_due tick (deadline_at nodes i) ≡ false
     → (j : ℕ) → i * 2 ^ h ≤ j → j < (i + 1) * 2 ^ h → is_due tick (deadline_at nodes j) ≡ false
 none_due_below zero nodes i tick holds some inside late j low high =
     let e : j ≡ i = omega arith in rw e late
@@ -68,18 +70,22 @@ NoneDueBefore-start leaf tick nodes = record { order = omega arith; late = λ j 
 same_start : (n q h k : ℕ) → n ≡ 2 * q → h ≡ k + 1 → q * 2 ^ h ≡ n * 2 ^ k
 same_start n q h k e f = rw (f, e, pow-double k) (omega arith)
 
-along : (leaf tick : ℕ) (nodes : List (Option ℕ)) (node height m k : ℕ) → m * 2 ^ k ≡ node * 2 ^ height → NoneDueBefore leaf tick nodes node height → NoneDueBefore leaf tick nodes m k
+along : (leaf tick : ℕ) (nodes : List (Option ℕ)) (node height m k : ℕ) → m * 2 ^ k ≡ node * 2 ^ height → NoneDueBefore leaf tick nodes node height →
+    NoneDueBefore leaf tick nodes m k
 along leaf tick nodes node height m k e h = record { order = rw e h.order; late = λ j l b. h.late j l (rw (← e) b) }
 
 -- a node has the same first leaf as its left child
-pub NoneDueBefore-parent : (leaf tick : ℕ) (nodes : List (Option ℕ)) (node q h k : ℕ) → node ≡ 2 * q → h ≡ k + 1 → NoneDueBefore leaf tick nodes node k → NoneDueBefore leaf tick nodes q h
+pub NoneDueBefore-parent : (leaf tick : ℕ) (nodes : List (Option ℕ)) (node q h k : ℕ) → node ≡ 2 * q → h ≡ k + 1 → NoneDueBefore leaf tick nodes node k →
+    NoneDueBefore leaf tick nodes q h
 NoneDueBefore-parent leaf tick nodes node q h k e f b = along leaf tick nodes node k q h (same_start node q h k e f) b
 
-pub NoneDueBefore-child : (leaf tick : ℕ) (nodes : List (Option ℕ)) (node q h k : ℕ) → node ≡ 2 * q → h ≡ k + 1 → NoneDueBefore leaf tick nodes q h → NoneDueBefore leaf tick nodes node k
+pub NoneDueBefore-child : (leaf tick : ℕ) (nodes : List (Option ℕ)) (node q h k : ℕ) → node ≡ 2 * q → h ≡ k + 1 → NoneDueBefore leaf tick nodes q h →
+    NoneDueBefore leaf tick nodes node k
 NoneDueBefore-child leaf tick nodes node q h k e f b = along leaf tick nodes q h node k (sym (same_start node q h k e f)) b
 
 -- a node that isn't due is passed
-pub NoneDueBefore-next : (leaf tick : ℕ) (nodes : List (Option ℕ)) (node h : ℕ) → HoldsEarlier 0 nodes → 0 < node → (node + 1) * 2 ^ h ≤ length nodes → is_due tick (deadline_at nodes node) ≡ false
+pub NoneDueBefore-next : (leaf tick : ℕ) (nodes : List (Option ℕ)) (node h : ℕ) → HoldsEarlier 0 nodes → 0 < node → (node + 1) * 2 ^ h ≤ length nodes →
+    is_due tick (deadline_at nodes node) ≡ false
     → NoneDueBefore leaf tick nodes node h → NoneDueBefore leaf tick nodes (node + 1) h
 NoneDueBefore-next leaf tick nodes node h holds some inside late b = record {
   order = omega (arith, b.order);
@@ -100,14 +106,16 @@ odd_inside node h levels odd inside low =
     omega (arith, split)
 
 -- the right child is due where the node is and the left child isn't
-pub right_is_due : (nodes : List (Option ℕ)) (i tick h k : ℕ) → HoldsEarlier 0 nodes → 0 < i → h ≡ k + 1 → (i + 1) * 2 ^ h ≤ length nodes → is_due tick (deadline_at nodes i) ≡ true
+pub right_is_due : (nodes : List (Option ℕ)) (i tick h k : ℕ) → HoldsEarlier 0 nodes → 0 < i → h ≡ k + 1 → (i + 1) * 2 ^ h ≤ length nodes →
+    is_due tick (deadline_at nodes i) ≡ true
     → is_due tick (deadline_at nodes (2 * i)) ≡ false → is_due tick (deadline_at nodes (2 * i + 1)) ≡ true
 right_is_due nodes i tick h k holds some e inside due late =
     let within : (i + 1) * (2 * 2 ^ k) ≤ length nodes = rw (← pow-double k, ← e) inside in
     right_due _ _ _ (due_by_children nodes i tick holds some (has_children (length nodes) i (2 ^ k) (pow_pos k) within)) due late
 
 -- some leaf below a node that is due is due
-pub some_due_below : (h : ℕ) (nodes : List (Option ℕ)) (i tick : ℕ) → HoldsEarlier 0 nodes → 0 < i → (i + 1) * 2 ^ h ≤ length nodes → is_due tick (deadline_at nodes i) ≡ true
+pub some_due_below : (h : ℕ) (nodes : List (Option ℕ)) (i tick : ℕ) → HoldsEarlier 0 nodes → 0 < i → (i + 1) * 2 ^ h ≤ length nodes →
+    is_due tick (deadline_at nodes i) ≡ true
     → (j : ℕ) × (i * 2 ^ h ≤ j) × (j < (i + 1) * 2 ^ h) × (is_due tick (deadline_at nodes j) ≡ true)
 some_due_below zero nodes i tick holds some inside due = (i, omega arith, omega arith, due)
 some_due_below (suc h) nodes i tick holds some inside due =
@@ -117,8 +125,10 @@ some_due_below (suc h) nodes i tick holds some inside due =
     let right = λ (e : is_due tick (deadline_at nodes (2 * i + 1)) ≡ true). some_due_below h nodes (2 * i + 1) tick holds (omega arith) (omega arith) e in
     rw double (by_left (is_due tick (deadline_at nodes (2 * i))) refl left right) where
       by_left : (b : Bool) → is_due tick (deadline_at nodes (2 * i)) ≡ b
-          → (is_due tick (deadline_at nodes (2 * i)) ≡ true → (j : ℕ) × (2 * i * 2 ^ h ≤ j) × (j < (2 * i + 1) * 2 ^ h) × (is_due tick (deadline_at nodes j) ≡ true))
-          → (is_due tick (deadline_at nodes (2 * i + 1)) ≡ true → (j : ℕ) × ((2 * i + 1) * 2 ^ h ≤ j) × (j < (2 * i + 1 + 1) * 2 ^ h) × (is_due tick (deadline_at nodes j) ≡ true))
+          → (is_due tick (deadline_at nodes (2 * i)) ≡ true → (j : ℕ) × (2 * i * 2 ^ h ≤ j) × (j < (2 * i + 1) * 2 ^ h) ×
+          (is_due tick (deadline_at nodes j) ≡ true))
+          → (is_due tick (deadline_at nodes (2 * i + 1)) ≡ true → (j : ℕ) × ((2 * i + 1) * 2 ^ h ≤ j) × (j < (2 * i + 1 + 1) * 2 ^ h) ×
+          (is_due tick (deadline_at nodes j) ≡ true))
           → (j : ℕ) × (i * (2 * 2 ^ h) ≤ j) × (j < (i + 1) * (2 * 2 ^ h)) × (is_due tick (deadline_at nodes j) ≡ true)
       by_left true e left right = let w = left e in (w.0, omega (arith, w.1), omega (arith, w.2), w.3)
       by_left false e left right =
@@ -136,7 +146,8 @@ pub record IsDueNode (leaf tick : ℕ) (nodes : List (Option ℕ)) (node height 
   pub due : is_due tick (deadline_at nodes node) ≡ true
   pub before : NoneDueBefore leaf tick nodes node height
 
-pub IsDueNode-left : (leaf tick : ℕ) (nodes : List (Option ℕ)) (node h k m : ℕ) → HoldsEarlier 0 nodes → h ≡ k + 1 → m ≡ 2 * node → IsDueNode leaf tick nodes node h → is_due tick (deadline_at nodes m) ≡ true
+pub IsDueNode-left : (leaf tick : ℕ) (nodes : List (Option ℕ)) (node h k m : ℕ) → HoldsEarlier 0 nodes → h ≡ k + 1 → m ≡ 2 * node →
+    IsDueNode leaf tick nodes node h → is_due tick (deadline_at nodes m) ≡ true
     → IsDueNode leaf tick nodes m k
 IsDueNode-left leaf tick nodes node h k m holds e f d due =
     let within : (node + 1) * (2 * 2 ^ k) ≤ length nodes = rw (← pow-double k, ← e) d.inside in
@@ -148,7 +159,8 @@ IsDueNode-left leaf tick nodes node h k m holds e f d due =
       before = NoneDueBefore-child leaf tick nodes m node h k f e d.before;
     }
 
-pub IsDueNode-right : (leaf tick : ℕ) (nodes : List (Option ℕ)) (node h k m : ℕ) → HoldsEarlier 0 nodes → h ≡ k + 1 → m ≡ 2 * node → IsDueNode leaf tick nodes node h → is_due tick (deadline_at nodes m) ≡ false
+pub IsDueNode-right : (leaf tick : ℕ) (nodes : List (Option ℕ)) (node h k m : ℕ) → HoldsEarlier 0 nodes → h ≡ k + 1 → m ≡ 2 * node →
+    IsDueNode leaf tick nodes node h → is_due tick (deadline_at nodes m) ≡ false
     → IsDueNode leaf tick nodes (m + 1) k
 IsDueNode-right leaf tick nodes node h k m holds e f d late =
     let within : (node + 1) * (2 * 2 ^ k) ≤ length nodes = rw (← pow-double k, ← e) d.inside in
@@ -163,7 +175,8 @@ IsDueNode-right leaf tick nodes node h k m holds e f d late =
       before = NoneDueBefore-next leaf tick nodes m k holds (omega arith) (omega arith) late (NoneDueBefore-child leaf tick nodes m node h k f e d.before);
     }
 
-pub IsDueNode-start : (node h tick : ℕ) (nodes : List (Option ℕ)) → 0 < node → (node + 1) * 2 ^ h ≤ length nodes → is_due tick (deadline_at nodes node) ≡ true → IsDueNode (node * 2 ^ h) tick nodes node h
+pub IsDueNode-start : (node h tick : ℕ) (nodes : List (Option ℕ)) → 0 < node → (node + 1) * 2 ^ h ≤ length nodes → is_due tick (deadline_at nodes node) ≡ true →
+    IsDueNode (node * 2 ^ h) tick nodes node h
 IsDueNode-start node h tick nodes some inside due = record {
   some = some;
   inside = inside;
@@ -195,8 +208,14 @@ HoldsEarlier-set nodes n at holds within value = record {
         | inl e ↦
             let positive : 0 < n = omega arith in
             let room : 2 * n + 1 < length nodes = omega arith in
-            rw (e, get_or-set_same nodes n at None within, get_or-set_other nodes n (2 * n) at None (λ f. left (ap (λ m. 2 * m) e ∙ f)), get_or-set_other nodes n (2 * n + 1) at None (λ f. right (ap (λ m. 2 * m + 1) e ∙ f))) (value positive room)
-        | inr ne ↦ rw (get_or-set_other nodes n i at None ne, get_or-set_other nodes n (2 * i) at None left, get_or-set_other nodes n (2 * i + 1) at None right) (holds.parents i some ne fits)
+            rw (
+              e,
+              get_or-set_same nodes n at None within,
+              get_or-set_other nodes n (2 * n) at None (λ f. left (ap (λ m. 2 * m) e ∙ f)),
+              get_or-set_other nodes n (2 * n + 1) at None (λ f. right (ap (λ m. 2 * m + 1) e ∙ f)),
+            ) (value positive room)
+        | inr ne ↦ rw (get_or-set_other nodes n i at None ne, get_or-set_other nodes n (2 * i) at None left, get_or-set_other nodes n (2 * i + 1) at None right)
+            (holds.parents i some ne fits)
       ];
 }
 
@@ -212,18 +231,21 @@ pub record IsClimbing (leaf tick : ℕ) (nodes : List (Option ℕ)) (levels node
   pub inside : node * 2 ^ height ≤ 2 * 2 ^ levels
   pub before : NoneDueBefore leaf tick nodes node height
 
-pub IsClimbing-up : (leaf tick : ℕ) (nodes : List (Option ℕ)) (levels node h q : ℕ) → node ≡ 2 * q → IsClimbing leaf tick nodes levels node h → IsClimbing leaf tick nodes levels q (h + 1)
+pub IsClimbing-up : (leaf tick : ℕ) (nodes : List (Option ℕ)) (levels node h q : ℕ) → node ≡ 2 * q → IsClimbing leaf tick nodes levels node h →
+    IsClimbing leaf tick nodes levels q (h + 1)
 IsClimbing-up leaf tick nodes levels node h q e b =
     let same : q * 2 ^ (h + 1) ≡ node * 2 ^ h = same_start node q (h + 1) h e refl in
     record { inside = omega (arith, same, b.inside); before = NoneDueBefore-parent leaf tick nodes node q (h + 1) h e refl b.before }
 
-pub IsClimbing-next : (leaf tick : ℕ) (nodes : List (Option ℕ)) (levels node h : ℕ) → HoldsEarlier 0 nodes → length nodes ≡ 2 * 2 ^ levels → node % 2 ≡ 1 → h ≤ levels → is_due tick (deadline_at nodes node) ≡ false
+pub IsClimbing-next : (leaf tick : ℕ) (nodes : List (Option ℕ)) (levels node h : ℕ) → HoldsEarlier 0 nodes → length nodes ≡ 2 * 2 ^ levels → node % 2 ≡ 1 →
+    h ≤ levels → is_due tick (deadline_at nodes node) ≡ false
     → IsClimbing leaf tick nodes levels node h → IsClimbing leaf tick nodes levels (node + 1) h
 IsClimbing-next leaf tick nodes levels node h holds size odd low late b =
     let inside : (node + 1) * 2 ^ h ≤ 2 * 2 ^ levels = odd_inside node h levels odd b.inside low in
     record { inside = inside; before = NoneDueBefore-next leaf tick nodes node h holds (omega arith) (omega arith) late b.before }
 
-pub climbing_bounds : (leaf tick : ℕ) (nodes : List (Option ℕ)) (levels node h : ℕ) → length nodes ≡ 2 * 2 ^ levels → node % 2 ≡ 1 → h ≤ levels → IsClimbing leaf tick nodes levels node h
+pub climbing_bounds : (leaf tick : ℕ) (nodes : List (Option ℕ)) (levels node h : ℕ) → length nodes ≡ 2 * 2 ^ levels → node % 2 ≡ 1 → h ≤ levels →
+    IsClimbing leaf tick nodes levels node h
     → (node + 1 ≤ length nodes) × ((node + 1) * 2 ^ h ≤ length nodes)
 climbing_bounds leaf tick nodes levels node h size odd low b =
     let inside : (node + 1) * 2 ^ h ≤ 2 * 2 ^ levels = odd_inside node h levels odd b.inside low in
@@ -231,7 +253,8 @@ climbing_bounds leaf tick nodes levels node h size odd low b =
     (omega arith, omega arith)
 
 -- above the root no leaf is left
-pub IsClimbing-over : (leaf tick : ℕ) (nodes : List (Option ℕ)) (levels node h : ℕ) → length nodes ≡ 2 * 2 ^ levels → 0 < leaf → h ≡ levels + 1 → IsClimbing leaf tick nodes levels node h
+pub IsClimbing-over : (leaf tick : ℕ) (nodes : List (Option ℕ)) (levels node h : ℕ) → length nodes ≡ 2 * 2 ^ levels → 0 < leaf → h ≡ levels + 1 →
+    IsClimbing leaf tick nodes levels node h
     → (j : ℕ) → leaf ≤ j → is_due tick (deadline_at nodes j) ≡ false
 IsClimbing-over leaf tick nodes levels zero h size some e b j l = let order : leaf ≤ 0 * 2 ^ h = b.before.order in absurd (omega arith)
 IsClimbing-over leaf tick nodes levels (suc n) h size some e b j l =
@@ -242,7 +265,8 @@ IsClimbing-over leaf tick nodes levels (suc n) h size some e b j l =
     ]
 
 -- the leaf that was found below a node is the first one of all
-pub IsFirstDueAt-below : (leaf tick : ℕ) (nodes : List (Option ℕ)) (node h i : ℕ) → NoneDueBefore leaf tick nodes node h → IsFirstDueAt (node * 2 ^ h) tick nodes i → IsFirstDueAt leaf tick nodes i
+pub IsFirstDueAt-below : (leaf tick : ℕ) (nodes : List (Option ℕ)) (node h i : ℕ) → NoneDueBefore leaf tick nodes node h →
+    IsFirstDueAt (node * 2 ^ h) tick nodes i → IsFirstDueAt leaf tick nodes i
 IsFirstDueAt-below leaf tick nodes node h i b f = record {
   after = omega (arith, b.order, f.after);
   inside = f.inside;
@@ -251,7 +275,8 @@ IsFirstDueAt-below leaf tick nodes node h i b f = record {
 }
 
 -- the nodes above the leaves aren't among them
-pub leaves_kept : (nodes old : List (Option ℕ)) (levels n : ℕ) (at : Option ℕ) → n < 2 ^ levels → drop (2 ^ levels) nodes ≡ drop (2 ^ levels) old → drop (2 ^ levels) (set nodes n at) ≡ drop (2 ^ levels) old
+pub leaves_kept : (nodes old : List (Option ℕ)) (levels n : ℕ) (at : Option ℕ) → n < 2 ^ levels → drop (2 ^ levels) nodes ≡ drop (2 ^ levels) old →
+    drop (2 ^ levels) (set nodes n at) ≡ drop (2 ^ levels) old
 leaves_kept nodes old levels n at h e = drop-set-lt (2 ^ levels) nodes n at h ∙ e
 
 pub half_below : (node h n : ℕ) → node * 2 ^ h < n → node / 2 * 2 ^ (h + 1) < n

@@ -37,7 +37,8 @@ pub record IsNextDue (after : Option PeerId) (tick : ℕ) (slots : List Slot) (p
 -- the next due send is repeated or given up; where none is due nothing changes
 abbrev pub RepeatsNext : Option PeerId → ℕ → List Slot → List Slot → Option Due → Type 0
 RepeatsNext after tick old new None = ((q : PeerId) → IsAfter after q → is_due_send tick (sending_to old q) ≡ false) × (new ≡ old)
-RepeatsNext after tick old new (Some due) = (p : PeerId) × (s : Sending) × IsNextDue after tick old p s × (due ≡ repeated p tick s) × SetsOnly p (kept tick s) old new
+RepeatsNext after tick old new (Some due) = (p : PeerId) × (s : Sending) × IsNextDue after tick old p s × (due ≡ repeated p tick s) ×
+    SetsOnly p (kept tick s) old new
 
 -- t is the deadline of one of these open sends, and none has an earlier one
 pub record IsLeastSend (sending : PeerId → Option Sending) (t : ℕ) : Type 0 where
@@ -52,7 +53,8 @@ IsEarliest sending (Some t) = IsLeastSend sending t
 -- where a peer's slot is, or where it would be
 abbrev pub IsPlaceOf : PeerId → List Slot → Result ℕ ℕ → Type 0
 IsPlaceOf p slots (Ok i) = (i < length slots) × ((d : Slot) → (slice_index_or slots i d).peer.0 ≡ p.0)
-IsPlaceOf p slots (Err i) = (i ≤ length slots) × ((k : ℕ) (d : Slot) → k < i → (slice_index_or slots k d).peer.0 < p.0) × ((k : ℕ) (d : Slot) → i ≤ k → k < length slots → p.0 < (slice_index_or slots k d).peer.0)
+IsPlaceOf p slots (Err i) = (i ≤ length slots) × ((k : ℕ) (d : Slot) → k < i → (slice_index_or slots k d).peer.0 < p.0) ×
+    ((k : ℕ) (d : Slot) → i ≤ k → k < length slots → p.0 < (slice_index_or slots k d).peer.0)
 
 -- the place of the first slot whose peer comes after this one
 pub record IsFirstAfter (after : Option PeerId) (slots : List Slot) (i : ℕ) : Type 0 where

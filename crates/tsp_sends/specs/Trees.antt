@@ -15,7 +15,8 @@ pub record TreeValue : Type 0 where
 
 -- each node with children has the earlier one of their deadlines, except the node `hole`; 0 excepts none
 pub record HoldsEarlier (hole : ℕ) (nodes : List (Option ℕ)) : Type 0 where
-  pub parents : (i : ℕ) → 0 < i → i ≢ hole → 2 * i + 1 < length nodes → deadline_at nodes i ≡ earlier (deadline_at nodes (2 * i)) (deadline_at nodes (2 * i + 1))
+  pub parents : (i : ℕ) → 0 < i → i ≢ hole → 2 * i + 1 < length nodes → deadline_at nodes i ≡
+      earlier (deadline_at nodes (2 * i)) (deadline_at nodes (2 * i + 1))
 
 -- the last level has 2 ^ levels leaves, of which the first ones are the places; the others have no deadline
 pub record IsTree (nodes : List (Option ℕ)) (places levels : ℕ) : Type 0 where

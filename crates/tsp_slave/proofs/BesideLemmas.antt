@@ -2,7 +2,8 @@
 use Rattle.std.proofs.Common.{sym, true≢false, ◌≡◌, ℕ, true, List, [], ◌∷◌, Option}
 use Rattle.tsp_rules.specs.Values.{Act, Boot, Took, Become, Correct, Placed, Port, Follow}
 use Rattle.tsp_base.specs.Words.{Performs, Keeps, Received, Row, puts}
-use Rattle.tsp_rules.proofs.Emits.{Sort, Asking, Correcting, Numbering, Passing, Posting, Leading, Changing, Backing, Counting, Rounding, Alarming, Tabling, Rivalling, Acking, Giving, Sampling, Closing, Tracing, is_in, sort_of, Emits, Keeps_by}
+use Rattle.tsp_rules.proofs.Emits.{Sort, Asking, Correcting, Numbering, Passing, Posting, Leading, Changing, Backing, Counting, Rounding, Alarming, Tabling}
+use Rattle.tsp_rules.proofs.Emits.{Rivalling, Acking, Giving, Sampling, Closing, Tracing, is_in, sort_of, Emits, Keeps_by}
 use Rattle.tsp_acks.specs.{Stands.StationStands, declared.station.Station.Station}
 use Rattle.tsp_clock.specs.{ClockStands.ClockStands, Clocks.ClockValue}
 use Rattle.tsp_slave.specs.{Lasts.LastValue, Lasts.Remembers, SlaveStands.AlsoStands, SlaveStands.SlaveStands, SlaveStands.Took as WasTaken}
@@ -10,7 +11,8 @@ use Rattle.tsp_rules.proofs.Parts.{Performs_part}
 
 -- all sorts of acts but Boot, Took, to follow, and Correct
 abbrev pub beside_sorts : List Sort
-beside_sorts = Asking ∷ Correcting ∷ Numbering ∷ Passing ∷ Posting ∷ Leading ∷ Changing ∷ Backing ∷ Counting ∷ Rounding ∷ Alarming ∷ Tabling ∷ Rivalling ∷ Acking ∷ Giving ∷ Sampling ∷ Closing ∷ Tracing ∷ []
+beside_sorts = Asking ∷ Correcting ∷ Numbering ∷ Passing ∷ Posting ∷ Leading ∷ Changing ∷ Backing ∷ Counting ∷ Rounding ∷ Alarming ∷ Tabling ∷ Rivalling ∷
+    Acking ∷ Giving ∷ Sampling ∷ Closing ∷ Tracing ∷ []
 
 Remembers_act : (a : Act) → is_in (sort_of a) beside_sorts ≡ true → Keeps Remembers (puts a)
 unfolding puts
@@ -45,8 +47,14 @@ AlsoStands_by row e x past state h = record {
 }
 
 -- a call of the station that leaves alone what stands beside it
-pub Performs_station : {row : Row} {x : ℕ} {port : Port} {before after : Station} {last : LastValue} {clock : ClockValue} {took : Option Received} {old new : List Placed} → Keeps AlsoStands row → Performs StationStands StationStands row x port before after old new →
-    Performs SlaveStands SlaveStands row x port (record { station = before; last = last; clock = clock; took = took }) (record { station = after; last = last; clock = clock; took = took }) old new
+pub Performs_station : {row : Row} {x : ℕ} {port : Port} {before after : Station} {last : LastValue} {clock : ClockValue} {took : Option Received}
+    {old new : List Placed} → Keeps AlsoStands row → Performs StationStands StationStands row x port before after old new →
+    Performs SlaveStands SlaveStands row x port (record { station = before; last = last; clock = clock; took = took }) (record {
+      station = after;
+      last = last;
+      clock = clock;
+      took = took;
+    }) old new
 Performs_station {row = row} {x = x} {last = last} {clock = clock} {took = took} k d = Performs_part d (λ past h. h.station)
     (λ past h s. let also = k x past (record { last = last; clock = clock; took = took }) (record { last = h.last; clock = h.clock; took = h.took }) in
     record { station = s; last = also.last; clock = also.clock; took = also.took })

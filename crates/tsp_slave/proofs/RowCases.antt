@@ -1,8 +1,10 @@
 -- Rows and tests by cases, in the cases that are left.
-use Rattle.std.proofs.Common.{◌∙◌, ap, sym, inl, inr, ◌≡◌, ◌≢◌, ◌⊎◌, ◌==◌, ◌&&◌, not, ℕ, Bool, true, false, if◌then◌else◌, [], Option, None, Some, is_some, refl}
+use Rattle.std.proofs.Common.{◌∙◌, ap, sym, inl, inr, ◌≡◌, ◌≢◌, ◌⊎◌, ◌==◌, ◌&&◌, not, ℕ, Bool, true, false, if◌then◌else◌, [], Option, None, Some, is_some}
+use Rattle.std.proofs.Common.{refl}
 use Rattle.std.proofs.lemmas.Bool.{false≢true}
 use Rattle.tsp_rules.specs.Values.{Alarm, Quiet, Elect, Search, Kind, AdjTime, SetTime, PeerId, Loose, Follow}
-use Rattle.tsp_base.specs.Words.{deadline, Past, may_stand, MessageValue, Received, held, role, said, Row, nothing, reading, either_by, ◌followed_by◌, Sending, correcting_of, is_correction}
+use Rattle.tsp_base.specs.Words.{deadline, Past, may_stand, MessageValue, Received, held, role, said, Row, nothing, reading, either_by, ◌followed_by◌, Sending}
+use Rattle.tsp_base.specs.Words.{correcting_of, is_correction}
 use Rattle.tsp_rules.specs.{CommonRows.arms_elect, CommonRows.tells_ticket, SendRows.is_free}
 use Rattle.tsp_rules.specs.SlaveRows.{from_master, masterack_in, masterup_in, reports_conflict, slave_takes_kind}
 use Rattle.tsp_rules.specs.Guards.{is_armed, is_met, may_stand_at, role_at}
@@ -19,7 +21,8 @@ slave_rings-other Elect p q r = absurd (r refl)
 slave_rings-other _ p q r = refl
 
 -- an Elect in time at which the node doesn't stand: it may not, or the hold forbids it
-pub stays_in_time : (x : ℕ) (s : Station) → is_met (deadline s.alarms Elect) x ≡ true → is_to_be_candidate x s ≡ false → (s.me.may && may_stand s.hold x s.me.own) ≡ false
+pub stays_in_time : (x : ℕ) (s : Station) → is_met (deadline s.alarms Elect) x ≡ true → is_to_be_candidate x s ≡ false →
+    (s.me.may && may_stand s.hold x s.me.own) ≡ false
 stays_in_time x s met stays = rw met at stays
 
 -- whether the node may stand, as the station has it
@@ -39,7 +42,8 @@ correction-kind SetTime e = inr refl
 correction-kind _ e = absurd (false≢true e)
 
 -- what such a message is taken as
-pub told_correction : (p : PeerId) (m : MessageValue) (took : Option Received) → (m.kind ≡ AdjTime) ⊎ (m.kind ≡ SetTime) → IsMessageFrom p m took → IsCorrection (Some (record { from = p; number = m.number })) took
+pub told_correction : (p : PeerId) (m : MessageValue) (took : Option Received) → (m.kind ≡ AdjTime) ⊎ (m.kind ≡ SetTime) → IsMessageFrom p m took →
+    IsCorrection (Some (record { from = p; number = m.number })) took
 told_correction p m took k e =
     ap (λ t. correcting_of (said t)) e ∙ ap (λ b. if b then Some (record { from = p; number = m.number }) else None) (is_correction-either m.kind k)
 
@@ -68,7 +72,8 @@ pub masterack_in-Follow : (p q : PeerId) (b : Bool) (x : ℕ) (past : Past) → 
     reading role_at (masterack_in p) x past ≡ (if b then reading role_at (masterup_in p) x past else [])
 unfolding reading masterack_in masterup_in nothing
 masterack_in-Follow p q b x past r e = rw (r, ← e) (by_case (q.0 == p.0)) where
-  by_case : (same : Bool) → (if same then nothing else reports_conflict q) x past ≡ (if not same then (if same then (arms_elect followed_by tells_ticket p) else reports_conflict q) x past else [])
+  by_case : (same : Bool) → (if same then nothing else reports_conflict q) x past ≡
+      (if not same then (if same then (arms_elect followed_by tells_ticket p) else reports_conflict q) x past else [])
   by_case true = refl
   by_case false = refl
 

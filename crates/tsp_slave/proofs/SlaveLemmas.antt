@@ -46,18 +46,26 @@ unfolding reports_conflict
 AlsoStands_reports_conflict q = AlsoStands_by (reports_conflict q) (emits_built refl (built_reports_conflict q tt))
 
 -- a call on the station in a step that has acted, since it has taken something
-pub Performs_since_taken : {row : Row} {x : ℕ} {port : Port} {before after : Station} (last : LastValue) (clock : ClockValue) (took : Option Received) (r : Received) {old new : List Placed} → took ≡ Some r → Keeps AlsoStands row →
+pub Performs_since_taken : {row : Row} {x : ℕ} {port : Port} {before after : Station} (last : LastValue) (clock : ClockValue) (took : Option Received)
+    (r : Received) {old new : List Placed} → took ≡ Some r → Keeps AlsoStands row →
     Performs StandsActing StandsActing row x port before after old new →
-    Performs SlaveStands SlaveStands row x port (record { station = before; last = last; clock = clock; took = took }) (record { station = after; last = last; clock = clock; took = took }) old new
+    Performs SlaveStands SlaveStands row x port (record { station = before; last = last; clock = clock; took = took }) (record {
+      station = after;
+      last = last;
+      clock = clock;
+      took = took;
+    }) old new
 Performs_since_taken {row = row} {x = x} {before = before} last clock took r e k d = Performs_part d
     (λ past h. record { stands = h.station; acted = taken-acts past.seen r (h.took ∙ e) })
     (λ past h s. let also = k x past (record { last = last; clock = clock; took = took }) (record { last = h.last; clock = h.clock; took = h.took }) in
     record { station = s.stands; last = also.last; clock = also.clock; took = also.took })
 
 -- a port that begins to follow keeps the name that was taken
-pub follow_becomes : (p : PeerId) {x : ℕ} {port : Port} {before after : Station} (first last : LastValue) (clock : ClockValue) (took : Option Received) {old new : List Placed} →
+pub follow_becomes : (p : PeerId) {x : ℕ} {port : Port} {before after : Station} (first last : LastValue) (clock : ClockValue) (took : Option Received)
+    {old new : List Placed} →
     last ≡ record first { name = name_in took } → Performs StationStands StationStands (puts (Become (Follow p))) x port before after old new →
-    Performs SlaveStands SlaveStands (puts (Become (Follow p))) x port (record { station = before; last = first; clock = clock; took = took }) (record { station = after; last = last; clock = clock; took = took }) old new
+    Performs SlaveStands SlaveStands (puts (Become (Follow p))) x port (record { station = before; last = first; clock = clock; took = took })
+    (record { station = after; last = last; clock = clock; took = took }) old new
 unfolding puts
 follow_becomes p first last clock took e d = Performs_part d (λ past h. h.station) (λ past h s. record {
   station = s;
@@ -71,7 +79,8 @@ follow_becomes p first last clock took e d = Performs_part d (λ past h. h.stati
 })
 
 -- a correction by what a step took: the clock moves, and whose correction it was is remembered
-pub Stands_took : (act : Act) (x : ℕ) (past : Past) (station : Station) (first last : LastValue) (clock moved : ClockValue) (took : Option Received) (by : Correcting) →
+pub Stands_took : (act : Act) (x : ℕ) (past : Past) (station : Station) (first last : LastValue) (clock moved : ClockValue) (took : Option Received)
+    (by : Correcting) →
     is_correct act ≡ true → correcting_of (said took) ≡ Some by → last ≡ record first { tick = Some x; taken = Some by } →
     SlaveStands past (record { station = station; last = first; clock = clock; took = took }) → ClockStands (grown x past (act ∷ [])) moved →
     SlaveStands (grown x past (act ∷ [])) (record { station = station; last = last; clock = moved; took = took })
@@ -88,24 +97,37 @@ Stands_took (Correct amount stepped shown) x past station first last clock moved
 }
 Stands_took _ x past station first last clock moved took by i s e h m = absurd (false≢true i)
 
-Performs_adjusts : (amount : ℤ) {x : ℕ} {port : Port} (station : Station) (first last : LastValue) {clock moved : ClockValue} (took : Option Received) (by : Correcting) {old new : List Placed} →
-    correcting_of (said took) ≡ Some by → last ≡ record first { tick = Some x; taken = Some by } → Performs ClockStands ClockStands (adjusts amount) x port clock moved old new →
-    Performs SlaveStands SlaveStands (adjusts amount) x port (record { station = station; last = first; clock = clock; took = took }) (record { station = station; last = last; clock = moved; took = took }) old new
+Performs_adjusts : (amount : ℤ) {x : ℕ} {port : Port} (station : Station) (first last : LastValue) {clock moved : ClockValue} (took : Option Received)
+    (by : Correcting) {old new : List Placed} →
+    correcting_of (said took) ≡ Some by → last ≡ record first { tick = Some x; taken = Some by } →
+    Performs ClockStands ClockStands (adjusts amount) x port clock moved old new →
+    Performs SlaveStands SlaveStands (adjusts amount) x port (record { station = station; last = first; clock = clock; took = took })
+    (record { station = station; last = last; clock = moved; took = took }) old new
 unfolding adjusts
 Performs_adjusts amount {x = x} station first last {clock = clock} {moved = moved} took by s e d = Performs_part d (λ past h. h.clock)
     (λ past h z. Stands_took _ x past station first last clock moved took by refl s e h z)
 
-Performs_sets : (value : ℤ) {x : ℕ} {port : Port} (station : Station) (first last : LastValue) {clock moved : ClockValue} (took : Option Received) (by : Correcting) {old new : List Placed} →
-    correcting_of (said took) ≡ Some by → last ≡ record first { tick = Some x; taken = Some by } → Performs ClockStands ClockStands (sets value) x port clock moved old new →
-    Performs SlaveStands SlaveStands (sets value) x port (record { station = station; last = first; clock = clock; took = took }) (record { station = station; last = last; clock = moved; took = took }) old new
+Performs_sets : (value : ℤ) {x : ℕ} {port : Port} (station : Station) (first last : LastValue) {clock moved : ClockValue} (took : Option Received)
+    (by : Correcting) {old new : List Placed} →
+    correcting_of (said took) ≡ Some by → last ≡ record first { tick = Some x; taken = Some by } →
+    Performs ClockStands ClockStands (sets value) x port clock moved old new →
+    Performs SlaveStands SlaveStands (sets value) x port (record { station = station; last = first; clock = clock; took = took }) (record {
+      station = station;
+      last = last;
+      clock = moved;
+      took = took;
+    }) old new
 unfolding sets
 Performs_sets value {x = x} station first last {clock = clock} {moved = moved} took by s e d = Performs_part d (λ past h. h.clock)
     (λ past h z. Stands_took _ x past station first last clock moved took by refl s e h z)
 
 -- a change of either kind
-pub Performs_changes : (change : Change) {x : ℕ} {port : Port} (station : Station) (first last : LastValue) {clock moved : ClockValue} (took : Option Received) (by : Correcting) {old new : List Placed} →
-    correcting_of (said took) ≡ Some by → last ≡ record first { tick = Some x; taken = Some by } → Performs ClockStands ClockStands (changes_clock change) x port clock moved old new →
-    Performs SlaveStands SlaveStands (changes_clock change) x port (record { station = station; last = first; clock = clock; took = took }) (record { station = station; last = last; clock = moved; took = took }) old new
+pub Performs_changes : (change : Change) {x : ℕ} {port : Port} (station : Station) (first last : LastValue) {clock moved : ClockValue} (took : Option Received)
+    (by : Correcting) {old new : List Placed} →
+    correcting_of (said took) ≡ Some by → last ≡ record first { tick = Some x; taken = Some by } →
+    Performs ClockStands ClockStands (changes_clock change) x port clock moved old new →
+    Performs SlaveStands SlaveStands (changes_clock change) x port (record { station = station; last = first; clock = clock; took = took })
+    (record { station = station; last = last; clock = moved; took = took }) old new
 unfolding changes_clock
 Performs_changes (By amount) station first last took by s e d = Performs_adjusts amount station first last took by s e d
 Performs_changes (To value) station first last took by s e d = Performs_sets value station first last took by s e d

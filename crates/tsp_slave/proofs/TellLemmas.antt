@@ -21,12 +21,15 @@ put-one port old new xs ys e f =
     sym (acts-placed port xs) ∙ (ap (map act_in) same ∙ acts-placed port ys)
 
 -- what the row that was performed tells
-pub tells_row : {S T : Type 0} {p : Past → S → Type 0} {q : Past → T → Type 0} {row : Row} {x : ℕ} {port : Port} {before : S} {after : T} {old new : List Placed} → Performs p q row x port before after old new →
+pub tells_row : {S T : Type 0} {p : Past → S → Type 0} {q : Past → T → Type 0} {row : Row} {x : ℕ} {port : Port} {before : S} {after : T}
+    {old new : List Placed} → Performs p q row x port before after old new →
     (past : Past) → p past before → (told : Bool) → told ≡ corrects (row x past) → TellsCorrection told port old new
-tells_row {row = row} {x = x} {port = port} {old = old} {new = new} d past h told e = λ acts is. e ∙ ap corrects (put-one port old new (row x past) acts (d.acts past h) is)
+tells_row {row = row} {x = x} {port = port} {old = old} {new = new} d past h told e = λ acts is. e ∙
+    ap corrects (put-one port old new (row x past) acts (d.acts past h) is)
 
 -- a row that can't correct
-pub tells_still : {S T : Type 0} {p : Past → S → Type 0} {q : Past → T → Type 0} {row : Row} {x : ℕ} {port : Port} {before : S} {after : T} {old new : List Placed} → Emits still_sorts row → Performs p q row x port before after old new →
+pub tells_still : {S T : Type 0} {p : Past → S → Type 0} {q : Past → T → Type 0} {row : Row} {x : ℕ} {port : Port} {before : S} {after : T}
+    {old new : List Placed} → Emits still_sorts row → Performs p q row x port before after old new →
     (past : Past) → p past before → TellsCorrection false port old new
 tells_still {x = x} e d past h = tells_row d past h false (sym (row_corrects-none e x past))
 

@@ -53,5 +53,7 @@ pub record SlaveStands (past : Past) (state : SlaveState) : Type 0 where
   pub took : Took past state.took
 
 -- a call puts a row's acts on this desk for a port that took something of this sort, and what the port has stands for the past before it and after it
-abbrev pub ActsOn : {D : Type 0} → (Option Received → Type 0) → Row → ℕ → Port → (Option Received → SlaveState) → (Option Received → SlaveState) → (D → List Placed) → D → D → Type 0
-ActsOn sort row x port before after acts old new = (took : Option Received) → sort took → Performs SlaveStands SlaveStands row x port (before took) (after took) (acts old) (acts new)
+abbrev pub ActsOn : {D : Type 0} → (Option Received → Type 0) → Row → ℕ → Port → (Option Received → SlaveState) → (Option Received → SlaveState) →
+    (D → List Placed) → D → D → Type 0
+ActsOn sort row x port before after acts old new = (took : Option Received) → sort took →
+    Performs SlaveStands SlaveStands row x port (before took) (after took) (acts old) (acts new)

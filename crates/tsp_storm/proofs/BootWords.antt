@@ -1,5 +1,6 @@
 -- The words of a storm's boots differ: modulo 128 the generator runs through all 128 states.
-use Rattle.std.proofs.Common.{sym, ap, ◌∙◌, subst, arith, inl, inr, ◌≡◌, ◌≢◌, ℕ, zero, suc, ◌+◌, ◌*◌, ◌%◌, ◌<◌, ◌≤◌, ◌==◌, ◌&&◌, not, Bool, true, List, [], ◌∷◌, length, refl}
+use Rattle.std.proofs.Common.{sym, ap, ◌∙◌, subst, arith, inl, inr, ◌≡◌, ◌≢◌, ℕ, zero, suc, ◌+◌, ◌*◌, ◌%◌, ◌<◌, ◌≤◌, ◌==◌, ◌&&◌, not, Bool, true, List, [], ◌∷◌}
+use Rattle.std.proofs.Common.{length, refl}
 use Rattle.std.proofs.lemmas.Bool.{and_parts, not-true, eqb-false, cases_lt}
 use Rattle.std.proofs.lemmas.Nat.{mod_below}
 use Rattle.tsp_rules.specs.Values.{Event, BootAt, Turn, Take, Bytes}
@@ -61,7 +62,8 @@ Follow x (BootAt at node word ∷ before) = (y : ℕ) × (word % 128 ≡ x) × (
 Follow x (_ ∷ before) = ⊥
 
 -- a word that comes soon after them is none of theirs
-pub boot-otherwise : (k x word : ℕ) (events : List Event) → word % 128 ≡ low_after (suc k) x → k + length events ≤ 64 → Follow x events → AllBootOtherwise word events
+pub boot-otherwise : (k x word : ℕ) (events : List Event) → word % 128 ≡ low_after (suc k) x → k + length events ≤ 64 → Follow x events →
+    AllBootOtherwise word events
 boot-otherwise k x word [] is few f = tt
 boot-otherwise k x word (BootAt at node w ∷ before) is few f = (
   (λ (e : w ≡ word). not-again k x (subst (λ z. z < 128) f.1 (mod_below w 128 (omega arith))) (omega (arith, few)) (sym is ∙ ap (λ z. z % 128) (sym e) ∙ f.1)),

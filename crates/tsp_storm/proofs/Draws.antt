@@ -1,11 +1,13 @@
 -- What a generator gives: events that may follow those before them, and questions for datagrams that were posted.
-use Rattle.std.proofs.Common.{sym, ap, ◌∙◌, subst, arith, ◌≡◌, ℕ, ◌+◌, ◌/◌, ◌^◌, ◌<◌, ◌≤◌, nat_lt, nat_le, ◌==◌, Bool, true, false, if◌then◌else◌, List, [], ◌∷◌, length, slice_get, zero, suc, None, Some, refl}
+use Rattle.std.proofs.Common.{sym, ap, ◌∙◌, subst, arith, ◌≡◌, ℕ, ◌+◌, ◌/◌, ◌^◌, ◌<◌, ◌≤◌, nat_lt, nat_le, ◌==◌, Bool, true, false, if◌then◌else◌, List, []}
+use Rattle.std.proofs.Common.{◌∷◌, length, slice_get, zero, suc, None, Some, refl}
 use Rattle.std.proofs.lemmas.{Bool.eqb-false, Bool.ltb-true, Bool.ltb-false, Nat.mod_below}
 use Rattle.tsp_rules.specs.Values.{Event, BootAt, Turn, Take, Bytes, Stranger}
 use Rattle.tsp_base.specs.Words.{HeaderValue, first_port, event_in}
 use Rattle.tsp_script.specs.declared.storm.Choice.{Choice, TheVariants.Plain, TheVariants.Request, TheVariants.Ask as Asked}
 use Rattle.tsp_script.specs.declared.storm.Draw.{Draw, TheVariants.Event as Gives, TheVariants.Ask}
-use Rattle.tsp_script.specs.Storms.{StormValue, moved, drawn, gave, boots_next, turns_one, asks_one, recent_one, as_event, as_question, asks_or_turns, chosen, storm_draw, storm_take, storm_next, draw_of, request_event}
+use Rattle.tsp_script.specs.Storms.{StormValue, moved, drawn, gave, boots_next, turns_one, asks_one, recent_one, as_event, as_question, asks_or_turns, chosen}
+use Rattle.tsp_script.specs.Storms.{storm_draw, storm_take, storm_next, draw_of, request_event}
 use Rattle.tsp_storm.specs.Schedules.{drawn_event, next_event, posted_count, posting_time}
 use Rattle.tsp_run.specs.{Run.event_at, Run.posted_time, declared.posted.Posted.Posted}
 
@@ -55,13 +57,28 @@ fine-if posted v true x y f g = f
 fine-if posted v false x y f g = g
 
 below : (v u : StormValue) → Draws v u → drawn u.nodes (moved u) < v.nodes
-below v u d = subst (λ n. drawn u.nodes (moved u) < n) d.nodes (mod_below ((moved u).state / 2 ^ 33) u.nodes (let same = d.nodes in let some = d.some in omega (arith, same, some)))
+below v u d = subst (λ n. drawn u.nodes (moved u) < n) d.nodes (mod_below ((moved u).state / 2 ^ 33) u.nodes (let same = d.nodes in let some = d.some in
+    omega (arith, same, some)))
 
 moves-turn : (posted at : ℕ) (v u : StormValue) → Draws v u → v.at ≤ at → Moves posted v (turns_one at u).0 (turns_one at u).1
-moves-turn posted at v u d later = record { nodes = d.nodes; named = d.named; given = ap (λ n. n + 1) d.given; asked = refl; at = refl; next = (d.booted, later, below v u d) }
+moves-turn posted at v u d later = record {
+  nodes = d.nodes;
+  named = d.named;
+  given = ap (λ n. n + 1) d.given;
+  asked = refl;
+  at = refl;
+  next = (d.booted, later, below v u d);
+}
 
 fine-request : (posted at : ℕ) (v u : StormValue) → Draws v u → v.at ≤ at → Fine posted v (as_event (asks_one at u))
-fine-request posted at v u d later = record { nodes = d.nodes; named = d.named; given = ap (λ n. n + 1) d.given; asked = refl; at = refl; next = (d.booted, later, below v u d, refl, refl) }
+fine-request posted at v u d later = record {
+  nodes = d.nodes;
+  named = d.named;
+  given = ap (λ n. n + 1) d.given;
+  asked = refl;
+  at = refl;
+  next = (d.booted, later, below v u d, refl, refl);
+}
 
 fine-ask : (posted at : ℕ) (v u : StormValue) → Draws v u → v.at ≤ at → Fine posted v (asks_or_turns at posted u)
 fine-ask posted at v u d later = by_case (posted == 0) refl where
@@ -79,7 +96,8 @@ fine-ask posted at v u d later = by_case (posted == 0) refl where
 
 fine-chosen : (c posted at : ℕ) (v u : StormValue) → Draws v u → v.at ≤ at → Fine posted v (chosen c at posted u)
 fine-chosen c posted at v u d later =
-    fine-if posted v (nat_lt c 4) (as_event (turns_one at u)) (if nat_lt c 7 then asks_or_turns at posted u else as_event (asks_one at u)) (moves-turn posted at v u d later)
+    fine-if posted v (nat_lt c 4) (as_event (turns_one at u)) (if nat_lt c 7 then asks_or_turns at posted u else as_event (asks_one at u))
+    (moves-turn posted at v u d later)
     (fine-if posted v (nat_lt c 7) (asks_or_turns at posted u) (as_event (asks_one at u)) (fine-ask posted at v u d later) (fine-request posted at v u d later))
 
 -- what a generator draws follows what it gave before
@@ -88,9 +106,16 @@ good posted v some = by_case (nat_lt v.given v.nodes) refl where
   by_case : (b : Bool) → nat_lt v.given v.nodes ≡ b →
       Fine posted v (if b then as_event (boots_next v) else chosen (drawn 8 (moved (moved v))) (v.at + drawn 20001 (moved v)) posted (moved (moved v)))
   by_case true e = record { nodes = refl; named = refl; given = refl; asked = refl; at = refl; next = (refl, refl, ltb-true v.given v.nodes e) }
-  by_case false e = fine-chosen (drawn 8 (moved (moved v))) posted (v.at + drawn 20001 (moved v)) v (moved (moved v)) (record { nodes = refl; named = refl; given = refl; booted = ltb-false v.given v.nodes e; some = some }) (omega arith)
+  by_case false e = fine-chosen (drawn 8 (moved (moved v))) posted (v.at + drawn 20001 (moved v)) v (moved (moved v)) (record {
+    nodes = refl;
+    named = refl;
+    given = refl;
+    booted = ltb-false v.given v.nodes e;
+    some = some;
+  }) (omega arith)
 
-moves-if : (posted : ℕ) (v : StormValue) (b : Bool) (x y : Event × StormValue) → Moves posted v x.0 x.1 → Moves posted v y.0 y.1 → Moves posted v (if b then x else y).0 (if b then x else y).1
+moves-if : (posted : ℕ) (v : StormValue) (b : Bool) (x y : Event × StormValue) → Moves posted v x.0 x.1 → Moves posted v y.0 y.1 →
+    Moves posted v (if b then x else y).0 (if b then x else y).1
 moves-if posted v true x y f g = f
 moves-if posted v false x y f g = g
 
@@ -108,19 +133,23 @@ moves-of header events v (Gives e) w some g = g
 moves-of header events v (Ask k) w some g = moves-take (posted_count header events) k (posting_time header events k) v w some g
 
 -- the next event of a schedule follows those before it
-pub next_moves : (header : HeaderValue) (events : List Event) (v : StormValue) → 1 ≤ v.nodes → Moves (posted_count header events) v (next_event header events v).0 (next_event header events v).1
+pub next_moves : (header : HeaderValue) (events : List Event) (v : StormValue) → 1 ≤ v.nodes →
+    Moves (posted_count header events) v (next_event header events v).0 (next_event header events v).1
 unfolding next_event
-next_moves header events v some = moves-of header events v (storm_draw (posted_count header events) v).0 (storm_draw (posted_count header events) v).1 some (good (posted_count header events) v some)
+next_moves header events v some = moves-of header events v (storm_draw (posted_count header events) v).0 (storm_draw (posted_count header events) v).1 some
+    (good (posted_count header events) v some)
 
 -- a drawn event is the next
-pub next-given : (header : HeaderValue) (events : List Event) (v : StormValue) (posted : ℕ) (e : Event) (w : StormValue) → posted ≡ posted_count header events → (Gives e, w) ≡ storm_next posted None v → (e, w) ≡ next_event header events v
+pub next-given : (header : HeaderValue) (events : List Event) (v : StormValue) (posted : ℕ) (e : Event) (w : StormValue) → posted ≡ posted_count header events →
+    (Gives e, w) ≡ storm_next posted None v → (e, w) ≡ next_event header events v
 unfolding next_event drawn_event
 next-given header events v posted e w same is =
     let drawn_is : (Gives e, w) ≡ storm_draw (posted_count header events) v = is ∙ ap (λ p. storm_draw p v) same in
     ap (λ (d : Draw × StormValue). drawn_event header events d.0 d.1) drawn_is
 
 -- the answer to a question is the next
-pub next-asked : (header : HeaderValue) (events : List Event) (v : StormValue) (posted k time : ℕ) (u : StormValue) (r : Event × StormValue) → posted ≡ posted_count header events → (Ask k, u) ≡ storm_next posted None v → time ≡ posting_time header events k →
+pub next-asked : (header : HeaderValue) (events : List Event) (v : StormValue) (posted k time : ℕ) (u : StormValue) (r : Event × StormValue) → posted ≡
+    posted_count header events → (Ask k, u) ≡ storm_next posted None v → time ≡ posting_time header events k →
     r ≡ storm_take k time u → r ≡ next_event header events v
 unfolding next_event drawn_event
 next-asked header events v posted k time u r same is at taken =
@@ -128,10 +157,13 @@ next-asked header events v posted k time u r same is at taken =
     taken ∙ ap (λ t. storm_take k t u) at ∙ ap (λ (d : Draw × StormValue). drawn_event header events d.0 d.1) drawn_is
 
 -- a choice that isn't a question is the next
-pub next-chosen : (header : HeaderValue) (events : List Event) (v : StormValue) (posted : ℕ) (c : Choice) (w : StormValue) → posted ≡ posted_count header events → (draw_of c, w) ≡ storm_next posted None v → ((k : ℕ) → c ≡ Asked k → ⊥) →
+pub next-chosen : (header : HeaderValue) (events : List Event) (v : StormValue) (posted : ℕ) (c : Choice) (w : StormValue) → posted ≡
+    posted_count header events → (draw_of c, w) ≡ storm_next posted None v → ((k : ℕ) → c ≡ Asked k → ⊥) →
     (draw_of c, w) ≡ as_event (next_event header events v)
-next-chosen header events v posted (Plain p) w same is other = ap (λ (r : Event × StormValue). as_event r) (next-given header events v posted (event_in p) w same is)
-next-chosen header events v posted (Request at node word) w same is other = ap (λ (r : Event × StormValue). as_event r) (next-given header events v posted (request_event at node word) w same is)
+next-chosen header events v posted (Plain p) w same is other = ap (λ (r : Event × StormValue). as_event r) (next-given header events v posted (event_in p) w
+    same is)
+next-chosen header events v posted (Request at node word) w same is other = ap (λ (r : Event × StormValue). as_event r)
+    (next-given header events v posted (request_event at node word) w same is)
 next-chosen header events v posted (Asked k) w same is other = absurd (other k refl)
 
 -- a draw that gives what comes next gives its event

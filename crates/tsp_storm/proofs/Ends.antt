@@ -1,5 +1,6 @@
 -- A storm has one answer.
-use Rattle.std.proofs.Common.{sym, ap, ◌∙◌, subst, arith, inl, inr, length-append, append-nil, take, drop, take-append-drop, ◌≡◌, ◌⊎◌, ℕ, zero, suc, ◌+◌, ◌<◌, List, [], length, Option, None, Some, refl, ◌-◌}
+use Rattle.std.proofs.Common.{sym, ap, ◌∙◌, subst, arith, inl, inr, length-append, append-nil, take, drop, take-append-drop, ◌≡◌, ◌⊎◌, ℕ, zero, suc, ◌+◌, ◌<◌}
+use Rattle.std.proofs.Common.{List, [], length, Option, None, Some, refl, ◌-◌}
 use Rattle.std.proofs.lemmas.{Bool.cases_order, List.length-drop}
 use Rattle.tsp_io.specs.Streams.{Grows}
 use Rattle.tsp_lines.specs.Outcomes.{limit_line}
@@ -31,7 +32,8 @@ one_stop s n m a b = elim (cases_order n m) [
   | inr (inr gt) ↦ absurd (none_is_limit s m n gt a.valid b.limit)
 ]
 
-pub one_answer : (s : StormWords) (end other : StormEnd) (text more : List ℕ) → IsStormAnswer s end text → IsStormAnswer s other more → (end ≡ other) × (text ≡ more)
+pub one_answer : (s : StormWords) (end other : StormEnd) (text more : List ℕ) → IsStormAnswer s end text → IsStormAnswer s other more → (end ≡ other) ×
+    (text ≡ more)
 one_answer s Done Done text more a b = (refl, a.2 ∙ sym b.2)
 one_answer s Done Limit text more a b = absurd (none_is_limit s b.0 s.events b.1.within a.0 b.1.limit)
 one_answer s Limit Done text more a b = absurd (none_is_limit s a.0 s.events a.1.within b.0 a.1.limit)
@@ -44,8 +46,13 @@ one_answer s WriteFault other text more a b = absurd a
 one_answer s OutOfMemory other text more a b = absurd a
 
 -- what was written is no less a part of the text where that text goes by another name
-part_of : (s : StormWords) (end : StormEnd) (text : List ℕ) (written now : Option (List ℕ)) → IsStormAnswer s end text → WritesTextPart s written now → (rest : List ℕ) × (0 < length rest) × IsTextPart text written now rest
-part_of s end text written now a (other, more, rest, b, some, part) = (rest, some, subst (λ t. IsTextPart t written now rest) (one_answer s other end more text b a).1 part)
+part_of : (s : StormWords) (end : StormEnd) (text : List ℕ) (written now : Option (List ℕ)) → IsStormAnswer s end text → WritesTextPart s written now →
+    (rest : List ℕ) × (0 < length rest) × IsTextPart text written now rest
+part_of s end text written now a (other, more, rest, b, some, part) = (
+  rest,
+  some,
+  subst (λ t. IsTextPart t written now rest) (one_answer s other end more text b a).1 part,
+)
 
 some_text : (s : StormWords) (end : StormEnd) (text : List ℕ) → IsStormAnswer s end text → 0 < length text
 some_text s WriteFault text a = absurd a
@@ -57,7 +64,8 @@ grows_nothing None now e = e
 grows_nothing (Some xs) now e = e ∙ ap (λ ys. Some ys) (sym (append-nil xs))
 
 -- where an answer was to be written, this is how the storm ended
-pub said : (s : StormWords) (end : StormEnd) (text : List ℕ) (written now : Option (List ℕ)) (result : StormEnd) → IsStormAnswer s end text → SaysText text end written now result → StormsAs s written now result
+pub said : (s : StormWords) (end : StormEnd) (text : List ℕ) (written now : Option (List ℕ)) (result : StormEnd) → IsStormAnswer s end text →
+    SaysText text end written now result → StormsAs s written now result
 said s end text written now result a (inr (inl is, (rest, some, part))) = subst (λ r. StormsAs s written now r) (sym is) (end, text, rest, a, some, part)
 said s end text written now result a (inr (inr is, (rest, some, part))) = subst (λ r. StormsAs s written now r) (sym is) (inr (end, text, rest, a, some, part))
 said s end text written now result a (inl (is, grows)) = subst (λ r. StormsAs s written now r) (sym is) (whole end a) where
@@ -67,13 +75,24 @@ said s end text written now result a (inl (is, grows)) = subst (λ r. StormsAs s
   whole _ b = (text, b, grows)
 
 -- how a storm ended agrees with the answer
-pub agrees : (s : StormWords) (written now : Option (List ℕ)) (result : StormEnd) → StormsAs s written now result → (end : StormEnd) (text : List ℕ) → IsStormAnswer s end text → AgreesWithAnswer end text written now result
-agrees s written now Done (other, b, grows) end text a = let one = one_answer s end Done text other a b in (one.0, subst (λ t. Grows written now t) (sym one.1) grows)
-agrees s written now Limit (other, b, grows) end text a = let one = one_answer s end Limit text other a b in (one.0, subst (λ t. Grows written now t) (sym one.1) grows)
+pub agrees : (s : StormWords) (written now : Option (List ℕ)) (result : StormEnd) → StormsAs s written now result → (end : StormEnd) (text : List ℕ) →
+    IsStormAnswer s end text → AgreesWithAnswer end text written now result
+agrees s written now Done (other, b, grows) end text a = let one = one_answer s end Done text other a b in
+    (one.0, subst (λ t. Grows written now t) (sym one.1) grows)
+agrees s written now Limit (other, b, grows) end text a = let one = one_answer s end Limit text other a b in
+    (one.0, subst (λ t. Grows written now t) (sym one.1) grows)
 agrees s written now WriteFault part end text a = part_of s end text written now a part
 agrees s written now OutOfMemory (inl same) end text a = (text, some_text s end text a, ([], refl, grows_nothing written now same))
 agrees s written now OutOfMemory (inr part) end text a = part_of s end text written now a part
 
 -- not all of a text was written
-pub said_part : (text : List ℕ) (end result : StormEnd) (written now : Option (List ℕ)) (at : ℕ) → (result ≡ WriteFault) ⊎ (result ≡ OutOfMemory) → at < length text → Grows written now (take at text) → SaysText text end written now result
-said_part text end result written now at is lt grows = inr (is, (drop at text, omega (arith, length-drop at text, lt), (take at text, sym (take-append-drop at text), grows)))
+pub said_part : (text : List ℕ) (end result : StormEnd) (written now : Option (List ℕ)) (at : ℕ) → (result ≡ WriteFault) ⊎ (result ≡ OutOfMemory) →
+    at < length text → Grows written now (take at text) → SaysText text end written now result
+said_part text end result written now at is lt grows = inr (
+  is,
+  (
+    drop at text,
+    omega (arith, length-drop at text, lt),
+    (take at text, sym (take-append-drop at text), grows),
+  ),
+)

@@ -19,7 +19,8 @@ pub wall_near : (v : StormValue) → nat_abs (storm_line v).wall ≤ 1000000
 wall_near v = near (drawn 2000001 (moved (moved v))) 1000000 (omega (arith, mod_below ((moved (moved v)).state / 2 ^ 33) 2000001 (omega arith)))
 
 -- only memory can be lacking
-pub joins_header : (old new : HeaderValue) (v : StormValue) (f : HeaderFault) → old.drift ≡ 100 → length old.nodes < 64 → f ≢ OutOfMemory → Pushes old (storm_line v) (Err f) new → ⊥
+pub joins_header : (old new : HeaderValue) (v : StormValue) (f : HeaderFault) → old.drift ≡ 100 → length old.nodes < 64 → f ≢ OutOfMemory →
+    Pushes old (storm_line v) (Err f) new → ⊥
 joins_header old new v Full d few n p = omega (arith, p.0, few)
 joins_header old new v Rate d few n p = omega (arith, p.1, d, rate_near v)
 joins_header old new v Wall d few n p = omega (arith, p.2, wall_near v)
@@ -27,7 +28,10 @@ joins_header old new v OutOfMemory d few n p = n refl
 joins_header old new v _ d few n p = p
 
 -- a header with one line more
-pub header_more : (old new : HeaderValue) (line : NodeLine) (v w : StormValue) (n : ℕ) → new ≡ record old { nodes = old.nodes ++ line ∷ [] } → old ≡ record { drift = 100; strict = false; nodes = storm_lines n v; nets = [] } → line ≡ storm_line w → w ≡ after_lines n v →
+pub header_more : (old new : HeaderValue) (line : NodeLine) (v w : StormValue) (n : ℕ) → new ≡ record old { nodes = old.nodes ++ line ∷ [] } → old ≡
+    record { drift = 100; strict = false; nodes = storm_lines n v; nets = [] } → line ≡ storm_line w → w ≡ after_lines n v →
     new ≡ record { drift = 100; strict = false; nodes = storm_lines (suc n) v; nets = [] }
 header_more old new line v w n is was next at =
-    is ∙ ap (λ (h : HeaderValue). record h { nodes = h.nodes ++ line ∷ [] }) was ∙ ap (λ (l : NodeLine). record { drift = 100; strict = false; nodes = storm_lines n v ++ l ∷ []; nets = [] }) (next ∙ ap (λ (u : StormValue). storm_line u) at)
+    is ∙ ap (λ (h : HeaderValue). record h { nodes = h.nodes ++ line ∷ [] }) was ∙
+    ap (λ (l : NodeLine). record { drift = 100; strict = false; nodes = storm_lines n v ++ l ∷ []; nets = [] }) (next ∙
+    ap (λ (u : StormValue). storm_line u) at)

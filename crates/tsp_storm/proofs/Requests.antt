@@ -24,8 +24,10 @@ are_both (n ∷ l) m left right = are_more n (l ++ m) (left.each 0) (are_both l 
 -- those of a number
 are_number : (n : ℕ) → AreOctets (to_be_bytes w64 n)
 are_number n =
-    are_more _ _ (mod_below _ 256 (omega arith)) (are_more _ _ (mod_below _ 256 (omega arith)) (are_more _ _ (mod_below _ 256 (omega arith)) (are_more _ _ (mod_below _ 256 (omega arith))
-    (are_more _ _ (mod_below _ 256 (omega arith)) (are_more _ _ (mod_below _ 256 (omega arith)) (are_more _ _ (mod_below _ 256 (omega arith)) (are_more _ _ (mod_below _ 256 (omega arith)) are_none)))))))
+    are_more _ _ (mod_below _ 256 (omega arith)) (are_more _ _ (mod_below _ 256 (omega arith))
+    (are_more _ _ (mod_below _ 256 (omega arith)) (are_more _ _ (mod_below _ 256 (omega arith))
+    (are_more _ _ (mod_below _ 256 (omega arith)) (are_more _ _ (mod_below _ 256 (omega arith))
+    (are_more _ _ (mod_below _ 256 (omega arith)) (are_more _ _ (mod_below _ 256 (omega arith)) are_none)))))))
 
 are_zeros : (n : ℕ) → AreOctets (replicate n 0)
 are_zeros zero = are_none
@@ -34,8 +36,10 @@ are_zeros (suc n) = are_more 0 (replicate n 0) (omega arith) (are_zeros n)
 -- each is below 256
 pub request-octets : (word i : ℕ) → octet_at (request_octets word) i < 256
 request-octets word =
-    let front : AreOctets (128 ∷ 1 ∷ 0 ∷ 0 ∷ []) = are_more 128 _ (omega arith) (are_more 1 _ (omega arith) (are_more 0 _ (omega arith) (are_more 0 _ (omega arith) are_none))) in
-    (are_both _ (replicate 8 0) (are_both _ (to_be_bytes w64 0) (are_both (128 ∷ 1 ∷ 0 ∷ 0 ∷ []) (to_be_bytes w64 word) front (are_number word)) (are_number 0)) (are_zeros 8)).each
+    let front : AreOctets (128 ∷ 1 ∷ 0 ∷ 0 ∷ []) = are_more 128 _ (omega arith) (are_more 1 _ (omega arith)
+    (are_more 0 _ (omega arith) (are_more 0 _ (omega arith) are_none))) in
+    (are_both _ (replicate 8 0) (are_both _ (to_be_bytes w64 0) (are_both (128 ∷ 1 ∷ 0 ∷ 0 ∷ []) (to_be_bytes w64 word) front (are_number word)) (are_number 0))
+    (are_zeros 8)).each
 
 -- and what is read from them is the request
 pub request-read : (word : ℕ) → word < 2 ^ 64 → taken_of (request_octets word) ≡ Good (Stamp (Request word 0))

@@ -23,9 +23,11 @@ ComesNext s m e w = (e, w) ≡ next_event (header_of s) (storm_events s m.storm.
 pub made_now : (s : StormWords) (m : Making) → MakingStands s m → IsMade (header_of s) (storm_events s m.storm.given) m.storm
 made_now s m st = subst (λ v. IsMade (header_of s) (storm_events s m.storm.given) v) (sym st.generator) (made_is s st.words m.storm.given)
 
-pub moves_now : (s : StormWords) (m : Making) (e : Event) (w : StormValue) → MakingStands s m → ComesNext s m e w → Moves (posted_count (header_of s) (storm_events s m.storm.given)) m.storm e w
+pub moves_now : (s : StormWords) (m : Making) (e : Event) (w : StormValue) → MakingStands s m → ComesNext s m e w →
+    Moves (posted_count (header_of s) (storm_events s m.storm.given)) m.storm e w
 moves_now s m e w st is =
-    subst (λ (r : Event × StormValue). Moves (posted_count (header_of s) (storm_events s m.storm.given)) m.storm r.0 r.1) (sym is) (next_moves (header_of s) (storm_events s m.storm.given) m.storm (made_now s m st).some)
+    subst (λ (r : Event × StormValue). Moves (posted_count (header_of s) (storm_events s m.storm.given)) m.storm r.0 r.1) (sym is)
+    (next_moves (header_of s) (storm_events s m.storm.given) m.storm (made_now s m st).some)
 
 -- what comes next is the event after as many as were given
 event_is : (s : StormWords) (m : Making) (e : Event) (w : StormValue) → MakingStands s m → ComesNext s m e w → e ≡ event_after s m.storm.given
@@ -54,7 +56,8 @@ pub record Stepped (s : StormWords) (m : Making) (w : StormValue) (world : World
   pub given : w.given ≡ m.storm.given + 1
   pub event : WorldStands (header_of s) (event_after s m.storm.given ∷ storm_events s m.storm.given) world
 
-stepped : (s : StormWords) (m : Making) (e : Event) (w : StormValue) (world : World) (parcel : Taken) → MakingStands s m → ComesNext s m e w → WorldStands (header_of s) (storm_events s (m.world.events + 1)) world → Stepped s m w world parcel
+stepped : (s : StormWords) (m : Making) (e : Event) (w : StormValue) (world : World) (parcel : Taken) → MakingStands s m → ComesNext s m e w →
+    WorldStands (header_of s) (storm_events s (m.world.events + 1)) world → Stepped s m w world parcel
 stepped s m e w world parcel st is new =
     let given = (moves_now s m e w st is).given in
     let same = count_now s m st in
@@ -66,17 +69,20 @@ stepped s m e w world parcel st is new =
         world = subst (λ n. WorldStands (header_of s) (storm_events s n) world) (omega (arith, given, same)) new;
       };
       given = given;
-      event = subst (λ n. WorldStands (header_of s) (storm_events s n) world) (let next : m.world.events + 1 ≡ suc m.storm.given = omega (arith, same) in next) new;
+      event = subst (λ n. WorldStands (header_of s) (storm_events s n) world) (let next : m.world.events + 1 ≡ suc m.storm.given = omega (arith, same) in
+          next) new;
     }
 
 -- what is so where an event happened is so where its step did
-pub on_step : {E : Type 0} (s : StormWords) (m : Making) (e : Event) (w : StormValue) (world : World) (parcel : Taken) (r : Result (Unit {0}) E) (P : Type 0) → MakingStands s m → ComesNext s m e w → (Stepped s m w world parcel → P) →
+pub on_step : {E : Type 0} (s : StormWords) (m : Making) (e : Event) (w : StormValue) (world : World) (parcel : Taken) (r : Result (Unit {0}) E) (P : Type 0) →
+    MakingStands s m → ComesNext s m e w → (Stepped s m w world parcel → P) →
     OnOk r (WorldStands (header_of s) (storm_events s (m.world.events + 1)) world) → OnOk r P
 on_step s m e w world parcel (Ok u) P st is f new = f (stepped s m e w world parcel st is new)
 on_step s m e w world parcel (Err x) P st is f new = new
 
 -- why no event happened is why no step did
-pub stops_step : (s : StormWords) (m : Making) (r : Result (Unit {0}) Stopped) → MakingStands s m → IfErr r (λ stop. StopsMaking s m.world.events stop) → IfErr r (λ stop. StopsMaking s m.storm.given stop)
+pub stops_step : (s : StormWords) (m : Making) (r : Result (Unit {0}) Stopped) → MakingStands s m → IfErr r (λ stop. StopsMaking s m.world.events stop) →
+    IfErr r (λ stop. StopsMaking s m.storm.given stop)
 stops_step s m r st stops = subst (λ n. IfErr r (λ stop. StopsMaking s n stop)) (sym (count_now s m st)) stops
 
 limit_is : (n : ℕ) (cause : Option EventFault) (a b : ℕ) → OnlyLimit n cause → IsRefusal cause (Limit a b) → (a ≡ n) × (cause ≡ Some (Limit a b))
@@ -87,7 +93,8 @@ by_none : (n : ℕ) (cause : Option EventFault) (f : EventFault) → OnlyLimit n
 by_none n cause f only (inl e) memory other = other (subst (λ c. OnlyLimit n c) e only)
 by_none n cause f only (inr e) memory other = memory e.1
 
-no_other : (n : ℕ) (cause : Option EventFault) (f : EventFault) → OnlyLimit n cause → IsRefusal cause f → ((a b : ℕ) → f ≡ Limit a b → ⊥) → (f ≢ OutOfMemory) → ⊥
+no_other : (n : ℕ) (cause : Option EventFault) (f : EventFault) → OnlyLimit n cause → IsRefusal cause f → ((a b : ℕ) → f ≡ Limit a b → ⊥) → (f ≢ OutOfMemory) →
+    ⊥
 no_other n cause (TimeBack a b) only is limit memory = by_none n cause (TimeBack a b) only is memory (λ h. h)
 no_other n cause (NoNode a b) only is limit memory = by_none n cause (NoNode a b) only is memory (λ h. h)
 no_other n cause (NoDatagram a b) only is limit memory = by_none n cause (NoDatagram a b) only is memory (λ h. h)
@@ -102,18 +109,21 @@ only_after s n is =
     only_limit (header_of s) (storm_events s n) (made_of s n) (event_after s n) made (next_moves (header_of s) (storm_events s n) (made_of s n) made.some).next
 
 -- nothing but a limit and lack of memory refuses the event
-pub no_other_after : (s : StormWords) (n : ℕ) (f : EventFault) → IsStorm s → IsRefusal (refused_after s n) f → ((a b : ℕ) → f ≡ Limit a b → ⊥) → (f ≢ OutOfMemory) → ⊥
+pub no_other_after : (s : StormWords) (n : ℕ) (f : EventFault) → IsStorm s → IsRefusal (refused_after s n) f → ((a b : ℕ) → f ≡ Limit a b → ⊥) →
+    (f ≢ OutOfMemory) → ⊥
 no_other_after s n f is refused limit memory = no_other (length (storm_events s n)) (refused_after s n) f (only_after s n is) refused limit memory
 
 -- a limit tells how many events there were, and the schedule stops there
-pub stops_after : (s : StormWords) (n : ℕ) (world : World) (f : EventFault) (a b : ℕ) → IsStorm s → n < s.events → n ≡ world.events → WorldStands (header_of s) (storm_events s n) world → IsRefusal (refused_after s n) f → f ≡ Limit a b →
+pub stops_after : (s : StormWords) (n : ℕ) (world : World) (f : EventFault) (a b : ℕ) → IsStorm s → n < s.events → n ≡ world.events →
+    WorldStands (header_of s) (storm_events s n) world → IsRefusal (refused_after s n) f → f ≡ Limit a b →
     (a ≡ n) × StopsAfter s n
 stops_after s n world f a b is more same w refused limit =
     let both = limit_is (length (storm_events s n)) (refused_after s n) a b (only_after s n is) (subst (λ x. IsRefusal (refused_after s n) x) limit refused) in
     (both.0 ∙ sym (same ∙ w.count), record { within = more; valid = w.valid; limit = (a, b, both.1) })
 
 -- a schedule without events
-pub stands_begins : (s : StormWords) (storm : StormValue) (world : World) (parcel : Taken) → IsStorm s → storm ≡ (made s 0).generator → WorldStands (header_of s) [] world → MakingStands s (record { storm = storm; world = world; parcel = parcel })
+pub stands_begins : (s : StormWords) (storm : StormValue) (world : World) (parcel : Taken) → IsStorm s → storm ≡ (made s 0).generator →
+    WorldStands (header_of s) [] world → MakingStands s (record { storm = storm; world = world; parcel = parcel })
 stands_begins s storm world parcel words is stands =
     let none : storm.given ≡ 0 = ap (λ (v : StormValue). v.given) is ∙ (made_is s words 0).count in
     record {

@@ -1,5 +1,6 @@
 -- The run of a storm's schedule keeps the promises outright.
-use Rattle.std.proofs.Common.{sym, ap, ◌∙◌, subst, arith, inl, inr, drop, ◌≡◌, ℕ, zero, suc, ◌+◌, ◌<◌, ◌≤◌, ◌^◌, List, [], ◌∷◌, ◌++◌, length, decimal, slice_index_or, All, refl}
+use Rattle.std.proofs.Common.{sym, ap, ◌∙◌, subst, arith, inl, inr, drop, ◌≡◌, ℕ, zero, suc, ◌+◌, ◌<◌, ◌≤◌, ◌^◌, List, [], ◌∷◌, ◌++◌, length, decimal}
+use Rattle.std.proofs.Common.{slice_index_or, All, refl}
 use Rattle.std.proofs.lemmas.{Bool.cases_lt, Fmt.decimal_injective, List.get_or_append_left, List.get_or-append-add}
 use Rattle.std.proofs.lemmas.List.Elements.{All-push, All-nil}
 use Rattle.tsp_args.specs.{Storms.IsStorm, declared.storm.StormWords.StormWords}
@@ -22,7 +23,8 @@ tame_is s is (suc n) =
     let nodes = i.nodes in
     let lines = length-storm_lines s.nodes (generator_of s) in
     let few = is.nodes in
-    tame-next (header_of s) (storm_events s n) v (omega (arith, nodes, lines, few)) i.count (tame_is s is n) (next_moves (header_of s) (storm_events s n) v i.some)
+    tame-next (header_of s) (storm_events s n) v (omega (arith, nodes, lines, few)) i.count (tame_is s is n)
+    (next_moves (header_of s) (storm_events s n) v i.some)
 
 -- the name of the node with this number
 abbrev named : ℕ → List ℕ
@@ -30,7 +32,11 @@ named k = 110 ∷ decimal k
 
 named-is : (k : ℕ) → k < 2 ^ 64 → IsName (named k)
 named-is k small =
-    let short : length (named k) ≤ 255 = elim (cases_lt 255 (length (named k))) [ inl long ↦ absurd (node_name_fits k (named k) TooLong refl small long) | inr le ↦ le ] in
+    let short : length (named k) ≤ 255 = elim (cases_lt 255 (length (named k))) [
+      | inl long ↦
+          absurd (node_name_fits k (named k) TooLong refl small long)
+      | inr le ↦ le
+    ] in
     record { short = short; no_nul = λ nul. node_name_fits k (named k) HasNul refl small (short, nul) }
 
 -- the line of a node has its number as a name
@@ -42,13 +48,18 @@ lines-keep zero v none few = All-nil (KeepsDrift 100)
 lines-keep (suc n) v none few =
     let u = after_lines n v in
     All-push (KeepsDrift 100) (storm_lines n v) (storm_line u) (lines-keep n v none (omega (arith, few)))
-    (record { name = subst (λ x. IsName x) (sym (line-name n v none)) (named-is n (omega (arith, few))); rate = rate_near u; wall = (let near = wall_near u in omega (arith, near)) })
+    (record {
+      name = subst (λ x. IsName x) (sym (line-name n v none)) (named-is n (omega (arith, few)));
+      rate = rate_near u;
+      wall = (let near = wall_near u in omega (arith, near));
+    })
 
 -- and stands in its place
 line_at : (n k : ℕ) (v : StormValue) → k < n → slice_index_or (storm_lines n v) k nobody ≡ storm_line (after_lines k v)
 line_at zero k v lt = absurd (omega (arith, lt))
 line_at (suc n) k v lt = elim (cases_lt k n) [
-  | inl less ↦ get_or_append_left (storm_lines n v) (storm_line (after_lines n v) ∷ []) nobody k (let len = length-storm_lines n v in omega (arith, less, len)) ∙ line_at n k v less
+  | inl less ↦ get_or_append_left (storm_lines n v) (storm_line (after_lines n v) ∷ []) nobody k (let len = length-storm_lines n v in
+      omega (arith, less, len)) ∙ line_at n k v less
   | inr last ↦ (
       let same : n ≡ k = omega (arith, lt, last) in
       let here : length (storm_lines n v) + 0 ≡ k = (let len = length-storm_lines n v in omega (arith, len, same)) in

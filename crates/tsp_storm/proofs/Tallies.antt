@@ -13,31 +13,37 @@ use Rattle.tsp_run.specs.{Refusals.Valid, Run.told, Run.gained, declared.line.Li
 like_append : (is_such : Act → Bool) (xs ys : List Line) → acts_like is_such (xs ++ ys) ≡ acts_like is_such xs + acts_like is_such ys
 like_append is_such xs ys = sum_by-append (λ (l : Line). if is_such l.placed.act then 1 else 0) xs ys
 
-one_more : (is_such : Act → Bool) (s : StormWords) (n old new : ℕ) (lines : List Line) → lines ≡ gained (header_of s) (storm_events s (suc n)) → old ≡ acts_like is_such (told (header_of s) (storm_events s n)) → new ≡ old + acts_like is_such lines →
+one_more : (is_such : Act → Bool) (s : StormWords) (n old new : ℕ) (lines : List Line) → lines ≡ gained (header_of s) (storm_events s (suc n)) → old ≡
+    acts_like is_such (told (header_of s) (storm_events s n)) → new ≡ old + acts_like is_such lines →
     new ≡ acts_like is_such (told (header_of s) (storm_events s (suc n)))
 one_more is_such s n old new lines is was now =
     now ∙ ap (λ k. k + acts_like is_such lines) was ∙ ap (λ ls. acts_like is_such (told (header_of s) (storm_events s n)) + acts_like is_such ls) is
     ∙ sym (like_append is_such (told (header_of s) (storm_events s n)) (gained (header_of s) (storm_events s (suc n))))
 
 -- the counts after one event more
-pub counted_more : (s : StormWords) (n : ℕ) (old new : Counts) (lines : List Line) → CountsLines (told (header_of s) (storm_events s n)) old → lines ≡ gained (header_of s) (storm_events s (suc n)) →
-    new.took ≡ old.took + acts_like is_arrival lines → new.corrects ≡ old.corrects + acts_like is_correct lines → new.masters ≡ old.masters + acts_like is_mastership lines → CountsLines (told (header_of s) (storm_events s (suc n))) new
+pub counted_more : (s : StormWords) (n : ℕ) (old new : Counts) (lines : List Line) → CountsLines (told (header_of s) (storm_events s n)) old → lines ≡
+    gained (header_of s) (storm_events s (suc n)) →
+    new.took ≡ old.took + acts_like is_arrival lines → new.corrects ≡ old.corrects + acts_like is_correct lines → new.masters ≡
+    old.masters + acts_like is_mastership lines → CountsLines (told (header_of s) (storm_events s (suc n))) new
 counted_more s n old new lines c is took corrects masters = record {
   took = one_more is_arrival s n old.took new.took lines is c.took took;
   corrects = one_more is_correct s n old.corrects new.corrects lines is c.corrects corrects;
   masters = one_more is_mastership s n old.masters new.masters lines is c.masters masters;
 }
 
-summary_same : (events other posted sent took taken corrects corrected masters mastered : ℕ) → events ≡ other → posted ≡ sent → took ≡ taken → corrects ≡ corrected → masters ≡ mastered → summary_text events posted took corrects masters ≡ summary_text other sent taken corrected mastered
+summary_same : (events other posted sent took taken corrects corrected masters mastered : ℕ) → events ≡ other → posted ≡ sent → took ≡ taken → corrects ≡
+    corrected → masters ≡ mastered → summary_text events posted took corrects masters ≡ summary_text other sent taken corrected mastered
 summary_same events other posted sent took taken corrects corrected masters mastered a b c d e = rw (a, b, c, d, e) refl
 
 -- a whole schedule was counted
-pub sums_up : (s : StormWords) (m : Making) (posted : ℕ) (counts : Counts) → MakingStands s m → m.storm.given ≡ s.events → posted ≡ length m.world.sent.items → CountsLines (told (header_of s) (storm_events s s.events)) counts →
+pub sums_up : (s : StormWords) (m : Making) (posted : ℕ) (counts : Counts) → MakingStands s m → m.storm.given ≡ s.events → posted ≡ length m.world.sent.items →
+    CountsLines (told (header_of s) (storm_events s s.events)) counts →
     SumsUp s (record { events = s.events; posted = posted; counts = counts })
 sums_up s m posted counts st all sent c = (
   subst (λ n. Valid (header_of s) (storm_events s n)) all st.world.valid,
   storm-kept s st.words s.events (subst (λ n. Valid (header_of s) (storm_events s n)) all st.world.valid),
-  summary_same s.events (length (storm_events s s.events)) posted (posted_count (header_of s) (storm_events s s.events)) counts.took _ counts.corrects _ counts.masters _
+  summary_same s.events (length (storm_events s s.events)) posted (posted_count (header_of s) (storm_events s s.events)) counts.took _ counts.corrects _
+      counts.masters _
       (sym all ∙ (made_now s m st).count ∙ ap (λ n. length (storm_events s n)) all)
       (sent ∙ ap (λ ps. length ps) st.world.sent ∙ ap (λ n. posted_count (header_of s) (storm_events s n)) all)
       c.took c.corrects c.masters,

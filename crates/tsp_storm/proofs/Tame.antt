@@ -1,5 +1,6 @@
 -- A storm hands over nothing in a peer's name, takes nothing late, and gives each boot a word of its own.
-use Rattle.std.proofs.Common.{sym, ap, ◌∙◌, subst, arith, ◌≡◌, ℕ, zero, suc, ◌+◌, ◌/◌, ◌%◌, ◌^◌, ◌<◌, ◌≤◌, nat_lt, nat_le, ◌==◌, Bool, true, false, if◌then◌else◌, List, [], ◌∷◌, ◌++◌, length, replicate, slice_get, slice_index_or, unwrap_or, Some, All, refl}
+use Rattle.std.proofs.Common.{sym, ap, ◌∙◌, subst, arith, ◌≡◌, ℕ, zero, suc, ◌+◌, ◌/◌, ◌%◌, ◌^◌, ◌<◌, ◌≤◌, nat_lt, nat_le, ◌==◌, Bool, true, false}
+use Rattle.std.proofs.Common.{if◌then◌else◌, List, [], ◌∷◌, ◌++◌, length, replicate, slice_get, slice_index_or, unwrap_or, Some, All, refl}
 use Rattle.std.specs.Int.{w64, byte_at, bytes_high_first, to_be_bytes}
 use Rattle.std.proofs.lemmas.{Bool.leb-true, List.Elements.All-cons, List.Elements.All-nil, Nat.mod_below}
 use Rattle.tsp_rules.specs.Values.{Event, BootAt, Turn, Take, Bytes, LIFE}
@@ -7,7 +8,8 @@ use Rattle.tsp_base.specs.Words.{HeaderValue}
 use Rattle.tsp_run.specs.Premised.{Apart, IsSealed, Prompt, Sealed}
 use Rattle.tsp_run.specs.{Ranges.IsInRange, Run.posted_time, Run.posts, Run.run, declared.posted.Posted.Posted}
 use Rattle.tsp_script.specs.declared.storm.Draw.{Draw, TheVariants.Event as Gives, TheVariants.Ask}
-use Rattle.tsp_script.specs.Storms.{StormValue, moved, drawn, gave, boots_next, turns_one, asks_one, request_octets, recent_one, as_event, as_question, asks_or_turns, chosen, storm_draw, storm_take}
+use Rattle.tsp_script.specs.Storms.{StormValue, moved, drawn, gave, boots_next, turns_one, asks_one, request_octets, recent_one, as_event, as_question}
+use Rattle.tsp_script.specs.Storms.{asks_or_turns, chosen, storm_draw, storm_take}
 use Rattle.tsp_storm.specs.Schedules.{drawn_event, next_event, posted_count, posting_time}
 use Rattle.tsp_storm.proofs.{BootWords.Follow, BootWords.boot-otherwise, BootWords.moved-low, BootWords.next_low, Draws.Moves}
 
@@ -32,18 +34,22 @@ module _ (header : HeaderValue) (events : List Event) (v : StormValue) where
       let u : StormValue = moved (moved v) in
       let at : ℕ = v.at + drawn 20001 (moved v) in
       adds-if (nat_lt v.given v.nodes) (as_event (boots_next v)) (chosen (drawn 8 (moved (moved v))) at posted u) (refl, refl)
-      (adds-if (nat_lt (drawn 8 (moved (moved v))) 4) (as_event (turns_one at u)) (if nat_lt (drawn 8 (moved (moved v))) 7 then asks_or_turns at posted u else as_event (asks_one at u)) tt
+      (adds-if (nat_lt (drawn 8 (moved (moved v))) 4) (as_event (turns_one at u)) (if nat_lt (drawn 8 (moved (moved v))) 7 then asks_or_turns at posted u else
+      as_event (asks_one at u)) tt
       (adds-if (nat_lt (drawn 8 (moved (moved v))) 7) (asks_or_turns at posted u) (as_event (asks_one at u))
       (adds-if (posted == 0) (as_event (turns_one at u)) (as_question (recent_one posted (moved u)) at (moved u)) tt tt)
       ((moved u).state, refl)))
 
-  adds-take : (k : ℕ) (w : StormValue) → Adds header events v (storm_take k (posting_time header events k) w).0 (storm_take k (posting_time header events k) w).1
+  adds-take : (k : ℕ) (w : StormValue) → Adds header events v (storm_take k (posting_time header events k) w).0
+      (storm_take k (posting_time header events k) w).1
   adds-take k w = by_case (nat_le w.at (posting_time header events k + 20000000)) refl where
-    by_case : (b : Bool) → nat_le w.at (posting_time header events k + 20000000) ≡ b → let r = (if b then (Take w.at k, gave w.at w) else turns_one w.at w) in Adds header events v r.0 r.1
+    by_case : (b : Bool) → nat_le w.at (posting_time header events k + 20000000) ≡ b → let r = (if b then (Take w.at k, gave w.at w) else turns_one w.at w) in
+        Adds header events v r.0 r.1
     by_case true e = leb-true w.at (posting_time header events k + 20000000) e
     by_case false e = tt
 
-  adds-of : (d : Draw) (w : StormValue) → AddsDraw header events v (d, w) → Adds header events v (drawn_event header events d w).0 (drawn_event header events d w).1
+  adds-of : (d : Draw) (w : StormValue) → AddsDraw header events v (d, w) → Adds header events v (drawn_event header events d w).0
+      (drawn_event header events d w).1
   unfolding drawn_event
   adds-of (Gives e) w a = a
   adds-of (Ask k) w a = adds-take k w
@@ -85,7 +91,8 @@ small-request word =
     let head : List ℕ = 128 ∷ 1 ∷ 0 ∷ 0 ∷ [] in
     small-append ((head ++ to_be_bytes w64 word) ++ to_be_bytes w64 0) (replicate 8 0)
     (small-append (head ++ to_be_bytes w64 word) (to_be_bytes w64 0)
-    (small-append head (to_be_bytes w64 word) (small-cons 128 (1 ∷ 0 ∷ 0 ∷ []) (omega arith) (small-cons 1 (0 ∷ 0 ∷ []) (omega arith) (small-zeros 2))) (small-bytes 8 word))
+    (small-append head (to_be_bytes w64 word) (small-cons 128 (1 ∷ 0 ∷ 0 ∷ []) (omega arith) (small-cons 1 (0 ∷ 0 ∷ []) (omega arith) (small-zeros 2)))
+    (small-bytes 8 word))
     (small-bytes 8 0))
     (small-zeros 8)
 
@@ -102,7 +109,8 @@ pub tame-none : (header : HeaderValue) (v : StormValue) → Tame header [] v
 tame-none header v = record { ranges = All-nil IsInRange; sealed = tt; prompt = tt; apart = tt; follow = λ le. tt }
 
 module _ (header : HeaderValue) (events : List Event) (v w : StormValue) (t : Tame header events v) where
-  tame-event : (e : Event) → v.nodes ≤ 64 → v.given ≡ length events → Moves (posted_count header events) v e w → Adds header events v e w → Tame header (e ∷ events) w
+  tame-event : (e : Event) → v.nodes ≤ 64 → v.given ≡ length events → Moves (posted_count header events) v e w → Adds header events v e w →
+      Tame header (e ∷ events) w
   tame-event (BootAt at node word) few count m a =
       let low : word % 128 ≡ next_low (v.state % 128) = ap (λ z. z % 128) a.0 ∙ moved-low v in
       let booting : v.given < v.nodes = m.next.2 in
@@ -140,6 +148,8 @@ module _ (header : HeaderValue) (events : List Event) (v w : StormValue) (t : Ta
   }
 
 -- one event more
-pub tame-next : (header : HeaderValue) (events : List Event) (v : StormValue) → v.nodes ≤ 64 → v.given ≡ length events → Tame header events v → Moves (posted_count header events) v (next_event header events v).0 (next_event header events v).1 →
+pub tame-next : (header : HeaderValue) (events : List Event) (v : StormValue) → v.nodes ≤ 64 → v.given ≡ length events → Tame header events v →
+    Moves (posted_count header events) v (next_event header events v).0 (next_event header events v).1 →
     Tame header ((next_event header events v).0 ∷ events) (next_event header events v).1
-tame-next header events v few count t m = tame-event header events v (next_event header events v).1 t (next_event header events v).0 few count m (adds-next header events v)
+tame-next header events v few count t m = tame-event header events v (next_event header events v).1 t (next_event header events v).0 few count m
+    (adds-next header events v)

@@ -16,7 +16,8 @@ up-joins n None h was = was
 up-joins n (Some g) h was = up-stepped n g.step g.tick g.acts h was
 
 -- a node that is up is up after an event more
-pub up-later : (header : HeaderValue) (events : List Event) (e : Event) (n : ℕ) → up (dids (of n (run header events))) ≡ true → up (dids (of n (run header (e ∷ events)))) ≡ true
+pub up-later : (header : HeaderValue) (events : List Event) (e : Event) (n : ℕ) → up (dids (of n (run header events))) ≡ true →
+    up (dids (of n (run header (e ∷ events)))) ≡ true
 up-later header events e n was = up-joins n (happening header (run header events) e) (run header events) was
 
 -- a node is up after its boot

@@ -25,9 +25,11 @@ pub record StopsAfter (s : StormWords) (n : ℕ) : Type 0 where
   pub valid : Valid (header_of s) (storm_events s n)
   pub limit : IsLimit (refused_after s n)
 
--- how a storm ends and what it writes, if no write fails and there is memory: the summary of the run of its whole schedule, which keeps the promises, or the number of the event for which there is no room
+-- how a storm ends and what it writes, if no write fails and there is memory: the summary of the run of its whole schedule, which keeps the promises, or the
+-- number of the event for which there is no room
 abbrev pub IsStormAnswer : StormWords → StormEnd → List ℕ → Type 0
-IsStormAnswer s Done text = Valid (header_of s) (storm_events s s.events) × KeptOutright (header_of s) (storm_events s s.events) × (text ≡ summary (header_of s) (storm_events s s.events))
+IsStormAnswer s Done text = Valid (header_of s) (storm_events s s.events) × KeptOutright (header_of s) (storm_events s s.events) ×
+    (text ≡ summary (header_of s) (storm_events s s.events))
 IsStormAnswer s Limit text = (n : ℕ) × StopsAfter s n × (text ≡ limit_line (n + 1))
 IsStormAnswer s WriteFault text = ⊥
 IsStormAnswer s OutOfMemory text = ⊥
@@ -38,7 +40,8 @@ IsTextPart text written now rest = (part : List ℕ) × (text ≡ part ++ rest) 
 
 -- what was written is a part of the answer that isn't the whole
 abbrev pub WritesTextPart : StormWords → Option (List ℕ) → Option (List ℕ) → Type 0
-WritesTextPart s written now = (end : StormEnd) × (text : List ℕ) × (rest : List ℕ) × IsStormAnswer s end text × (0 < length rest) × IsTextPart text written now rest
+WritesTextPart s written now = (end : StormEnd) × (text : List ℕ) × (rest : List ℕ) × IsStormAnswer s end text × (0 < length rest) ×
+    IsTextPart text written now rest
 
 -- how a storm ended: with its answer written whole; or with a part of it; or without memory before there was an answer, and then nothing was written
 abbrev pub StormsAs : StormWords → Option (List ℕ) → Option (List ℕ) → StormEnd → Type 0

@@ -7,7 +7,8 @@ use Rattle.tsp_promises.specs.{Premises.Few, Premises.Honest, Premises.Life, Pre
 use Rattle.tsp_run.specs.{Premised.Short, Promises.Promises, Refusals.Valid, Run.run, Setting.SetBy}
 use Rattle.tsp_storm.specs.Schedules.{header_of, storm_events}
 
--- a run that keeps the promises, and what they ask too, with nothing left to ask but that few sends begin: no peer's datagram is forged in it, none is taken too late, boots have words of their own and nodes names of their own. Few begin where the run is short
+-- a run that keeps the promises, and what they ask too, with nothing left to ask but that few sends begin: no peer's datagram is forged in it, none is taken
+-- too late, boots have words of their own and nodes names of their own. Few begin where the run is short
 pub record KeptOutright (header : HeaderValue) (events : List Event) : Type 0 where
   pub honest : Honest (run header events)
   pub life : Life (run header events)

@@ -28,7 +28,8 @@ pub record CountsLines (lines : List Line) (c : Counts) : Type 0 where
 -- the words of five numbers: of events, of datagrams posted and taken, of corrections and of masterships
 abbrev pub summary_text : ℕ → ℕ → ℕ → ℕ → ℕ → List ℕ
 summary_text events posted took corrects masters =
-    (((((((((codes "events " ++ decimal events) ++ codes " posted ") ++ decimal posted) ++ codes " took ") ++ decimal took) ++ codes " corrects ") ++ decimal corrects) ++ codes " masters ") ++ decimal masters) ++ 10 ∷ []
+    (((((((((codes "events " ++ decimal events) ++ codes " posted ") ++ decimal posted) ++ codes " took ") ++ decimal took) ++ codes " corrects ") ++
+    decimal corrects) ++ codes " masters ") ++ decimal masters) ++ 10 ∷ []
 
 -- the summary of a schedule's run
 abbrev pub summary : HeaderValue → List Event → List ℕ

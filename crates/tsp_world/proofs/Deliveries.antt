@@ -19,33 +19,49 @@ up_within : (places : List (Option Gateway)) (n : ℕ) → up_at places n ≡ tr
 up_within places n up = let found = up_place places n (slice_get places n) refl up in slice_get_within places n (Some found.0) found.1
 
 -- the addressee of a datagram that may be taken is a node
-pub addressee : (world : World) (at k : ℕ) (a : Address) → vec_len world.nodes ≡ length world.nodes.items → goes_to (networks world.header) (slice_get world.sent.items k) ≡ Some a → Allowed (scene_of world) (Take at k) → a.node < vec_len world.nodes
+pub addressee : (world : World) (at k : ℕ) (a : Address) → vec_len world.nodes ≡ length world.nodes.items →
+    goes_to (networks world.header) (slice_get world.sent.items k) ≡ Some a → Allowed (scene_of world) (Take at k) → a.node < vec_len world.nodes
 addressee world at k a len goes allowed =
     let up = up-down (scene_of world) a.node (ap (λ o. down (scene_of world).up (node_in o)) (sym goes) ∙ allowed.up) in
     subst (λ m. a.node < m) (sym len) (up_within world.nodes.items a.node up)
 
 -- what an addressee takes of a poster has come by this take
-pub delivered : (header : HeaderValue) (events : List Event) (world new : World) (at k : ℕ) (a : Address) (way : Way) (taken : Taken) → vec_len world.nodes ≡ length world.nodes.items → WorldStands header events world →
-    goes_to (networks world.header) (slice_get world.sent.items k) ≡ Some a → refusal (scene header events) (Take at k) ≡ None → Some way ≡ option_map way_of (slice_get world.sent.items k) →
-    ((p : Posted) → slice_get world.sent.items k ≡ Some p → taken ≡ Good p.datagram) → HappensBy (answers_all (GotOn a.port (Peer (record { 0 = way.from })) taken)) at a.node world new → WorldStands header (Take at k ∷ events) new
+pub delivered : (header : HeaderValue) (events : List Event) (world new : World) (at k : ℕ) (a : Address) (way : Way) (taken : Taken) → vec_len world.nodes ≡
+    length world.nodes.items → WorldStands header events world →
+    goes_to (networks world.header) (slice_get world.sent.items k) ≡ Some a → refusal (scene header events) (Take at k) ≡ None → Some way ≡
+    option_map way_of (slice_get world.sent.items k) →
+    ((p : Posted) → slice_get world.sent.items k ≡ Some p → taken ≡ Good p.datagram) →
+    HappensBy (answers_all (GotOn a.port (Peer (record { 0 = way.from })) taken)) at a.node world new → WorldStands header (Take at k ∷ events) new
 delivered header events world new at k a way taken len w goes none way_is taken_is happens =
     let nets = networks header in
     let there : goes_to nets (slice_get (posts (run header events)) k) ≡ Some a =
-    subst (λ l. goes_to nets (slice_get l k) ≡ Some a) w.sent (subst (λ (h : HeaderValue). goes_to (networks h) (slice_get world.sent.items k) ≡ Some a) w.header_is goes) in
+    subst (λ l. goes_to nets (slice_get l k) ≡ Some a) w.sent (subst (λ (h : HeaderValue). goes_to (networks h) (slice_get world.sent.items k) ≡
+    Some a) w.header_is goes) in
     let found = goes_to-post nets (slice_get (posts (run header events)) k) a there in
     let stored = ap (λ l. slice_get l k) w.sent ∙ found.1 in
     let read = posted-read header events (accepted header events world w) k found.0 found.1 in
     let same_way : way ≡ way_of found.0 = some_same (way_is ∙ ap (λ o. option_map way_of o) stored) in
     let same_taken = taken_is found.0 stored in
-    let arrived : arrives nets (slice_get (posts (run header events)) k) ≡ Some (record { node = a.node; port = a.port; from = Peer (record { 0 = found.0.from }); taken = Good found.0.datagram }) =
+    let arrived : arrives nets (slice_get (posts (run header events)) k) ≡ Some (record {
+      node = a.node;
+      port = a.port;
+      from = Peer (record { 0 = found.0.from });
+      taken = Good found.0.datagram;
+    }) =
     ap (λ o. arrives nets o) found.1 ∙ ap (λ q. arrives_at found.0 q) found.2
     ∙ ap (λ t. let b : Arrival = record { node = a.node; port = a.port; from = Peer (record { 0 = found.0.from }); taken = t } in Some b) read in
     let down_none = (refusal-none (scene header events) (Take at k) none).up in
-    let up = (Alike-stands header events world len w).up a.node ∙ up-down (scene header events) a.node (ap (λ o. down (scene header events).up (node_in o)) (sym there) ∙ down_none) in
+    let up = (Alike-stands header events world len w).up a.node ∙ up-down (scene header events) a.node (ap (λ o. down (scene header events).up (node_in o))
+    (sym there) ∙ down_none) in
     happens (Came k) header events (Take at k) w refl tt none up
     (ap (λ o. reaches header (run header events) at k o) arrived
-    ∙ ap (λ (v : Way). Some (steps header (run header events) (answers_all (GotOn a.port (Peer (record { 0 = v.from })) (Good found.0.datagram))) (record { at = at; node = a.node; cause = Came k }))) (sym same_way)
-    ∙ ap (λ t. Some (steps header (run header events) (answers_all (GotOn a.port (Peer (record { 0 = way.from })) t)) (record { at = at; node = a.node; cause = Came k }))) (sym same_taken))
+    ∙ ap (λ (v : Way). Some (steps header (run header events) (answers_all (GotOn a.port (Peer (record { 0 = v.from })) (Good found.0.datagram)))
+    (record { at = at; node = a.node; cause = Came k }))) (sym same_way)
+    ∙ ap (λ t. Some (steps header (run header events) (answers_all (GotOn a.port (Peer (record { 0 = way.from })) t)) (record {
+      at = at;
+      node = a.node;
+      cause = Came k;
+    }))) (sym same_taken))
 
 -- a datagram that goes somewhere was posted
 pub post_within : (nets : List (List ℕ)) (posts : List Posted) (k : ℕ) (a : Address) → goes_to nets (slice_get posts k) ≡ Some a → k < length posts

@@ -9,30 +9,36 @@ use Rattle.tsp_world.specs.WorldStands.{CanStep, Declines, HappensInWorld, Occur
 use Rattle.tsp_world.{proofs.WorldLemmas.Alike-stands, specs.declared.world.World.World}
 
 -- what the world refuses, its schedule refuses
-pub refuses : (header : HeaderValue) (events : List Event) (world : World) (e : Event) → WorldStands header events world → refusal (scene_of world) e ≡ refusal (scene header events) e
+pub refuses : (header : HeaderValue) (events : List Event) (world : World) (e : Event) → WorldStands header events world → refusal (scene_of world) e ≡
+    refusal (scene header events) e
 refuses header events world e w = refusal-alike (scene_of world) (scene header events) (Alike-stands header events world (search rules) w) e
 
 -- where nothing refuses an event its facts hold, also when room was made for it
-pub may : (e : Event) (old ready : World) (cause : Option EventFault) → cause ≡ refusal (scene_of old) e → cause ≡ None → scene_of ready ≡ scene_of old → Allowed (scene_of ready) e
+pub may : (e : Event) (old ready : World) (cause : Option EventFault) → cause ≡ refusal (scene_of old) e → cause ≡ None → scene_of ready ≡ scene_of old →
+    Allowed (scene_of ready) e
 may e old ready cause refused is same = subst (λ s. Allowed s e) (sym same) (allowed (scene_of old) e (sym refused ∙ is))
 
 -- and the step of its node passes no limit
-pub can_step : (e : Event) (at n : ℕ) (old ready : World) (cause : Option EventFault) → cause ≡ refusal (scene_of old) e → cause ≡ None → scene_of ready ≡ scene_of old → event_at e ≡ at → at ≤ 1000000000000000 →
+pub can_step : (e : Event) (at n : ℕ) (old ready : World) (cause : Option EventFault) → cause ≡ refusal (scene_of old) e → cause ≡ None → scene_of ready ≡
+    scene_of old → event_at e ≡ at → at ≤ 1000000000000000 →
     actor (scene_of ready) e ≡ Some n → CanStep at n ready
 can_step e at n old ready cause refused is same at_is time acts =
     let m = may e old ready cause refused is same in
     record { time = time; order = subst (λ t. ready.last ≤ t) at_is m.time; events = m.events; posts = m.posts n acts }
 
 -- an event is refused, and nothing has changed
-pub declined : (e : Event) (world : World) (cause : Option EventFault) (fault : EventFault) → cause ≡ refusal (scene_of world) e → cause ≡ Some fault → Declines e world world fault
+pub declined : (e : Event) (world : World) (cause : Option EventFault) (fault : EventFault) → cause ≡ refusal (scene_of world) e → cause ≡ Some fault →
+    Declines e world world fault
 declined e world cause fault refused is header events w = (inl (sym (refuses header events world e w) ∙ sym refused ∙ is), w)
 
 -- out of memory
-pub lacks_memory : (e : Event) (old new : World) (cause : Option EventFault) → cause ≡ refusal (scene_of old) e → cause ≡ None → Stays old new → Declines e old new OutOfMemory
+pub lacks_memory : (e : Event) (old new : World) (cause : Option EventFault) → cause ≡ refusal (scene_of old) e → cause ≡ None → Stays old new →
+    Declines e old new OutOfMemory
 lacks_memory e old new cause refused is stays header events w = (inr (sym (refuses header events old e w) ∙ sym refused ∙ is, refl), stays header events w)
 
 -- an event happened after room was made for it
-pub occurred : (e : Event) (old ready new : World) (cause : Option EventFault) → cause ≡ refusal (scene_of old) e → cause ≡ None → Stays old ready → HappensInWorld e ready new → Occurs e old new
+pub occurred : (e : Event) (old ready new : World) (cause : Option EventFault) → cause ≡ refusal (scene_of old) e → cause ≡ None → Stays old ready →
+    HappensInWorld e ready new → Occurs e old new
 occurred e old ready new cause refused is stays happens header events w =
     let none = sym (refuses header events old e w) ∙ sym refused ∙ is in
     (none, happens header events (stays header events w) none)
@@ -41,6 +47,7 @@ occurred e old ready new cause refused is stays happens header events w =
 abbrev Comes : Event → World → World → Result (Unit {0}) EventFault → Type 0
 Comes e old new r = MatchResult r (λ _. Occurs e old new) (Declines e old new)
 
-pub comes-so : (e : Event) (old new : World) (r : Result (Unit {0}) EventFault) (P : Type 0) → Comes e old new r → (header : HeaderValue) (events : List Event) → WorldStands header events old → (WorldStands header (e ∷ events) new → P) → OnOk r P
+pub comes-so : (e : Event) (old new : World) (r : Result (Unit {0}) EventFault) (P : Type 0) → Comes e old new r →
+    (header : HeaderValue) (events : List Event) → WorldStands header events old → (WorldStands header (e ∷ events) new → P) → OnOk r P
 comes-so e old new (Ok u) P is header events w f = f (is header events w).1
 comes-so e old new (Err x) P is header events w f = tt

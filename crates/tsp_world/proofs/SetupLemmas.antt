@@ -1,5 +1,6 @@
 -- What a header sets its nodes up with: each can boot.
-use Rattle.std.proofs.Common.{sym, ap, ◌∙◌, arith, subst, get_or, inl, inr, length-append, add-one, ◌≡◌, ℕ, zero, suc, ◌+◌, ◌*◌, ◌<◌, ◌≤◌, Bool, true, false, if◌then◌else◌, List, [], ◌∷◌, ◌++◌, length, All, refl}
+use Rattle.std.proofs.Common.{sym, ap, ◌∙◌, arith, subst, get_or, inl, inr, length-append, add-one, ◌≡◌, ℕ, zero, suc, ◌+◌, ◌*◌, ◌<◌, ◌≤◌, Bool, true, false}
+use Rattle.std.proofs.Common.{if◌then◌else◌, List, [], ◌∷◌, ◌++◌, length, All, refl}
 use Rattle.std.{proofs.lemmas.List.Elements.All-head, proofs.lemmas.List.Elements.All-tail, specs.List.Sorted.IsStrictlyIncreasing}
 use Rattle.std.proofs.{Math.ListN.get_or-append, Math.Seq.get_or-append_seam, lemmas.Bool.cases_lt, lemmas.List.length-map}
 use Rattle.tsp_base.specs.Words.{HeaderValue, IsHeader, IsNet, has_member, peer_of}
@@ -26,30 +27,42 @@ many-ready ports x node h = ap (λ ps. length ps) h.0 ∙ length-map ports (λ (
 
 can-have : (n : ℕ) (net : List ℕ) → length net ≤ 64 → IsStrictlyIncreasing net → has_member n net ≡ true → IsPortSetup (port_on n net)
 can-have n net few ascending m = record {
-  peers = record { few = (let len = length-map net peer_of in omega (arith, len, few)); ascending = subst (λ ns. IsStrictlyIncreasing ns) (sym (numbers-peers net)) ascending };
+  peers = record {
+    few = (let len = length-map net peer_of in omega (arith, len, few));
+    ascending = subst (λ ns. IsStrictlyIncreasing ns) (sym (numbers-peers net)) ascending;
+  };
   own = is_among-peers n net ∙ m;
 }
 
 are-ports : (n : ℕ) (nets : List (List ℕ)) → All (λ net. (length net ≤ 64) × IsStrictlyIncreasing net) nets → AreGatePorts (ports_on n nets)
 are-ports n [] all = tt
-are-ports n (net ∷ rest) all = by_member (has_member n net) refl (are-ports n rest (All-tail (λ net. (length net ≤ 64) × IsStrictlyIncreasing net) net rest all)) where
-  by_member : (b : Bool) → has_member n net ≡ b → AreGatePorts (ports_on n rest) → AreGatePorts (if b then port_on n net ∷ ports_on n rest else ports_on n rest)
-  by_member true m more = let here = All-head (λ net. (length net ≤ 64) × IsStrictlyIncreasing net) net rest all in (can-have n net here.0 here.1 m, more)
-  by_member false m more = more
+are-ports n (net ∷ rest) all = by_member (has_member n net) refl (are-ports n rest (All-tail (λ net. (length net ≤ 64) × IsStrictlyIncreasing net) net rest
+    all)) where
+      by_member : (b : Bool) → has_member n net ≡ b → AreGatePorts (ports_on n rest) →
+          AreGatePorts (if b then port_on n net ∷ ports_on n rest else ports_on n rest)
+      by_member true m more = let here = All-head (λ net. (length net ≤ 64) × IsStrictlyIncreasing net) net rest all in (can-have n net here.0 here.1 m, more)
+      by_member false m more = more
 
 -- a node can have the ports of its networks
 pub can_boot : (header : HeaderValue) → IsHeader header → (n : ℕ) → AreGatePorts (ports_on n (networks header))
 can_boot header is n = by_nets header.nets is.nets_are where
   by_nets : (nets : List (List ℕ)) → All (IsNet (length header.nodes)) nets → AreGatePorts (ports_on n (networks_among (length header.nodes) nets))
   by_nets [] all = by_member (has_member n (numbers_below (length header.nodes))) refl where
-    by_member : (b : Bool) → has_member n (numbers_below (length header.nodes)) ≡ b → AreGatePorts (if b then port_on n (numbers_below (length header.nodes)) ∷ [] else [])
-    by_member true m = (can-have n (numbers_below (length header.nodes)) (let len = length-below (length header.nodes) in let few = is.few in omega (arith, len, few)) (ascending-below (length header.nodes)) m, tt)
+    by_member : (b : Bool) → has_member n (numbers_below (length header.nodes)) ≡ b → AreGatePorts (if b then port_on n (numbers_below (length header.nodes)) ∷
+        [] else [])
+    by_member true m = (
+      can-have n (numbers_below (length header.nodes)) (let len = length-below (length header.nodes) in let few = is.few in
+          omega (arith, len, few)) (ascending-below (length header.nodes)) m,
+      tt,
+    )
     by_member false m = tt
-  by_nets (net ∷ rest) all = are-ports n (net ∷ rest) (λ k d lt. let one = all k d lt in ((let le = length-net (length header.nodes) _ one in let few = is.few in omega (arith, le, few)), one.ascending))
+  by_nets (net ∷ rest) all = are-ports n (net ∷ rest) (λ k d lt. let one = all k d lt in
+      ((let le = length-net (length header.nodes) _ one in let few = is.few in omega (arith, le, few)), one.ascending))
 
 pub length-configs_below : (header : HeaderValue) (n : ℕ) → length (configs_below header n) ≡ n
 length-configs_below header zero = refl
-length-configs_below header (suc n) = length-append (configs_below header n) (config_of header n ∷ []) ∙ ap (λ k. k + 1) (length-configs_below header n) ∙ add-one n
+length-configs_below header (suc n) = length-append (configs_below header n) (config_of header n ∷ []) ∙ ap (λ k. k + 1) (length-configs_below header n) ∙
+    add-one n
 
 -- what stands in the place of a node is what it is set up with
 pub get_or-configs_below : (header : HeaderValue) (count n : ℕ) (d : GateConfigValue) → n < count → get_or (configs_below header count) n d ≡ config_of header n
@@ -57,8 +70,10 @@ get_or-configs_below header zero n d h = absurd (omega (arith, h))
 get_or-configs_below header (suc count) n d h =
     let len = length-configs_below header count in
     elim (cases_lt n count) [
-      | inl lt ↦ get_or-append (configs_below header count) (config_of header count ∷ []) d n (omega (arith, lt, len)) ∙ get_or-configs_below header count n d lt
+      | inl lt ↦ get_or-append (configs_below header count) (config_of header count ∷ []) d n (omega (arith, lt, len)) ∙
+          get_or-configs_below header count n d lt
       | inr ge ↦ (let same : n ≡ count = omega (arith, h, ge) in
           subst (λ k. get_or (configs_below header count ++ config_of header count ∷ []) k d ≡ config_of header k) (sym same)
-          (subst (λ k. get_or (configs_below header count ++ config_of header count ∷ []) k d ≡ config_of header count) len (get_or-append_seam (configs_below header count) (config_of header count) [] d)))
+          (subst (λ k. get_or (configs_below header count ++ config_of header count ∷ []) k d ≡
+          config_of header count) len (get_or-append_seam (configs_below header count) (config_of header count) [] d)))
     ]

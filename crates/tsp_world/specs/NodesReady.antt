@@ -21,13 +21,16 @@ CanAct spare x place = (node : Gateway) → place ≡ Some node → (room_of_por
 
 -- the same, and the node has this port
 abbrev pub CanTake : ℕ → ℕ → Port → Option Gateway → Type 0
-CanTake spare x port place = (node : Gateway) → place ≡ Some node → (room_of_ports (ports_in node) ≤ spare) × (clock_at node ≤ x) × (port.0 < length (ports_in node))
+CanTake spare x port place = (node : Gateway) → place ≡ Some node → (room_of_ports (ports_in node) ≤ spare) × (clock_at node ≤ x) ×
+    (port.0 < length (ports_in node))
 
 -- all places are ready at a true time, each at its own tick
 abbrev pub PlacesReady : HeaderValue → List (Option Gateway) → ℕ → Type 0
-PlacesReady header nodes at = (n : ℕ) (place : Option Gateway) → slice_get nodes n ≡ Some place → PlaceReady (ports_on n (networks header)) (tick_at (node_line header n).rate at) place
+PlacesReady header nodes at = (n : ℕ) (place : Option Gateway) → slice_get nodes n ≡ Some place →
+    PlaceReady (ports_on n (networks header)) (tick_at (node_line header n).rate at) place
 
--- the header is one of a schedule, the one network has all nodes, the configurations are as the header says, and the nodes can act at the last event's time or later
+-- the header is one of a schedule, the one network has all nodes, the configurations are as the header says, and the nodes can act at the last event's time or
+-- later
 pub record NodesReady (header : HeaderValue) (one : List (List ℕ)) (nodes : List (Option Gateway)) (configs : List GateConfigValue) (last : ℕ) : Type 0 where
   pub header_is : IsHeader header
   pub whole : is_whole header ≡ true

@@ -36,7 +36,14 @@ up_at places n = is_node (slice_get places n)
 
 -- what refusals depend on, as the world has it
 abbrev pub scene_of : World → Scene
-scene_of world = record { nodes = vec_len world.nodes; networks = networks world.header; last = world.last; events = world.events; posts = world.sent.items; up = up_at world.nodes.items }
+scene_of world = record {
+  nodes = vec_len world.nodes;
+  networks = networks world.header;
+  last = world.last;
+  events = world.events;
+  posts = world.sent.items;
+  up = up_at world.nodes.items;
+}
 
 -- a world stands for a header and the events that it accepted, the newest first
 pub record WorldStands (header : HeaderValue) (events : List Event) (world : World) : Type 0 where
@@ -70,21 +77,26 @@ Stays old new = (header : HeaderValue) (events : List Event) → WorldStands hea
 
 -- an event has happened
 abbrev pub HappensInWorld : Event → World → World → Type 0
-HappensInWorld e old new = (header : HeaderValue) (events : List Event) → WorldStands header events old → refusal (scene header events) e ≡ None → WorldStands header (e ∷ events) new
+HappensInWorld e old new = (header : HeaderValue) (events : List Event) → WorldStands header events old → refusal (scene header events) e ≡ None →
+    WorldStands header (e ∷ events) new
 
 -- nothing refuses an event, and it has happened
 abbrev pub Occurs : Event → World → World → Type 0
-Occurs e old new = (header : HeaderValue) (events : List Event) → WorldStands header events old → (refusal (scene header events) e ≡ None) × WorldStands header (e ∷ events) new
+Occurs e old new = (header : HeaderValue) (events : List Event) → WorldStands header events old → (refusal (scene header events) e ≡ None) ×
+    WorldStands header (e ∷ events) new
 
 -- an event has not happened, for its cause or if out of memory
 abbrev pub Declines : Event → World → World → EventFault → Type 0
-Declines e old new fault = (header : HeaderValue) (events : List Event) → WorldStands header events old → IsRefusal (refusal (scene header events) e) fault × WorldStands header events new
+Declines e old new fault = (header : HeaderValue) (events : List Event) → WorldStands header events old → IsRefusal (refusal (scene header events) e) fault ×
+    WorldStands header events new
 
 -- a step of a node that is up has happened by this row, whatever event it was and for whatever cause
 abbrev pub HappensBy : NodeRow → ℕ → ℕ → World → World → Type 0
 HappensBy row at node old new =
-    (cause : Cause) (header : HeaderValue) (events : List Event) (e : Event) → WorldStands header events old → event_at e ≡ at → IsInRange e → refusal (scene header events) e ≡ None → up_at old.nodes.items node ≡ true →
-    happening header (run header events) e ≡ Some (steps header (run header events) row (record { at = at; node = node; cause = cause })) → WorldStands header (e ∷ events) new
+    (cause : Cause) (header : HeaderValue) (events : List Event) (e : Event) → WorldStands header events old → event_at e ≡ at → IsInRange e →
+    refusal (scene header events) e ≡ None → up_at old.nodes.items node ≡ true →
+    happening header (run header events) e ≡ Some (steps header (run header events) row (record { at = at; node = node; cause = cause })) →
+    WorldStands header (e ∷ events) new
 
 -- nothing of a node is due before this tick, if the node is up
 abbrev pub RestsFor : ℕ → ℕ → World → Type 0
@@ -101,7 +113,8 @@ pub record CanNote (world : World) : Type 0 where
   pub few_posts : length world.sent.items + length (acts_on world.desk) ≤ 1000000
 
 -- a world with this header, these nodes, so many events and these posts has noted an event at this time: its acts as lines and as posts
-pub record Notes (at node tick : ℕ) (header : HeaderValue) (nodes : List (Option Gateway)) (events : ℕ) (sent : List Posted) (acts : List Placed) (new : World) : Type 0 where
+pub record Notes (at node tick : ℕ) (header : HeaderValue) (nodes : List (Option Gateway)) (events : ℕ) (sent : List Posted) (acts : List Placed) (new : World)
+    : Type 0 where
   pub header_is : new.header ≡ header
   pub nodes_are : new.nodes.items ≡ nodes
   pub events_are : new.events ≡ events + 1

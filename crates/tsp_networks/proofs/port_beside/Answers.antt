@@ -17,7 +17,8 @@ returns-then-is_there c =
     let net : List ℕ = c.net-item.result in
     let there : has_member c.args.n net ≡ true = search rules in
     ap (λ b. if b then Some o else None) (sym there)
-    ∙ beside-found c.args.n c.args.from c.args.port.0 o c.loop-net.passed i net (drop (i + 1) nets) (drop i nets) _ (next_net nets i net (search rules) (search rules)) (search rules) (search rules) c.loop-net.invariant.left
+    ∙ beside-found c.args.n c.args.from c.args.port.0 o c.loop-net.passed i net (drop (i + 1) nets) (drop i nets) _
+    (next_net nets i net (search rules) (search rules)) (search rules) (search rules) c.loop-net.invariant.left
 
 pub returns-else-is_there : goal.returns-else-is_there
 returns-else-is_there c =
@@ -27,7 +28,8 @@ returns-else-is_there c =
     let net : List ℕ = c.net-item.result in
     let there : has_member c.args.n net ≡ false = search rules in
     ap (λ b. if b then Some o else None) (sym there)
-    ∙ beside-found c.args.n c.args.from c.args.port.0 o c.loop-net.passed i net (drop (i + 1) nets) (drop i nets) _ (next_net nets i net (search rules) (search rules)) (search rules) (search rules) c.loop-net.invariant.left
+    ∙ beside-found c.args.n c.args.from c.args.port.0 o c.loop-net.passed i net (drop (i + 1) nets) (drop i nets) _
+    (next_net nets i net (search rules) (search rules)) (search rules) (search rules) c.loop-net.invariant.left
 
 pub loop-net-preserved : goal.loop-net-preserved
 loop-net-preserved c =
@@ -42,10 +44,15 @@ loop-net-preserved c =
     let here = next_net c.args.nets.now i net (search rules) (search rules) in
     let moved : beside n m q o p i (net ∷ rest) ≡ beside n m q (with_port n net o) c.if-has.passed (i + 1) rest =
     elim c.if-has.branch [
-      | then-has+else-passed-port w ↦ beside-other n m q o p i net rest (search rules) (search rules) ∙ ap (λ z. beside n m q (with_port n net o) z (i + 1) rest) (sym w.passed-is)
+      | then-has+else-passed-port w ↦ beside-other n m q o p i net rest (search rules) (search rules) ∙
+          ap (λ z. beside n m q (with_port n net o) z (i + 1) rest) (sym w.passed-is)
       | else-has w ↦ beside-past n m q o p i net rest (search rules) ∙ ap (λ z. beside n m q (with_port n net o) z (i + 1) rest) (sym w.passed-is)
     ] in
-    let counted : c.if-is_there-2.beside ≡ with_port n net o = elim c.if-is_there-2.branch [ then-is_there-2 w ↦ search rules | else-is_there-2 w ↦ search rules ] in
+    let counted : c.if-is_there-2.beside ≡ with_port n net o = elim c.if-is_there-2.branch [
+      | then-is_there-2 w ↦ search rules
+      | else-is_there-2 w ↦
+          search rules
+    ] in
     record {
       left = ap (λ z. beside n m q z c.if-has.passed (i + 1) rest) counted ∙ sym moved ∙ ap (λ l. beside n m q o p i l) (sym here) ∙ c.loop-net.invariant.left;
       passed = elim c.if-has.branch [ then-has+else-passed-port w ↦ search rules | else-has w ↦ search rules ];
@@ -57,4 +64,5 @@ returns c =
     let i = c.loop-net.net-index in
     let past = c.loop-net-test.false in
     let none : drop i c.args.nets.now ≡ [] = drop_all i c.args.nets.now (omega (arith, past)) in
-    sym (ap (λ l. beside c.args.n c.args.from c.args.port.0 c.loop-net.beside c.loop-net.passed i l) none ∙ beside-none c.args.n c.args.from c.args.port.0 c.loop-net.beside c.loop-net.passed i) ∙ c.loop-net.invariant.left
+    sym (ap (λ l. beside c.args.n c.args.from c.args.port.0 c.loop-net.beside c.loop-net.passed i l) none ∙
+    beside-none c.args.n c.args.from c.args.port.0 c.loop-net.beside c.loop-net.passed i) ∙ c.loop-net.invariant.left

@@ -9,7 +9,8 @@ use Rattle.tsp_networks.proofs.rooms_of.Goals as goal
 none_are : (nets : List (List ℕ)) → AreRooms nets []
 none_are nets n r is = let bad : ⊥ = cc in absurd bad
 
-more_are : (nets : List (List ℕ)) (rooms : List ℕ) (r : ℕ) → AreRooms nets rooms → r ≡ room (ports_on (length rooms) nets) → r ≤ 200000 → AreRooms nets (rooms ++ r ∷ [])
+more_are : (nets : List (List ℕ)) (rooms : List ℕ) (r : ℕ) → AreRooms nets rooms → r ≡ room (ports_on (length rooms) nets) → r ≤ 200000 →
+    AreRooms nets (rooms ++ r ∷ [])
 more_are nets rooms r are is few n q there =
     let here = get_or_from_slice_get (rooms ++ r ∷ []) n q 0 there in
     let within = slice_get_within (rooms ++ r ∷ []) n q there in
@@ -24,7 +25,10 @@ more_are nets rooms r are is few n q there =
     ]
 
 pub loop-node-init : goal.loop-node-init
-loop-node-init c = record { are = subst (λ l. AreRooms c.args.nets.now l) (sym c.new-rooms.ensures.items) (none_are c.args.nets.now); len = c.new-rooms.ensures.len }
+loop-node-init c = record {
+  are = subst (λ l. AreRooms c.args.nets.now l) (sym c.new-rooms.ensures.items) (none_are c.args.nets.now);
+  len = c.new-rooms.ensures.len;
+}
 
 pub loop-node-preserved : goal.loop-node-preserved
 loop-node-preserved c =
@@ -33,6 +37,7 @@ loop-node-preserved c =
     let len : length rooms ≡ c.loop-node.node = search rules in
     record {
       are = subst (λ l. AreRooms nets l) (sym c.in_ok-push.ensures.items)
-          (more_are nets rooms c.room_of.result c.loop-node.invariant.are (c.room_of.ensures.room ∙ ap (λ k. room (ports_on k nets)) (sym len)) c.room_of.ensures.few);
+          (more_are nets rooms c.room_of.result c.loop-node.invariant.are (c.room_of.ensures.room ∙ ap (λ k. room (ports_on k nets)) (sym len))
+          c.room_of.ensures.few);
       len = (let a = c.in_ok-push.ensures.len in let b = c.loop-node.invariant.len in omega (arith, a, b));
     }

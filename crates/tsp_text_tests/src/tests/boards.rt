@@ -25,10 +25,8 @@ fn are(marks: Option<&[MarkedOctets]>, wanted: &[(u64, &[u8])]) -> bool {
         return false;
     };
     marks.len() == wanted.len()
-        && marks
-            .iter()
-            .zip(wanted)
-            .all(|(mark, (at, octets))| mark.at == *at && mark.octets.as_slice() == *octets)
+        && marks.iter().zip(wanted).all(|(mark, (at, octets))| mark.at == *at
+            && mark.octets.as_slice() == *octets)
 }
 
 /// Whether writes of one octet give these answers in turn.
@@ -168,7 +166,10 @@ fn programs_count_the_same_ticks(rt: HostRuntime) {
     for more in [0, 1, 999, 1_000, 24_999_999, 25_000_000, 3_600_000_000_001] {
         let now = 5_000_000_123_999u64.wrapping_add(more);
         nanos.set(now);
-        assert!(rt; i128::from(ticker.moment()) == counts(wanted, now), "{more}");
+        assert!(rt;
+            i128::from(ticker.moment()) == counts(wanted, now),
+            "{more}"
+        );
         assert!(rt; i128::from(ticker.tick()) == counts(wanted, now), "{more}");
     }
     nanos.set(0);

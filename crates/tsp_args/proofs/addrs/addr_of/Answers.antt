@@ -10,17 +10,20 @@ returns-in_err-ip-clause-reads c = λ a h e. absurd (c.in_err-ip.ensures (rw e (
 
 pub returns-in_default-clause-reads : goal.returns-in_default-clause-reads
 returns-in_default-clause-reads c = λ a h e.
-    let cut = marks_apart 58 c.in_ok-ip.ip.now (ipv4_text a.ip) c.in_ok-ip.port.now (decimal a.port) c.in_ok-ip.ensures.1 (no_colon a.ip h.four h.octets) (sym c.in_ok-ip.ensures.0 ∙ e) in
+    let cut = marks_apart 58 c.in_ok-ip.ip.now (ipv4_text a.ip) c.in_ok-ip.port.now (decimal a.port) c.in_ok-ip.ensures.1 (no_colon a.ip h.four h.octets)
+    (sym c.in_ok-ip.ensures.0 ∙ e) in
     absurd (c.in_default.ensures (record { octets = a.ip }) (rw cut.0 (IsDotted-ipv4_text a.ip h.four (octet_at a.ip h.four h.octets))))
 
 pub returns-in_err-port-clause-reads : goal.returns-in_err-port-clause-reads
 returns-in_err-port-clause-reads c = λ a h e.
-    let cut = marks_apart 58 c.in_ok-ip.ip.now (ipv4_text a.ip) c.in_ok-ip.port.now (decimal a.port) c.in_ok-ip.ensures.1 (no_colon a.ip h.four h.octets) (sym c.in_ok-ip.ensures.0 ∙ e) in
+    let cut = marks_apart 58 c.in_ok-ip.ip.now (ipv4_text a.ip) c.in_ok-ip.port.now (decimal a.port) c.in_ok-ip.ensures.1 (no_colon a.ip h.four h.octets)
+    (sym c.in_ok-ip.ensures.0 ∙ e) in
     let some = c.in_err-port.ensures.reads a.port h.some h.short cut.1 in absurd (cc)
 
 pub returns-clause-reads : goal.returns-clause-reads
 returns-clause-reads c = λ a h e.
-    let cut = marks_apart 58 c.in_ok-ip.ip.now (ipv4_text a.ip) c.in_ok-ip.port.now (decimal a.port) c.in_ok-ip.ensures.1 (no_colon a.ip h.four h.octets) (sym c.in_ok-ip.ensures.0 ∙ e) in
+    let cut = marks_apart 58 c.in_ok-ip.ip.now (ipv4_text a.ip) c.in_ok-ip.port.now (decimal a.port) c.in_ok-ip.ensures.1 (no_colon a.ip h.four h.octets)
+    (sym c.in_ok-ip.ensures.0 ∙ e) in
     let here : IsDotted c.in_ok-ip.ip.now a.ip = rw cut.0 (IsDotted-ipv4_text a.ip h.four (octet_at a.ip h.four h.octets)) in
     let ip = ap (λ (v : Ipv4Addr). v.octets) (IsIpv4Text_unique c.in_ok-ip.ip.now c.in-Ok.ip (record { octets = a.ip }) c.in-Ok.ensures here) in
     let port = c.in_ok-port.ensures.reads a.port h.some h.short cut.1 in

@@ -7,7 +7,8 @@ use Rattle.tsp_args.proofs.ports.read.Goals as goal
 pub returns-then-not-branch-clause-reads : goal.returns-then-not-branch-clause-reads
 returns-then-not-branch-clause-reads c = λ ports h e.
     let no : IsPeerWord c.as_str.result.now → ⊥ = search rules in
-    absurd (no (rw c.as_str.ensures.value (word_at string_bytes c.args.words.now c.loop-word.word-index c.word-item.result c.loop-word-test.true c.word-item.is (rw e (are_peer_words ports h.addrs)))))
+    absurd (no (rw c.as_str.ensures.value (word_at string_bytes c.args.words.now c.loop-word.word-index c.word-item.result c.loop-word-test.true c.word-item.is
+    (rw e (are_peer_words ports h.addrs)))))
 
 pub returns-clause-reads : goal.returns-clause-reads
 returns-clause-reads c = λ ports h e.

@@ -9,7 +9,8 @@ returns-in_default-clause-reads c = λ s h e. absurd (let n = simp length-map at
 
 pub returns-clause-reads : goal.returns-clause-reads
 returns-clause-reads c = λ s h e.
-    let whole = four_words string_bytes c.args.words.now c.local-item.result c.name-item.result c.candidacy-item.result c.turns-item.result (omega arith) c.local-item.is c.name-item.is c.candidacy-item.is c.turns-item.is in
+    let whole = four_words string_bytes c.args.words.now c.local-item.result c.name-item.result c.candidacy-item.result c.turns-item.result (omega arith)
+    c.local-item.is c.name-item.is c.candidacy-item.is c.turns-item.is in
     let parts = sym whole ∙ e in
     let l : string_bytes c.local-item.result ≡ addr_text s.local = cc (parts) in
     let n : string_bytes c.name-item.result ≡ s.name = cc (parts) in
@@ -26,10 +27,12 @@ returns-clause-reads c = λ s h e.
 
 pub returns-clause-found : goal.returns-clause-found
 returns-clause-found c =
-    let whole = four_words string_bytes c.args.words.now c.local-item.result c.name-item.result c.candidacy-item.result c.turns-item.result (omega arith) c.local-item.is c.name-item.is c.candidacy-item.is c.turns-item.is in
+    let whole = four_words string_bytes c.args.words.now c.local-item.result c.name-item.result c.candidacy-item.result c.turns-item.result (omega arith)
+    c.local-item.is c.name-item.is c.candidacy-item.is c.turns-item.is in
     let l : string_bytes c.local-item.result ≡ addr_text c.in-Some.local = sym c.as_bytes.ensures.value ∙ c.in-Some.ensures.found.1 in
     let n : string_bytes c.name-item.result ≡ c.in-Some-host_of.name = sym (c.in-Some-host_of.ensures.same ∙ c.as_bytes-2.ensures.value) in
-    let k : string_bytes c.candidacy-item.result ≡ candidacy_word c.in-Some-candidacy_of.candidacy = sym c.as_str.ensures.value ∙ c.in-Some-candidacy_of.ensures.found in
+    let k : string_bytes c.candidacy-item.result ≡ candidacy_word c.in-Some-candidacy_of.candidacy = sym c.as_str.ensures.value ∙
+    c.in-Some-candidacy_of.ensures.found in
     let t : string_bytes c.turns-item.result ≡ decimal c.in-Some-turns_of.turns = sym c.as_str-2.ensures.value ∙ c.in-Some-turns_of.ensures.found.2 in
     let p = rw c.in-Some-2.is at c.in_ok-ports.ensures.found in (
       record {

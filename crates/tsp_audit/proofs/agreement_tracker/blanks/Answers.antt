@@ -3,4 +3,5 @@ use Rattle.tsp_audit.{proofs.AgreementSteps.blank-more, specs.Agreeing.AreBlank,
 use Rattle.tsp_audit.proofs.agreement_tracker.blanks.Goals as goal
 
 pub loop-preserved : goal.loop-preserved
-loop-preserved c = subst (λ (t : List NodeState). AreBlank (c.loop.counter + 1) t) (sym c.in_ok-push.ensures.items) (blank-more c.loop.counter c.loop.states.items c.blank.result c.loop.invariant c.blank.ensures)
+loop-preserved c = subst (λ (t : List NodeState). AreBlank (c.loop.counter + 1) t) (sym c.in_ok-push.ensures.items)
+    (blank-more c.loop.counter c.loop.states.items c.blank.result c.loop.invariant c.blank.ensures)

@@ -12,4 +12,5 @@ returns-else-is_mark c old =
     let act = act-some line.act (sym c.is_mark.ensures ∙ c.if-is_mark.false) in
     let deed : deed_of line.act ≡ Acts act.0 = act.1 in
     votes-decide c.votes.result (line_of line) before act.0 deed
-    (c.votes.ensures ∙ ap (λ (d : Deed). deed_backs d (backed (view line.port (of line.node before))) (is_unbacked (view line.port (of line.node before)))) deed)
+    (c.votes.ensures ∙ ap (λ (d : Deed). deed_backs d (backed (view line.port (of line.node before))) (is_unbacked (view line.port (of line.node before))))
+    deed)

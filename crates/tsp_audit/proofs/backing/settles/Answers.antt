@@ -25,7 +25,8 @@ loop-i-preserved c old n q meant e =
           elim c.else-stands.branch [
             | else-stands-via-then-stands+else-is_unbacked_at w ↦ sym w.is_unbacked_at.ensures ∙ w.if-is_unbacked_at.false
             | else-stands-via-else-stands w ↦
-                absurd (neither (is_stand (line_of line)) (concerns c.args.node line.node) c.stands.result c.stands.ensures w.if-stands.false k.is (subst (λ (m : ℕ). concerns c.args.node m ≡ true) (sym node) meant))
+                absurd (neither (is_stand (line_of line)) (concerns c.args.node line.node) c.stands.result c.stands.ensures w.if-stands.false k.is
+                (subst (λ (m : ℕ). concerns c.args.node m ≡ true) (sym node) meant))
           ] in
           subst₂ (λ (m : ℕ) (p : Port). is_unbacked (view p (of m (history_of lines))) ≡ false) node port backed
     ]

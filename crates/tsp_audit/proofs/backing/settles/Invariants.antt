@@ -9,4 +9,5 @@ use Rattle.tsp_audit.proofs.backing.settles.Given as goal
 
 abbrev pub invariant-loop-i : goal.invariant-loop-i
 invariant-loop-i l = Settled l.node (history_of (take l.from l.lines)) →
-    (n : ℕ) (q : Port) → concerns l.node n ≡ true → is_unbacked (view q (of n (history_of (take l.i l.lines)))) ≡ true → is_unbacked (view q (of n (history_of l.lines))) ≡ false
+    (n : ℕ) (q : Port) → concerns l.node n ≡ true → is_unbacked (view q (of n (history_of (take l.i l.lines)))) ≡ true →
+    is_unbacked (view q (of n (history_of l.lines))) ≡ false

@@ -10,8 +10,12 @@ use Rattle.tsp_audit.proofs.brought.posts_to.Goals as goal
 number-same : (d : Deed) (p : PeerId) (m : MessageValue) (node : ℕ) → d ≡ Acts (Post (Peer p) (Message m)) → PostsTo d node → p.0 ≡ node
 number-same d p m node deed posts = let same : p ≡ peer_of node = cc in ap (λ (q : PeerId). q.0) same
 
-posts-decides : (b : Bool) (d : Deed) (p : PeerId) (m : MessageValue) (node : ℕ) → d ≡ Acts (Post (Peer p) (Message m)) → b ≡ (p.0 == node) → MatchBool b (PostsTo d node) (PostsTo d node → ⊥)
-posts-decides true d p m node deed e = record { message = m; is = deed ∙ ap (λ (n : ℕ). Acts (Post (Peer (peer_of n)) (Message m))) (eqb-true p.0 node (sym e)) }
+posts-decides : (b : Bool) (d : Deed) (p : PeerId) (m : MessageValue) (node : ℕ) → d ≡ Acts (Post (Peer p) (Message m)) → b ≡ (p.0 == node) →
+    MatchBool b (PostsTo d node) (PostsTo d node → ⊥)
+posts-decides true d p m node deed e = record {
+  message = m;
+  is = deed ∙ ap (λ (n : ℕ). Acts (Post (Peer (peer_of n)) (Message m))) (eqb-true p.0 node (sym e));
+}
 posts-decides false d p m node deed e = λ posts. eqb-false p.0 node (sym e) (number-same d p m node deed posts)
 
 pub returns-in-PostMessage-Peer-default-default-default : goal.returns-in-PostMessage-Peer-default-default-default

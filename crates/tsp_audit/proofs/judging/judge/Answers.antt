@@ -51,6 +51,7 @@ returns-clause-judges c setting has timely numbered room notes old =
 pub returns-clause-notes : goal.returns-clause-notes
 returns-clause-notes c told room notes = record {
   acted = c.keeps_acting.ensures.acted c.if-not-keeps_acting.false room.acted notes.acted;
-  agreement = λ kept. c.keeps_agreeing_if.ensures.agreement (length c.args.header.now.nodes) kept c.if-not-keeps_agreeing_if.false room.trips (notes.agreement kept);
+  agreement = λ kept. c.keeps_agreeing_if.ensures.agreement (length c.args.header.now.nodes) kept c.if-not-keeps_agreeing_if.false room.trips
+      (notes.agreement kept);
   settled = c.keeps_agreeing_if.ensures.settled c.if-not-keeps_agreeing_if.false notes.settled;
 }

@@ -1,11 +1,13 @@
-use Rattle.std.proofs.Common.{ap, sym, subst, arith, true≢false, ◌≡◌, ◌<◌, ℕ, ◌+◌, Bool, true, false, List, [], ◌∷◌, ◌++◌, length, map, Some, refl, inl, inr, not, Option, None, slice_get}
+use Rattle.std.proofs.Common.{ap, sym, subst, arith, true≢false, ◌≡◌, ◌<◌, ℕ, ◌+◌, Bool, true, false, List, [], ◌∷◌, ◌++◌, length, map, Some, refl, inl, inr}
+use Rattle.std.proofs.Common.{not, Option, None, slice_get}
 use Rattle.std.proofs.lemmas.Bool.{and_right, or_from, or_left, or_right, not_from_true}
 use Rattle.tsp_rules.specs.Values.{Act, Boot, Took, Post, Placed, Event, Port, Taken, Good, BootAt, Turn, Take, Bytes, Place, Peer}
 use Rattle.tsp_rules.proofs.FewActs.{is_calm_act}
 use Rattle.tsp_rules.specs.GateRows.{GotOn, NodeTurn, answers_all, boots_all}
 use Rattle.tsp_base.specs.Words.{HeaderValue, Step, is_whole, Handed, Turned, first_port, peer_of}
 use Rattle.tsp_claims.specs.ClaimedHistory.{step_at, Claim, events_of, posts_of, taker, takes_step}
-use Rattle.tsp_claims.specs.Fitting.{ActMayStand, AllFit, FitsAfter, LineFitsIn, NumberFits, begins_with_boot, counted, is_took, lacks, wants_boot, Fit, IsPosted, TakesClaimedPost, TakingFits, untold}
+use Rattle.tsp_claims.specs.Fitting.{ActMayStand, AllFit, FitsAfter, LineFitsIn, NumberFits, begins_with_boot, counted, is_took, lacks, wants_boot, Fit}
+use Rattle.tsp_claims.specs.Fitting.{IsPosted, TakesClaimedPost, TakingFits, untold}
 use Rattle.tsp_claims.specs.{declared.claimed.Claimed.Claimed, declared.tally.Tally.Tally, Listed.booted}
 use Rattle.tsp_audit.specs.AuditedRuns.{number_or_zero, traced, RunsFitClaims, claims_of, last_lines}
 use Rattle.tsp_audit.proofs.RunClaims.{AreOf, takes-at, told_are, length-claims, SamePost, get-ArePosts, length-ArePosts}
@@ -65,33 +67,52 @@ module _ (header : HeaderValue) (posts : List Claimed) (up : ℕ → Bool) (port
   ActsFit e t [] = lacks e t ≡ false
   ActsFit e t (p ∷ rest) = (p.port.0 < ports) × ActMayStand header posts up e t p.port p.act × ActsFit e (counted t p.act) rest
 
-  calm-fits : (strange : Bool) (e : Event) (t : Tally) (port : Port) (a : Act) → is_calm_act strange true a ≡ true → wants_boot e t ≡ false → ActMayStand header posts up e t port a
+  calm-fits : (strange : Bool) (e : Event) (t : Tally) (port : Port) (a : Act) → is_calm_act strange true a ≡ true → wants_boot e t ≡ false →
+      ActMayStand header posts up e t port a
   calm-fits strange e t port Boot c w = absurd (true≢false (sym c))
   calm-fits strange e t port (Took from taken) c w = absurd (true≢false (sym c))
   calm-fits strange e t port _ c w = w
 
   -- calm acts fit before others that do
-  pub calm_fit : (strange : Bool) (e : Event) (t : Tally) (acts rest : List Placed) → AreCalm strange ports acts → wants_boot e t ≡ false → ActsFit e (tallied t acts) rest → ActsFit e t (acts ++ rest)
+  pub calm_fit : (strange : Bool) (e : Event) (t : Tally) (acts rest : List Placed) → AreCalm strange ports acts → wants_boot e t ≡ false →
+      ActsFit e (tallied t acts) rest → ActsFit e t (acts ++ rest)
   calm_fit strange e t [] rest c w f = f
-  calm_fit strange e t (p ∷ acts) rest c w f = (c.0, calm-fits strange e t p.port p.act c.1 w, calm_fit strange e (counted t p.act) acts rest c.2 (wants-none e t p.act) f)
+  calm_fit strange e t (p ∷ acts) rest c w f = (
+    c.0,
+    calm-fits strange e t p.port p.act c.1 w,
+    calm_fit strange e (counted t p.act) acts rest c.2 (wants-none e t p.act) f,
+  )
 
   -- or alone, where the event lacks nothing then
-  pub calm_fit_all : (strange : Bool) (e : Event) (t : Tally) (acts : List Placed) → AreCalm strange ports acts → wants_boot e t ≡ false → lacks e (tallied t acts) ≡ false → ActsFit e t acts
+  pub calm_fit_all : (strange : Bool) (e : Event) (t : Tally) (acts : List Placed) → AreCalm strange ports acts → wants_boot e t ≡ false →
+      lacks e (tallied t acts) ≡ false → ActsFit e t acts
   calm_fit_all strange e t [] c w f = f
-  calm_fit_all strange e t (p ∷ acts) c w f = (c.0, calm-fits strange e t p.port p.act c.1 w, calm_fit_all strange e (counted t p.act) acts c.2 (wants-none e t p.act) f)
+  calm_fit_all strange e t (p ∷ acts) c w f = (
+    c.0,
+    calm-fits strange e t p.port p.act c.1 w,
+    calm_fit_all strange e (counted t p.act) acts c.2 (wants-none e t p.act) f,
+  )
 
 number-fits : (next k : ℕ) (a : Act) → k ≡ next → NumberFits next a (number_or_zero (number_of a k))
 number-fits next k (Post to datagram) e = e
 number-fits next k _ e = tt
 
 -- lines that are told of such acts fit
-told_fit : (header : HeaderValue) (posts : List Claimed) (up : ℕ → Bool) (number : ℕ) (e : Event) (step : Step) (k : ℕ) → step_at header posts up e ≡ Some step → k ≡ length posts → (t : Tally) (acts : List Placed) →
-    ActsFit header posts up (length (ports_on step.node (networks header))) e t acts → AllFit (FitsAfter header posts up number) e t (map traced (told_from number step.node (step_tick header step) (k + t.posts) acts))
+told_fit : (header : HeaderValue) (posts : List Claimed) (up : ℕ → Bool) (number : ℕ) (e : Event) (step : Step) (k : ℕ) → step_at header posts up e ≡
+    Some step → k ≡ length posts → (t : Tally) (acts : List Placed) →
+    ActsFit header posts up (length (ports_on step.node (networks header))) e t acts →
+    AllFit (FitsAfter header posts up number) e t (map traced (told_from number step.node (step_tick header step) (k + t.posts) acts))
 told_fit header posts up number e step k at few t [] f = f
 told_fit header posts up number e step k at few t (p ∷ rest) f =
     let x = step_tick header step in
     let next : (k + t.posts) + posts_by p.act ≡ k + (t.posts + posts_by p.act) = omega arith in (
-      subst (λ o. LineFitsIn header posts up number e t o (traced (record { event = number; node = step.node; tick = x; number = number_of p.act (k + t.posts); placed = p }))) (sym at) (record {
+      subst (λ o. LineFitsIn header posts up number e t o (traced (record {
+        event = number;
+        node = step.node;
+        tick = x;
+        number = number_of p.act (k + t.posts);
+        placed = p;
+      }))) (sym at) (record {
         event = refl;
         node = refl;
         tick = refl;
@@ -104,7 +125,8 @@ told_fit header posts up number e step k at few t (p ∷ rest) f =
     )
 
 -- what was taken is what was posted
-takes-post : (o : Option Claimed) (p : Posted) (a : Address) (t : Option Address) (taken : Taken) → SamePost o (Some p) → t ≡ Some a → taken ≡ Good p.datagram → TakesClaimedPost o t a.port (Peer (peer_of p.from)) taken
+takes-post : (o : Option Claimed) (p : Posted) (a : Address) (t : Option Address) (taken : Taken) → SamePost o (Some p) → t ≡ Some a → taken ≡ Good p.datagram →
+    TakesClaimedPost o t a.port (Peer (peer_of p.from)) taken
 takes-post None p a t taken s is e = absurd s
 takes-post (Some c) p a t taken s is e =
     subst (λ u. TakesClaimedPost (Some c) u a.port (Peer (peer_of p.from)) taken) (sym is)
@@ -130,13 +152,17 @@ module _ {header : HeaderValue} (whole : is_whole header ≡ true) (before : Lis
   known = told_are header before accepted
 
   -- of acts that fit
-  fits-by : (e : Event) (step : Step) (acts : List Placed) → step_at header cs ups e ≡ Some step → ActsFit header cs ups (ports_in header step) e untold acts → Fits e (Some (record { step = step; tick = step_tick header step; acts = acts }))
+  fits-by : (e : Event) (step : Step) (acts : List Placed) → step_at header cs ups e ≡ Some step → ActsFit header cs ups (ports_in header step) e untold acts →
+      Fits e (Some (record { step = step; tick = step_tick header step; acts = acts }))
   fits-by e step acts at f =
-      subst (λ n. AllFit (FitsAfter header cs ups number) e untold (map traced (told_from number step.node (step_tick header step) n acts))) (let e : length (posts (run header before)) + 0 ≡ length (posts (run header before)) = omega arith in e)
-      (told_fit header cs ups number e step (length (posts (run header before))) at (sym (length-ArePosts cs (posts (run header before)) known.posts_are)) untold acts f)
+      subst (λ n. AllFit (FitsAfter header cs ups number) e untold (map traced (told_from number step.node (step_tick header step) n acts)))
+      (let e : length (posts (run header before)) + 0 ≡ length (posts (run header before)) = omega arith in e)
+      (told_fit header cs ups number e step (length (posts (run header before))) at (sym (length-ArePosts cs (posts (run header before)) known.posts_are))
+      untold acts f)
 
   -- acts that take once fit
-  once-fits : (e : Event) (step : Step) (q : Port) (from : Place) (t : Taken) (few : ℕ) (acts : List Placed) → TakesOnce from t q (ports_in header step) few acts → q.0 < ports_in header step → wants_boot e untold ≡ false →
+  once-fits : (e : Event) (step : Step) (q : Port) (from : Place) (t : Taken) (few : ℕ) (acts : List Placed) →
+      TakesOnce from t q (ports_in header step) few acts → q.0 < ports_in header step → wants_boot e untold ≡ false →
       ((u : Tally) → u.took ≡ true → lacks e u ≡ false) → TakingFits header cs ups e q from t → ActsFit header cs ups (ports_in header step) e untold acts
   once-fits e step q from t few acts once has w needs f =
       let n = ports_in header step in
@@ -146,7 +172,8 @@ module _ {header : HeaderValue} (whole : is_whole header ≡ true) (before : Lis
       (calm_fit header cs ups n _ e untold once.before (took ∷ once.after) once.calm_before w (
         has,
         (wants_tallied e untold once.before w, calm-untaken _ n untold once.before once.calm_before refl, f),
-        calm_fit_all header cs ups n _ e (counted u took.act) once.after once.calm_after (wants-none e u took.act) (needs _ (took-after u took once.after refl)),
+        calm_fit_all header cs ups n _ e (counted u took.act) once.after once.calm_after (wants-none e u took.act)
+            (needs _ (took-after u took once.after refl)),
       ))
 
   fits-of : (e : Event) → refusal (scene header before) e ≡ None → Fits e (happening header (run header before) e)
@@ -159,14 +186,19 @@ module _ {header : HeaderValue} (whole : is_whole header ≡ true) (before : Lis
       let has : 0 < n = (let some = some_port header whole node (allowed (scene header before) e none).node in omega (arith, some)) in
       subst (λ h. Fits e (Some h)) (sym (steps-are header (run header before) boots_all step))
       (fits-by e step (acts_by header (run header before) boots_all step) refl
-      (subst (λ l. ActsFit header cs ups n e untold l) (sym b.is)
-      (has, (refl, refl), calm_fit_all header cs ups n false e (counted untold Boot) b.rest b.calm (wants-none e untold Boot) (not_from_true _ (begun-after untold boot b.rest)))))
+      (subst (λ l. ActsFit header cs ups n e untold l) (sym b.is) (
+        has,
+        (refl, refl),
+        calm_fit_all header cs ups n false e (counted untold Boot) b.rest b.calm (wants-none e untold Boot)
+            (not_from_true _ (begun-after untold boot b.rest)),
+      )))
   fits-of (Turn at node) none =
       let e = Turn at node in
       let step : Step = record { at = at; node = node; cause = Turned } in
       let acts = acts_by header (run header before) (answers_all NodeTurn) step in
       subst (λ h. Fits e (Some h)) (sym (steps-are header (run header before) (answers_all NodeTurn) step))
-      (fits-by e step acts refl (calm_fit_all header cs ups (ports_in header step) false e untold acts (turn_acts accepted.header_is (run header before) step) refl refl))
+      (fits-by e step acts refl (calm_fit_all header cs ups (ports_in header step) false e untold acts (turn_acts accepted.header_is (run header before) step)
+      refl refl))
   fits-of (Bytes at node port from octets) none =
       let e = Bytes at node port from octets in
       let step : Step = record { at = at; node = node; cause = Handed } in
@@ -174,7 +206,8 @@ module _ {header : HeaderValue} (whole : is_whole header ≡ true) (before : Lis
       let acts = acts_by header (run header before) row step in
       let has = handed-port (scene header before) at node port from octets (refusal-none (scene header before) e none).node in
       subst (λ h. Fits e (Some h)) (sym (steps-are header (run header before) row step))
-      (fits-by e step acts refl (once-fits e step port from (taken_of octets) _ acts (got_acts accepted.header_is (run header before) step port from (taken_of octets) has) has refl (λ u took. not_from_true u.took took) (refl, refl)))
+      (fits-by e step acts refl (once-fits e step port from (taken_of octets) _ acts (got_acts accepted.header_is (run header before) step port from
+      (taken_of octets) has) has refl (λ u took. not_from_true u.took took) (refl, refl)))
   fits-of (Take at k) none = elim (takes-or header (run header before) at k) [
     | inl a ↦
         let e = Take at k in
@@ -185,9 +218,11 @@ module _ {header : HeaderValue} (whole : is_whole header ≡ true) (before : Lis
         let same = subst (λ o. SamePost (slice_get cs k) o) a.there (get-ArePosts cs (posts (run header before)) k known.posts_are) in
         subst (λ o. Fits e o) (sym (taking header (run header before) at k a))
         (fits-by e step acts (ap (λ o. takes_step at k o) taker_is)
-        (once-fits e step a.to.port from (taken_in a.post) _ acts (got_acts accepted.header_is (run header before) step a.to.port from (taken_in a.post) a.has) a.has refl
+        (once-fits e step a.to.port from (taken_in a.post) _ acts (got_acts accepted.header_is (run header before) step a.to.port from (taken_in a.post) a.has)
+        a.has refl
         (λ u took. and_right u.begun (not u.took) (not_from_true u.took took))
-        (takes-post (slice_get cs k) a.post a.to (taker header cs ups k) (taken_in a.post) same taker_is (posted-read header before accepted k a.post a.there))))
+        (takes-post (slice_get cs k) a.post a.to (taker header cs ups k) (taken_in a.post) same taker_is
+        (posted-read header before accepted k a.post a.there))))
     | inr nothing ↦ subst (λ o. Fits (Take at k) o) (sym nothing.1) refl
   ]
 

@@ -52,7 +52,8 @@ early-post : (o : Option Claimed) (q : Posted) (at : ℕ) → SamePost o (Some q
 early-post None q at same e = absurd same
 early-post (Some c) q at same e = subst (λ t. at ≤ t + LIFE) same.at (leb-true at (c.at + LIFE) e)
 
-is-prompt : (header : HeaderValue) (before : List Event) → Accepted header before → (e : Event) → takes_early (posts_of header (claims_of header before)) e ≡ true → IsPrompt header before e
+is-prompt : (header : HeaderValue) (before : List Event) → Accepted header before → (e : Event) → takes_early (posts_of header (claims_of header before)) e ≡
+    true → IsPrompt header before e
 is-prompt header before a (Take at k) early = λ q there.
     let claims = posts_of header (claims_of header before) in
     let same = get-ArePosts claims (posts (run header before)) k (told_are header before a).posts_are in
@@ -82,7 +83,10 @@ keeps premises setting history g s Acting = record {
   taken = λ all. s.once_taken (g.honest all.honest) (g.life all.life);
   confirmed = λ all. s.once_confirmed (g.honest all.honest) (g.life all.life);
 }
-keeps premises setting history g s Measuring = λ honest words. record { measured = s.measured (g.honest honest) (inr (own_words history (g.words words))); trips = s.trips }
+keeps premises setting history g s Measuring = λ honest words. record {
+  measured = s.measured (g.honest honest) (inr (own_words history (g.words words)));
+  trips = s.trips;
+}
 keeps premises setting history g s Agreeing = λ all. s.agreed (g.honest all.honest) (g.life all.life)
 
 -- of the premises that a verdict goes by, a schedule keeps each that they grant
@@ -92,14 +96,16 @@ record Covered (premises : Premises) (header : HeaderValue) (events : List Event
   pub words : premises.words ≡ true → words_differ events ≡ true
 
 -- and so does each beginning of it
-one-less : (premises : Premises) (header : HeaderValue) (e : Event) (before : List Event) → Covered premises header (e ∷ before) → Covered premises header before
+one-less : (premises : Premises) (header : HeaderValue) (e : Event) (before : List Event) → Covered premises header (e ∷ before) →
+    Covered premises header before
 one-less premises header e before p = record {
   honest = λ h. (and_parts (not (forges e)) (is_honest before) (p.honest h)).1;
   life = λ h. (and_parts (takes_early (posts_of header (claims_of header before)) e) (keeps_life header (claims_of header before)) (p.life h)).1;
   words = λ h. (and_parts (not (repeats_word e before)) (words_differ before) (p.words h)).1;
 }
 
-granted : (premises : Premises) (header : HeaderValue) (events : List Event) → Accepted header events → Covered premises header events → Granted premises (run header events)
+granted : (premises : Premises) (header : HeaderValue) (events : List Event) → Accepted header events → Covered premises header events →
+    Granted premises (run header events)
 granted premises header events a p =
     let kept = runs_keep_premises header events a in
     record {
@@ -109,19 +115,25 @@ granted premises header events a p =
     }
 
 -- all parts hold of a whole run
-run-keeps : (premises : Premises) (setting : Setting) (header : HeaderValue) (events : List Event) → SetBy header setting → Accepted header events → Covered premises header events → AllKeep premises setting (claimed header (claims_of header events))
+run-keeps : (premises : Premises) (setting : Setting) (header : HeaderValue) (events : List Event) → SetBy header setting → Accepted header events →
+    Covered premises header events → AllKeep premises setting (claimed header (claims_of header events))
 run-keeps premises setting header events set a p =
     subst (λ h. AllKeep premises setting h) (sym (told_are header events a).history_is)
     (keeps premises setting (run header events) (granted premises header events a p) (runs-keep-promises header setting events set a).safe)
 
 -- and of each beginning
-runs-hold : (premises : Premises) (setting : Setting) (header : HeaderValue) (events : List Event) → SetBy header setting → Accepted header events → Covered premises header events → AllHold premises setting header (claims_of header events)
-runs-hold premises setting header [] set a p older w = subst (λ c. AllKeep premises setting (claimed header c)) (sym w) (run-keeps premises setting header [] set a p)
-runs-hold premises setting header (e ∷ before) set a p older (inl w) = subst (λ c. AllKeep premises setting (claimed header c)) (sym w) (run-keeps premises setting header (e ∷ before) set a p)
-runs-hold premises setting header (e ∷ before) set a p older (inr w) = runs-hold premises setting header before set (accepted_before header e before a) (one-less premises header e before p) older w
+runs-hold : (premises : Premises) (setting : Setting) (header : HeaderValue) (events : List Event) → SetBy header setting → Accepted header events →
+    Covered premises header events → AllHold premises setting header (claims_of header events)
+runs-hold premises setting header [] set a p older w = subst (λ c. AllKeep premises setting (claimed header c)) (sym w)
+    (run-keeps premises setting header [] set a p)
+runs-hold premises setting header (e ∷ before) set a p older (inl w) = subst (λ c. AllKeep premises setting (claimed header c)) (sym w)
+    (run-keeps premises setting header (e ∷ before) set a p)
+runs-hold premises setting header (e ∷ before) set a p older (inr w) = runs-hold premises setting header before set (accepted_before header e before a)
+    (one-less premises header e before p) older w
 
 -- where all parts hold, no other verdict is right
-only-holds : (premises : Premises) (setting : Setting) (header : HeaderValue) (claims : List Claim) → AllHold premises setting header claims → (v : Verdict) → IsVerdict premises setting header claims v → v ≡ Holds
+only-holds : (premises : Premises) (setting : Setting) (header : HeaderValue) (claims : List Claim) → AllHold premises setting header claims → (v : Verdict) →
+    IsVerdict premises setting header claims v → v ≡ Holds
 only-holds premises setting header claims all Holds is = refl
 only-holds premises setting header claims all (Fails number) is =
     let f = is.1 in

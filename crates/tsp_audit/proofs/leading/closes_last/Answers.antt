@@ -6,12 +6,14 @@ use Rattle.tsp_audit.proofs.leading.closes_last.Goals as goal
 pub returns-in-Some : goal.returns-in-Some
 returns-in-Some c =
     let below : c.loop-left.left - 1 < length c.args.lines.now = omega (arith, c.loop-left.invariant.few, c.loop-left-test.true) in
-    sym (newest-is (λ h. closing h) c.args.lines.now c.loop-left.left (c.loop-left.left - 1) c.index-lines-left.result (omega arith) below (search rules) c.loop-left.invariant.same ∙ c.in-Some.ensures (history_of (take (c.loop-left.left - 1) c.args.lines.now)))
+    sym (newest-is (λ h. closing h) c.args.lines.now c.loop-left.left (c.loop-left.left - 1) c.index-lines-left.result (omega arith) below (search rules)
+    c.loop-left.invariant.same ∙ c.in-Some.ensures (history_of (take (c.loop-left.left - 1) c.args.lines.now)))
 
 pub loop-left-preserved : goal.loop-left-preserved
 loop-left-preserved c =
     let below : c.loop-left.left - 1 < length c.args.lines.now = omega (arith, c.loop-left.invariant.few, c.loop-left-test.true) in
     record {
       few = omega arith;
-      same = newest-is (λ h. closing h) c.args.lines.now c.loop-left.left (c.loop-left.left - 1) c.index-lines-left.result (omega arith) below (search rules) c.loop-left.invariant.same ∙ c.in_default.ensures (history_of (take (c.loop-left.left - 1) c.args.lines.now));
+      same = newest-is (λ h. closing h) c.args.lines.now c.loop-left.left (c.loop-left.left - 1) c.index-lines-left.result (omega arith) below (search rules)
+          c.loop-left.invariant.same ∙ c.in_default.ensures (history_of (take (c.loop-left.left - 1) c.args.lines.now));
     }

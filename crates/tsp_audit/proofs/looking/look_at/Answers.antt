@@ -19,11 +19,16 @@ returns c header told claim before stand dated place from_is end_is event_is not
     let same : head ≡ header = c.header.ensures ∙ stand.header_is in
     let h : List Line = claimed header before in
     let grown = rw (← from_is) at (grown-next header told claim before dated place) in
-    let is : history_of (take c.args.end ns) ≡ claimed header (claim ∷ before) = upto-is header told (claim ∷ before) ns c.args.end (c.lines-lines.ensures.lines header told stand) place end_is in
+    let is : history_of (take c.args.end ns) ≡ claimed header (claim ∷ before) = upto-is header told (claim ∷
+    before) ns c.args.end (c.lines-lines.ensures.lines header told stand) place end_is in
     let spare : HasLineRoom c.saturating_sub.result c.make_room.new.self = search rules in
     let room : HasLineRoom (length (claimed header (claim ∷ before)) - c.args.from) c.make_room.new.self =
-    (let sub : c.saturating_sub.result ≡ c.args.end - c.args.from = search rules in room-less (length (claimed header (claim ∷ before)) - c.args.from) c.saturating_sub.result c.make_room.new.self (omega (arith, sub, end_is)) spare) in
+    (let sub : c.saturating_sub.result ≡ c.args.end - c.args.from = search rules in
+    room-less (length (claimed header (claim ∷ before)) - c.args.from) c.saturating_sub.result c.make_room.new.self (omega (arith, sub, end_is)) spare) in
     let kept : RememberedStands c.args.premises header h c.make_room.new.self = c.make_room.ensures.stand c.args.premises header h notes in
     let event : c.args.event ≡ length (claim ∷ before) = omega (arith, event_is) in
-    subst (λ (k : HeaderValue). history_of (take c.args.end ns) ≡ claimed k (claim ∷ before) → Grown (length k.nodes) h (claimed k (claim ∷ before)) c.args.from → HasLineRoom (length (claimed k (claim ∷ before)) - c.args.from) c.make_room.new.self → RememberedStands c.args.premises k h c.make_room.new.self →
-    Looks c.args.premises k (claim ∷ before) h c.look.new.notes c.look.result) same (λ i g r n. c.look.ensures (claim ∷ before) h i event g r n) is grown room kept
+    subst (λ (k : HeaderValue). history_of (take c.args.end ns) ≡ claimed k (claim ∷ before) →
+    Grown (length k.nodes) h (claimed k (claim ∷ before)) c.args.from → HasLineRoom (length (claimed k (claim ∷ before)) - c.args.from) c.make_room.new.self
+    → RememberedStands c.args.premises k h c.make_room.new.self →
+    Looks c.args.premises k (claim ∷ before) h c.look.new.notes c.look.result) same (λ i g r n. c.look.ensures (claim ∷ before) h i event g r n) is grown room
+    kept

@@ -14,8 +14,10 @@ returns-in-Some c header told stand dated ends notes =
     let many = ends.many in
     let at = r.count in
     let n : Next told r.before = next-place told r.before r.place (omega (arith, many, at)) in
-    let end_is : get_or c.args.ends.now c.loop-i.i 0 ≡ length (claimed header (n.claim ∷ r.before)) = ap (λ (k : ℕ). get_or c.args.ends.now k 0) (sym at) ∙ ends.end_is n.claim r.before n.place in
-    let looks : Looks c.args.premises header (n.claim ∷ r.before) (claimed header r.before) c.look_at.new.notes c.in_ok-failure.field-0 = c.in_ok-failure.ensures header told n.claim r.before stand dated n.place r.from_is end_is (omega (arith, at)) r.notes_are in
+    let end_is : get_or c.args.ends.now c.loop-i.i 0 ≡ length (claimed header (n.claim ∷ r.before)) = ap (λ (k : ℕ). get_or c.args.ends.now k 0) (sym at) ∙
+    ends.end_is n.claim r.before n.place in
+    let looks : Looks c.args.premises header (n.claim ∷ r.before) (claimed header r.before) c.look_at.new.notes c.in_ok-failure.field-0 =
+    c.in_ok-failure.ensures header told n.claim r.before stand dated n.place r.from_is end_is (omega (arith, at)) r.notes_are in
     reached-failure c.args.premises header told c.loop-i.i c.loop-i.from c.loop-i.notes c.look_at.new.notes c.in-Some.failure r n
     (subst (λ (f : Option Failure). Looks c.args.premises header (n.claim ∷ r.before) (claimed header r.before) c.look_at.new.notes f) c.in-Some.is looks)
 
@@ -25,10 +27,13 @@ loop-i-preserved c header told stand dated ends notes =
     let many = ends.many in
     let at = r.count in
     let n : Next told r.before = next-place told r.before r.place (omega (arith, many, at)) in
-    let end_is : get_or c.args.ends.now c.loop-i.i 0 ≡ length (claimed header (n.claim ∷ r.before)) = ap (λ (k : ℕ). get_or c.args.ends.now k 0) (sym at) ∙ ends.end_is n.claim r.before n.place in
-    let looks : Looks c.args.premises header (n.claim ∷ r.before) (claimed header r.before) c.look_at.new.notes c.in_ok-failure.field-0 = c.in_ok-failure.ensures header told n.claim r.before stand dated n.place r.from_is end_is (omega (arith, at)) r.notes_are in
+    let end_is : get_or c.args.ends.now c.loop-i.i 0 ≡ length (claimed header (n.claim ∷ r.before)) = ap (λ (k : ℕ). get_or c.args.ends.now k 0) (sym at) ∙
+    ends.end_is n.claim r.before n.place in
+    let looks : Looks c.args.premises header (n.claim ∷ r.before) (claimed header r.before) c.look_at.new.notes c.in_ok-failure.field-0 =
+    c.in_ok-failure.ensures header told n.claim r.before stand dated n.place r.from_is end_is (omega (arith, at)) r.notes_are in
     reached-next c.args.premises header told c.loop-i.i c.loop-i.from (get_or c.args.ends.now c.loop-i.i 0) c.loop-i.notes c.look_at.new.notes r n end_is
     (subst (λ (f : Option Failure). Looks c.args.premises header (n.claim ∷ r.before) (claimed header r.before) c.look_at.new.notes f) c.in_default.is looks)
 
 pub returns : goal.returns
-returns c header told stand dated ends notes = reached-all c.args.premises header told c.loop-i.i c.loop-i.from c.loop-i.notes (let many = ends.many in omega (arith, many)) (c.loop-i.invariant header told stand dated ends notes)
+returns c header told stand dated ends notes = reached-all c.args.premises header told c.loop-i.i c.loop-i.from c.loop-i.notes (let many = ends.many in
+    omega (arith, many)) (c.loop-i.invariant header told stand dated ends notes)

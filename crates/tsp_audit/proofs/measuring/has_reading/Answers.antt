@@ -6,14 +6,16 @@ use Rattle.tsp_history.proofs.NoteLemmas.{told_take}
 use Rattle.tsp_audit.proofs.measuring.has_reading.Goals as goal
 
 pub returns-in-None : goal.returns-in-None
-returns-in-None c setting has timely = read-none setting (line_of c.args.line.now) (history_of c.args.lines.now) c.args.peer c.args.diff c.args.err c.in-None.ensures
+returns-in-None c setting has timely = read-none setting (line_of c.args.line.now) (history_of c.args.lines.now) c.args.peer c.args.diff c.args.err
+    c.in-None.ensures
 
 pub returns-in-Some : goal.returns-in-Some
 returns-in-Some c setting has timely =
     let at : RepliesAt c.args.lines.now (line_of c.args.line.now) c.args.peer c.in-Some.index = c.in-Some.ensures in
     let noted : HistoryLine = c.index-lines-index.result in
     let here : get_or c.args.lines.now c.in-Some.index noted ≡ noted = sym c.index-lines-index.is in
-    let soon : noted.at ≤ 1000000000000000 = at-line (λ l before. l.did.step.at ≤ 1000000000000000) c.args.lines.now c.in-Some.index noted at.below here timely in
+    let soon : noted.at ≤ 1000000000000000 = at-line (λ l before. l.did.step.at ≤ 1000000000000000) c.args.lines.now c.in-Some.index noted at.below here timely
+    in
     let diff : to_z w64 (of_z w64 c.args.diff) ≡ c.args.diff = search rules in
     let err : to_z w64 (of_z w64 c.args.err) ≡ c.args.err = search rules in
     let ahead : to_z w128 (of_z w128 c.clock_at-ahead.result) ≡ c.clock_at-ahead.result = search rules in

@@ -6,4 +6,5 @@ use Rattle.tsp_audit.specs.{Measuring.MeasuresAt, Parts.MeasuresWell, Settings.H
 use Rattle.tsp_audit.proofs.measuring.keeps_measuring.Given as goal
 
 abbrev pub invariant-loop-i : goal.invariant-loop-i
-invariant-loop-i l = (setting : Setting) → HasClocks l.header setting → Timely (history_of l.lines) → MeasuresWell setting (history_of (take l.from l.lines)) → Everywhere (MeasuresAt setting) (history_of (take l.i l.lines))
+invariant-loop-i l = (setting : Setting) → HasClocks l.header setting → Timely (history_of l.lines) → MeasuresWell setting (history_of (take l.from l.lines)) →
+    Everywhere (MeasuresAt setting) (history_of (take l.i l.lines))

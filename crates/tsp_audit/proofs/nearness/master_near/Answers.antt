@@ -12,5 +12,6 @@ returns c a b x ac header at spare node own other fsum ssum =
     let same-high : high ≡ c.args.own.now.high = search rules in
     let same : to_z w128 (of_z w128 c.args.other.now.clock) ≡ c.args.other.now.clock = search rules in
     span-told c.is_met.result (shown_by header node a.moved at) (shown_by header x.master b.moved at) (err_less spare x) _ _ (width header.drift (at - x.at))
-    (same-low ∙ (own.low_is x ac ∙ ap (λ (z : ℤ). z -ℤ reach_at header at spare x) (own.clock_is fsum))) (same-high ∙ (own.high_is x ac ∙ ap (λ (z : ℤ). z +ℤ reach_at header at spare x) (own.clock_is fsum)))
+    (same-low ∙ (own.low_is x ac ∙ ap (λ (z : ℤ). z -ℤ reach_at header at spare x) (own.clock_is fsum))) (same-high ∙
+    (own.high_is x ac ∙ ap (λ (z : ℤ). z +ℤ reach_at header at spare x) (own.clock_is fsum)))
     (subst (λ (z : ℤ). MatchBool c.is_met.result ((low ≤ℤ z) × (z ≤ℤ high)) ((low ≤ℤ z) × (z ≤ℤ high) → ⊥)) (same ∙ other.clock_is ssum) c.is_met.ensures)

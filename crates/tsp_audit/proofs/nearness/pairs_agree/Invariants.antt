@@ -6,4 +6,5 @@ use Rattle.tsp_base.specs.Words.{HeaderValue}
 use Rattle.tsp_audit.proofs.nearness.pairs_agree.Given as goal
 
 abbrev pub invariant-loop-k : goal.invariant-loop-k
-invariant-loop-k l = (header : HeaderValue) (at spare : ℕ) → AllStand header at spare l.states l.stand → IsAtPlace l.states l.node l.a → AllBounded l.states → (k : ℕ) (b : NodeState) → k < l.k → k ≤ l.node → IsAtPlace l.states k b → PairAgrees header at spare l.node l.a k b
+invariant-loop-k l = (header : HeaderValue) (at spare : ℕ) → AllStand header at spare l.states l.stand → IsAtPlace l.states l.node l.a → AllBounded l.states →
+    (k : ℕ) (b : NodeState) → k < l.k → k ≤ l.node → IsAtPlace l.states k b → PairAgrees header at spare l.node l.a k b

@@ -8,7 +8,11 @@ use Rattle.tsp_history.proofs.{HistoryLemmas.history-more, NoteLemmas.told_take}
 use Rattle.tsp_audit.proofs.once.keeps_acting.Goals as goal
 
 pub loop-i-init : goal.loop-i-init
-loop-i-init c = ((λ room a. a), (λ setting has timely room a once. acts-all c.args.premises setting (history_of (take c.args.from c.args.lines.now)) once), (λ room. room))
+loop-i-init c = (
+  (λ room a. a),
+  (λ setting has timely room a once. acts-all c.args.premises setting (history_of (take c.args.from c.args.lines.now)) once),
+  (λ room. room),
+)
 
 pub returns-then-not-acts_once-clause-keeps : goal.returns-then-not-acts_once-clause-keeps
 returns-then-not-acts_once-clause-keeps c setting has timely room a once all =

@@ -14,7 +14,8 @@ or_swap false false = refl
 -- a test of a list's values finds as much in the reverse
 list_any-reverse : {X : Type 0} (p : X → Bool) (xs : List X) → list_any p (reverse xs) ≡ list_any p xs
 list_any-reverse p [] = refl
-list_any-reverse p (x ∷ xs) = ap (list_any p) (reverse-cons x xs) ∙ (list_any-append p (reverse xs) (x ∷ []) ∙ (ap (λ b. b || (p x || false)) (list_any-reverse p xs) ∙ or_swap (p x) (list_any p xs)))
+list_any-reverse p (x ∷ xs) = ap (list_any p) (reverse-cons x xs) ∙ (list_any-append p (reverse xs) (x ∷ []) ∙
+    (ap (λ b. b || (p x || false)) (list_any-reverse p xs) ∙ or_swap (p x) (list_any p xs)))
 
 pub returns-in-Boot : goal.returns-in-Boot
 returns-in-Boot c =

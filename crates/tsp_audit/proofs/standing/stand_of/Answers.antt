@@ -21,11 +21,14 @@ returns c soon =
     record {
       clock_is = λ sum.
           (let moved : c.bounded.result ≡ m = c.bounded.ensures.same (subst (λ (z : ℤ). IsSumOf 4294967295 z) (sym same-m) sum) ∙ same-m in
-          let wall : to_z w64 (of_z w64 c.clock_of-rate.result.1) ≡ line.wall = (let w : to_z w64 (of_z w64 c.clock_of-rate.result.1) ≡ c.clock_of-rate.result.1 = search rules in w ∙ c.clock_of-rate.ensures.wall) in
+          let wall : to_z w64 (of_z w64 c.clock_of-rate.result.1) ≡ line.wall = (let w : to_z w64 (of_z w64 c.clock_of-rate.result.1) ≡
+          c.clock_of-rate.result.1 = search rules in w ∙ c.clock_of-rate.ensures.wall) in
           let tick : c.tick_of.result ≡ tick_at line.rate c.args.at = search rules in
           same ∙ (c.add-clock.ensures.sum ∙ sums-same _ _ _ _ _ _ wall (same-b ∙ moved) tick));
       low_is = λ x is.
-          (let whole : to_z w128 (of_z w128 (at -ℤ by)) ≡ at -ℤ by = search rules in whole ∙ ap (λ (z : ℤ). at -ℤ z) (same-r ∙ c.reach_of-reach.ensures.reach soon x is));
+          (let whole : to_z w128 (of_z w128 (at -ℤ by)) ≡ at -ℤ by = search rules in whole ∙
+          ap (λ (z : ℤ). at -ℤ z) (same-r ∙ c.reach_of-reach.ensures.reach soon x is));
       high_is = λ x is.
-          (let whole : to_z w128 (of_z w128 (at +ℤ by)) ≡ at +ℤ by = search rules in whole ∙ ap (λ (z : ℤ). at +ℤ z) (same-r ∙ c.reach_of-reach.ensures.reach soon x is));
+          (let whole : to_z w128 (of_z w128 (at +ℤ by)) ≡ at +ℤ by = search rules in whole ∙
+          ap (λ (z : ℤ). at +ℤ z) (same-r ∙ c.reach_of-reach.ensures.reach soon x is));
     }

@@ -12,11 +12,13 @@ loop-node-preserved c soon k a s lt kat below =
     elim (cases_lt k i) [
       | inl less ↦
           let other : k ≡ i → ⊥ = λ e. omega (arith, e, less) in
-          subst (λ (u : Standing). StandsAs c.args.header.now c.args.at c.args.spare k a u) (sym (get_or-set_other old i k c.stand_of.result s other)) (c.loop-node.invariant soon k a s less kat short)
+          subst (λ (u : Standing). StandsAs c.args.header.now c.args.at c.args.spare k a u) (sym (get_or-set_other old i k c.stand_of.result s other))
+          (c.loop-node.invariant soon k a s less kat short)
       | inr le ↦
           let e : i ≡ k = omega (arith, lt, le) in
           let here : get_or c.args.states.now i no_state ≡ a = state-at c.args.states.now i k a kat e in
-          let new : c.stand_of.result ≡ get_or (set old i c.stand_of.result) k s = sym (ap (λ (j : ℕ). get_or (set old i c.stand_of.result) j s) (sym e) ∙ get_or-set_same old i c.stand_of.result s (omega (arith, e, short))) in
+          let new : c.stand_of.result ≡ get_or (set old i c.stand_of.result) k s = sym (ap (λ (j : ℕ). get_or (set old i c.stand_of.result) j s) (sym e) ∙
+          get_or-set_same old i c.stand_of.result s (omega (arith, e, short))) in
           subst₂ (λ (b : NodeState) (u : Standing). StandsAs c.args.header.now c.args.at c.args.spare k b u) here new
           (subst (λ (j : ℕ). StandsAs c.args.header.now c.args.at c.args.spare j (get_or c.args.states.now i no_state) c.stand_of.result) e
           (c.stand_of.ensures soon))

@@ -13,17 +13,22 @@ returns-clause-is c upto tell first is =
     node-still c.args.line.now.node (line_of c.args.line.now) (history_of c.args.before.now) c.args.was still is
 
 pub returns-then-is_boot-clause-same : goal.returns-then-is_boot-clause-same
-returns-then-is_boot-clause-same c quiet = let boots : deed_of c.args.line.now.act ≡ Acts Boot = search rules in absurd (boot-loud (deed_of c.args.line.now.act) boots quiet)
+returns-then-is_boot-clause-same c quiet = let boots : deed_of c.args.line.now.act ≡ Acts Boot = search rules in
+    absurd (boot-loud (deed_of c.args.line.now.act) boots quiet)
 
 pub returns-then-is_correct-clause-is : goal.returns-then-is_correct-clause-is
 returns-then-is_correct-clause-is c upto tell first is =
     let n = c.args.line.now.node in
     let correct : IsCorrect (deed_of c.args.line.now.act) = search rules in
     let same : to_z w128 (of_z w128 c.moved_at.result) ≡ c.moved_at.result = search rules in
-    let moved_is : to_z w128 (of_z w128 c.moved_at.result) ≡ moved (dids (of n (line_of c.args.line.now ∷ history_of c.args.before.now))) = same ∙ (c.moved_at.ensures.moved ∙ ap (λ (h : List Line). moved (dids (of n h))) upto) in
-    let bounded : IsSumOf 4294967295 (to_z w128 (of_z w128 c.moved_at.result)) = subst (λ (z : ℤ). IsSumOf 4294967295 z) (sym same) (sum-more _ c.moved_at.result c.requires.few c.moved_at.ensures.bounded) in
+    let moved_is : to_z w128 (of_z w128 c.moved_at.result) ≡ moved (dids (of n (line_of c.args.line.now ∷ history_of c.args.before.now))) = same ∙
+    (c.moved_at.ensures.moved ∙ ap (λ (h : List Line). moved (dids (of n h))) upto) in
+    let bounded : IsSumOf 4294967295 (to_z w128 (of_z w128 c.moved_at.result)) = subst (λ (z : ℤ). IsSumOf 4294967295 z) (sym same)
+    (sum-more _ c.moved_at.result c.requires.few c.moved_at.ensures.bounded) in
     let corrects_is = c.counts_at.ensures.corrects ∙ ap (λ (h : List Line). all_corrects (dids (of n h))) upto in
-    node-correct n (line_of c.args.line.now) (history_of c.args.before.now) c.args.was _ refl correct is first (c.correction_at.ensures tell) moved_is bounded refl corrects_is
+    node-correct n (line_of c.args.line.now) (history_of c.args.before.now) c.args.was _ refl correct is first (c.correction_at.ensures tell) moved_is bounded
+    refl corrects_is
 
 pub returns-then-is_correct-clause-same : goal.returns-then-is_correct-clause-same
-returns-then-is_correct-clause-same c quiet = let corrects : IsCorrect (deed_of c.args.line.now.act) = search rules in absurd (correct-loud (deed_of c.args.line.now.act) corrects quiet)
+returns-then-is_correct-clause-same c quiet = let corrects : IsCorrect (deed_of c.args.line.now.act) = search rules in
+    absurd (correct-loud (deed_of c.args.line.now.act) corrects quiet)

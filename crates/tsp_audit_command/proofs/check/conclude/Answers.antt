@@ -13,7 +13,8 @@ returns-in-Ok-judge g c = record {
   still = c.tell.ensures.still;
   ends =
       let told = c.tell.ensures in
-      Concludes-told c.args.claiming c.pass_all.new.self c.in-Ok-judge.found _ _ _ _ c.tell.result c.in-Ok.ensures c.in-Ok-judge.ensures told.ok told.err told.stop;
+      Concludes-told c.args.claiming c.pass_all.new.self c.in-Ok-judge.found _ _ _ _ c.tell.result c.in-Ok.ensures c.in-Ok-judge.ensures told.ok told.err
+      told.stop;
 }
 
 pub returns-in-Err-judge-clause-ends : goal.returns-in-Err-judge-clause-ends

@@ -6,7 +6,8 @@ use Rattle.tsp_audit_command.proofs.check.read_on.Goals as goal
 
 pub returns-then-node_count-gt-MOST_NODES-clause-next : goal.returns-then-node_count-gt-MOST_NODES-clause-next
 returns-then-node_count-gt-MOST_NODES-clause-next c p stands =
-    Halts-many p c.args.line.now c.advance.new.self c.node_count.result (c.in-Ok.ensures.next p stands) c.node_count.ensures.count c.if-node_count-gt-MOST_NODES.true
+    Halts-many p c.args.line.now c.advance.new.self c.node_count.result (c.in-Ok.ensures.next p stands) c.node_count.ensures.count
+    c.if-node_count-gt-MOST_NODES.true
 
 pub returns-else-node_count-gt-MOST_NODES-clause-next : goal.returns-else-node_count-gt-MOST_NODES-clause-next
 returns-else-node_count-gt-MOST_NODES-clause-next c p stands =

@@ -43,16 +43,19 @@ answer limit octets short (lines, c, all, feedless, are, reaches, passes) = reco
 }
 
 -- so that it isn't refused
-complete : (limit : ℕ) (input left written now : Option (List ℕ)) (octets : List ℕ) (result : Outcome) → input ≡ Some octets → length octets ≤ limit → IsAuditText octets → ComesGathered auditing limit input left written now result →
+complete : (limit : ℕ) (input left written now : Option (List ℕ)) (octets : List ℕ) (result : Outcome) → input ≡ Some octets → length octets ≤ limit →
+    IsAuditText octets → ComesGathered auditing limit input left written now result →
     (result ≡ ReadFault → ⊥) → (result ≡ WriteFault → ⊥) → (result ≡ Done) ⊎ (result ≡ OutOfMemory)
 complete limit input left written now octets Done told short text comes read write = inl refl
 complete limit input left written now octets Bad told short text comes read write =
-    let agrees : Agrees Done [] written now Bad = Comes-answers silently silent limit input left written now Bad comes octets Done [] told (answer limit octets short text) in
+    let agrees : Agrees Done [] written now Bad = Comes-answers silently silent limit input left written now Bad comes octets Done [] told
+    (answer limit octets short text) in
     inl (sym agrees.0)
 complete limit input left written now octets ReadFault told short text comes read write = absurd (read refl)
 complete limit input left written now octets WriteFault told short text comes read write = absurd (write refl)
 complete limit input left written now octets Limit told short text comes read write =
-    let agrees : Agrees Done [] written now Limit = Comes-answers silently silent limit input left written now Limit comes octets Done [] told (answer limit octets short text) in
+    let agrees : Agrees Done [] written now Limit = Comes-answers silently silent limit input left written now Limit comes octets Done [] told
+    (answer limit octets short text) in
     inl (sym agrees.0)
 complete limit input left written now octets OutOfMemory told short text comes read write = inr refl
 
@@ -61,5 +64,6 @@ returns g c = record {
   treats = c.treat_gathered.ensures;
   answers = c.treat_gathered.ensures.answers definite_auditing;
   complete = λ octets told limit text reads writes.
-      complete MOST_INPUT _ _ _ _ octets c.treat_gathered.result told limit text c.treat_gathered.ensures.comes (λ e. reads (c.treat_gathered.ensures.leaves.read e).0) (λ e. writes (c.treat_gathered.ensures.leaves.write e));
+      complete MOST_INPUT _ _ _ _ octets c.treat_gathered.result told limit text c.treat_gathered.ensures.comes
+      (λ e. reads (c.treat_gathered.ensures.leaves.read e).0) (λ e. writes (c.treat_gathered.ensures.leaves.write e));
 }

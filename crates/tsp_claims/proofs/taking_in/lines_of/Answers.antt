@@ -11,7 +11,8 @@ loop-line-init c =
     record {
       lines = λ h. ap (λ ls. joined (step_by step) step.tick (acts_of c.args.acts.now) (noted_after h ls)) c.in_ok-push.ensures.items
           ∙ ap (λ ls. joined (step_by step) step.tick (acts_of c.args.acts.now) (noted_after h (ls ++ c.noted.result ∷ []))) c.new-lines.ensures.items
-          ∙ ap (λ (m : Line). joined (step_by step) step.tick (acts_of c.args.acts.now) (m ∷ h)) (c.noted.ensures ∙ ap (λ a. line_in (step_by step) step.tick first_port (deed_of a)) c.mark.ensures);
+          ∙ ap (λ (m : Line). joined (step_by step) step.tick (acts_of c.args.acts.now) (m ∷ h)) (c.noted.ensures ∙
+          ap (λ a. line_in (step_by step) step.tick first_port (deed_of a)) c.mark.ensures);
       many = c.in_ok-push.ensures.len ∙ ap (λ n. n + 1) c.new-lines.ensures.len;
     }
 
@@ -22,8 +23,10 @@ loop-line-preserved c =
     let i = c.loop-line.line-index in
     record {
       lines = λ h. ap (λ ls. joined (step_by step) step.tick (acts_of (drop (i + 1) c.args.acts.now)) (noted_after h ls)) c.in_ok-push-2.ensures.items
-          ∙ ap (λ k. joined (step_by step) step.tick (acts_of (drop (i + 1) c.args.acts.now)) k) (noted-append h c.loop-line.lines.items (c.noted-in-loop-line.result ∷ []))
-          ∙ note-next (step_by step) step.tick c.args.acts.now i item (line_of c.noted-in-loop-line.result) (noted_after h c.loop-line.lines.items) (omega arith) (sym c.line-item.is)
+          ∙ ap (λ k. joined (step_by step) step.tick (acts_of (drop (i + 1) c.args.acts.now)) k)
+          (noted-append h c.loop-line.lines.items (c.noted-in-loop-line.result ∷ []))
+          ∙ note-next (step_by step) step.tick c.args.acts.now i item (line_of c.noted-in-loop-line.result) (noted_after h c.loop-line.lines.items)
+          (omega arith) (sym c.line-item.is)
           (c.noted-in-loop-line.ensures ∙ ap (λ a. line_in (step_by step) step.tick item.placed.port (deed_of a)) c.in_ok-act.ensures)
           ∙ c.loop-line.invariant.lines h;
       many = c.in_ok-push-2.ensures.len ∙ ap (λ n. n + 1) c.loop-line.invariant.many;

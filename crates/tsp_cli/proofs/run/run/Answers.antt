@@ -1,7 +1,8 @@
 use Rattle.std.proofs.Common.{arith, inl, inr, refl}
 use Rattle.tsp_query.proofs.FaultLemmas.{Counts-same}
 use Rattle.tsp_args.specs.declared.command.Command.TheVariants.{Replay}
-use Rattle.tsp_cli.proofs.CommandLemmas.{command_same, does_as, untouched_as, command_read, command_none, words_link, said_counts, said_unlinked, said_unread, Untouched-same, Says-nothing, Replay_prints, Replay_so_far}
+use Rattle.tsp_cli.proofs.CommandLemmas.{command_same, does_as, untouched_as, command_read, command_none, words_link, said_counts, said_unlinked, said_unread}
+use Rattle.tsp_cli.proofs.CommandLemmas.{Untouched-same, Says-nothing, Replay_prints, Replay_so_far}
 use Rattle.tsp_cli.{proofs.RunLemmas.unused_link, proofs.SoFarLemmas.nothing-so-far, specs.Commands.now_of}
 use Rattle.tsp_cli.proofs.run.run.Goals as goal
 

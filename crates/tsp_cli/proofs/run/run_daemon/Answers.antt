@@ -6,7 +6,8 @@ use Rattle.tsp_cli.proofs.run.run_daemon.Goals as goal
 
 pub returns : goal.returns
 returns g c = record {
-  runs = RunsDaemon-served _ _ _ _ _ _ _ c.serve_words.result c.of_served.result c.of_served.ensures c.serve_words.ensures.serves c.serve_words.ensures.wall c.serve_words.ensures.link.cause c.serve_words.ensures.write.cause;
+  runs = RunsDaemon-served _ _ _ _ _ _ _ c.serve_words.result c.of_served.result c.of_served.ensures c.serve_words.ensures.serves c.serve_words.ensures.wall
+      c.serve_words.ensures.link.cause c.serve_words.ensures.write.cause;
   link =
       Counts-from _ _ _ _ _ refl (λ e. (served_by c.serve_words.result).2 (sym c.of_served.ensures ∙ e))
       (λ e. c.of_served.ensures ∙ ap (λ (s : DaemonExit). status_of_served s) e) c.serve_words.ensures.link;

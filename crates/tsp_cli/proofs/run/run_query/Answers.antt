@@ -5,7 +5,8 @@ use Rattle.tsp_cli.proofs.run.run_query.Goals as goal
 
 pub returns : goal.returns
 returns g c = record {
-  runs = RunsQuery-asked _ _ _ _ _ _ _ _ _ _ c.ask.result c.of_asking.result c.of_asking.ensures c.ask.ensures.asks c.ask.ensures.faults.cause c.ask.ensures.write.cause;
+  runs = RunsQuery-asked _ _ _ _ _ _ _ _ _ _ c.ask.result c.of_asking.result c.of_asking.ensures c.ask.ensures.asks c.ask.ensures.faults.cause
+      c.ask.ensures.write.cause;
   faults =
       LinkCounts-from _ _ _ _ _ _ refl refl (λ e. (asking_by c.ask.result).2 (sym c.of_asking.ensures ∙ e))
       (λ e. c.of_asking.ensures ∙ ap (λ (a : QueryExit). status_of_asking a) e) c.ask.ensures.faults;

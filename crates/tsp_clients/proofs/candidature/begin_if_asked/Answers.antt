@@ -8,8 +8,10 @@ use Rattle.tsp_clients.proofs.candidature.begin_if_asked.Goals as goal
 
 pub returns-then-may_be_asked-clause-row : goal.returns-then-may_be_asked-clause-row
 returns-then-may_be_asked-clause-row g c =
-    Performs_then_part may_be_asked nothing (λ past h. may_be_asked-is c.args.tick past c.args.station.now h.stands ∙ (sym c.may_be_asked.ensures ∙ c.if-may_be_asked.true)) c.stand.ensures.row
+    Performs_then_part may_be_asked nothing (λ past h. may_be_asked-is c.args.tick past c.args.station.now h.stands ∙
+    (sym c.may_be_asked.ensures ∙ c.if-may_be_asked.true)) c.stand.ensures.row
 
 pub returns-else-may_be_asked-clause-row : goal.returns-else-may_be_asked-clause-row
 returns-else-may_be_asked-clause-row g c =
-    Performs_else_part may_be_asked candidature_row (λ past h. may_be_asked-is c.args.tick past c.args.station.now h.stands ∙ (sym c.may_be_asked.ensures ∙ c.if-may_be_asked.false)) Performs_nothing
+    Performs_else_part may_be_asked candidature_row (λ past h. may_be_asked-is c.args.tick past c.args.station.now h.stands ∙
+    (sym c.may_be_asked.ensures ∙ c.if-may_be_asked.false)) Performs_nothing

@@ -14,4 +14,5 @@ returns-in-Master-clause-row g c x =
 pub returns-in_default-clause-row : goal.returns-in_default-clause-row
 unfolding says_master
 returns-in_default-clause-row g c x =
-    Performs_else_part is_master_at (posts_back c.args.from Ack c.args.number) (λ past h. ap is_master (sym h.role) ∙ is_master-other _ c.in_default.not-Master) Performs_nothing
+    Performs_else_part is_master_at (posts_back c.args.from Ack c.args.number) (λ past h. ap is_master (sym h.role) ∙ is_master-other _ c.in_default.not-Master)
+    Performs_nothing

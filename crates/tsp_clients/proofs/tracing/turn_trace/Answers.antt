@@ -7,4 +7,5 @@ use Rattle.tsp_clients.proofs.tracing.turn_trace.Goals as goal
 pub returns-clause-row : goal.returns-clause-row
 unfolding traces
 returns-clause-row g c x =
-    Performs_then (Performs_turned c.args.on c.args.station.now c.args.tracing.now c.put.ensures.acts) (Performs_traced c.args.from c.args.number c.args.on (c.post_back.ensures.row x))
+    Performs_then (Performs_turned c.args.on c.args.station.now c.args.tracing.now c.put.ensures.acts) (Performs_traced c.args.from c.args.number c.args.on
+    (c.post_back.ensures.row x))

@@ -5,8 +5,10 @@ use Rattle.tsp_codec.proofs.decoding.message_of.Goals as goal
 
 pub returns-in_default : goal.returns-in_default
 returns-in_default c = elim c.if-octets.branch [
-  | then-octets w ↦ rw w.result-is (IsFault-NoEnd c.args.octets.now c.args.kind c.requires.head c.requires.kind c.in_default.ensures (omega (arith, w.if-octets)))
-  | else-octets w ↦ rw w.result-is (IsFault-NameTooLong c.args.octets.now c.args.kind c.requires.head c.requires.kind c.in_default.ensures (omega (arith, w.if-octets)))
+  | then-octets w ↦ rw w.result-is (IsFault-NoEnd c.args.octets.now c.args.kind c.requires.head c.requires.kind c.in_default.ensures
+      (omega (arith, w.if-octets)))
+  | else-octets w ↦ rw w.result-is (IsFault-NameTooLong c.args.octets.now c.args.kind c.requires.head c.requires.kind c.in_default.ensures
+      (omega (arith, w.if-octets)))
 ]
 
 pub returns-in-None : goal.returns-in-None

@@ -19,4 +19,5 @@ pub returns-in-Ok-reply_of : goal.returns-in-Ok-reply_of
 returns-in-Ok-reply_of c = taken_of-Reads c.args.octets.now (Good (Stamp c.in-Ok-reply_of.stamp)) c.in-Ok-reply_of.ensures
 
 pub returns-in-Err-reply_of : goal.returns-in-Err-reply_of
-returns-in-Err-reply_of c = no_stamp c.args.octets.now (λ s p. Spells_no_fault c.args.octets.now (Stamp s) c.in-Err-reply_of.field-0 p c.in-Err-reply_of.ensures)
+returns-in-Err-reply_of c = no_stamp c.args.octets.now (λ s p. Spells_no_fault c.args.octets.now (Stamp s) c.in-Err-reply_of.field-0 p
+    c.in-Err-reply_of.ensures)

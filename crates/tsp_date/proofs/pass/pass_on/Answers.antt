@@ -22,7 +22,8 @@ returns-then-may_pass_on-clause-row g c s r t =
 pub returns-else-may_pass_on-clause-row : goal.returns-else-may_pass_on-clause-row
 unfolding passes_on
 returns-else-may_pass_on-clause-row g c s r t =
-    Performs_else_part (may_pass_on c.args.master) (posts_back c.args.from Ack c.args.m.now.number followed_by begins_timed SetDateReq c.args.master (time_in c.args.m.now.body))
+    Performs_else_part (may_pass_on c.args.master) (posts_back c.args.from Ack c.args.m.now.number followed_by begins_timed SetDateReq c.args.master
+    (time_in c.args.m.now.body))
     (λ past h. c.may_pass_on.ensures past h.station h.dates ∙ c.if-may_pass_on.false) Performs_nothing
 
 pub returns-then-may_pass_on-clause-room : goal.returns-then-may_pass_on-clause-room

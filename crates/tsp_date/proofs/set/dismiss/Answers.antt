@@ -1,5 +1,6 @@
 -- One slave after the other leaves.
-use Rattle.std.proofs.Common.{get_or, refl, sym, ◌∙◌, ap, arith, length-append, subst, ◌≤◌, ◌≡◌, ◌+◌, ◌<◌, ◌∷◌, [], ◌++◌, length, take, true, false, slice_index_or}
+use Rattle.std.proofs.Common.{get_or, refl, sym, ◌∙◌, ap, arith, length-append, subst, ◌≤◌, ◌≡◌, ◌+◌, ◌<◌, ◌∷◌, [], ◌++◌, length, take, true, false}
+use Rattle.std.proofs.Common.{slice_index_or}
 use Rattle.std.proofs.lemmas.List.{get_or_default, take_all}
 use Rattle.tsp_base.proofs.PerformsLemmas.{Performs_each_more, Performs_nothing, Performs_reading}
 use Rattle.tsp_base.{proofs.FrameLemmas.PutsAtMost_up, specs.Words.for_each}
@@ -30,18 +31,24 @@ loop-p-preserved g c =
     let there : c.peers-p-items.result.now ≡ ps = c.peers-p-items.ensures.value in
     let inside : n < length ps = omega (arith, c.loop-p-test.true, ap length there) in
     let up = c.peers-p-items.ensures.valid.ascending in
-    let here : get_or ps n p ≡ p = ap (λ l. get_or l n p) (sym there) ∙ get_or_default c.peers-p-items.result.now n p (record { 0 = 0 }) (omega (arith, c.loop-p-test.true)) in
-    let entry : entry_of c.loop-p.master.slaves p ≡ entry_of es p = ap (entry_of c.loop-p.master.slaves) (sym here) ∙ inv.later n p (omega arith) inside ∙ ap (entry_of es) here in
+    let here : get_or ps n p ≡ p = ap (λ l. get_or l n p) (sym there) ∙ get_or_default c.peers-p-items.result.now n p (record { 0 = 0 })
+    (omega (arith, c.loop-p-test.true)) in
+    let entry : entry_of c.loop-p.master.slaves p ≡ entry_of es p = ap (entry_of c.loop-p.master.slaves) (sym here) ∙ inv.later n p (omega arith) inside ∙
+    ap (entry_of es) here in
     let more : take (n + 1) ps ≡ take n ps ++ p ∷ [] = take-more ps n p inside here in
     elim c.if-leave.branch [
       | then-leave w ↦
           let joined : (entry_of es p).joined ≡ true = ap (λ (e : Entry). e.joined) (sym entry) ∙ sym c.leave.ensures.joined ∙ w.if-leave.true in
           record {
             row = rw (w.desk-is, more, filter-more (λ (q : PeerId). (entry_of es q).joined) (take n ps) p joined)
-                (λ x. Performs_each_more leaves (joined_of es (take n ps)) p (inv.row x) (Performs_leave p (c.leave.ensures.stands w.if-leave.true) w.put.ensures.acts));
+                (λ x. Performs_each_more leaves (joined_of es (take n ps)) p (inv.row x) (Performs_leave p (c.leave.ensures.stands w.if-leave.true)
+                w.put.ensures.acts));
             peers = c.leave.ensures.peers ∙ inv.peers;
             later = later-same ps n p es _ _ up here (changes-others leaves_entry p _ _ (c.leave.ensures.slaves w.if-leave.true)) inv.later;
-            room = rw w.desk-is (record { spare = omega (arith, inv.room.spare, w.put.ensures.spare); few = omega (arith, inv.room.few, ap length w.put.ensures.acts ∙ length-append (g.D.Desk.acts c.loop-p.desk) _) });
+            room = rw w.desk-is (record {
+              spare = omega (arith, inv.room.spare, w.put.ensures.spare);
+              few = omega (arith, inv.room.few, ap length w.put.ensures.acts ∙ length-append (g.D.Desk.acts c.loop-p.desk) _);
+            });
           }
       | else-leave w ↦
           let away : (entry_of es p).joined ≡ false = ap (λ (e : Entry). e.joined) (sym entry) ∙ sym c.leave.ensures.joined ∙ w.if-leave.false in
@@ -64,4 +71,5 @@ returns-clause-row g c x =
     (let r = rw all at c.loop-p.invariant.row in rw c.requires.same (r x))
 
 pub returns-clause-room : goal.returns-clause-room
-returns-clause-room g c = PutsAtMost_up c.loop-p.p-index (length c.args.station.now.peers) (subst (λ l. c.loop-p.p-index ≤ length l) c.peers-p-items.ensures.value c.loop-p.auto.p-index-end) c.loop-p.invariant.room
+returns-clause-room g c = PutsAtMost_up c.loop-p.p-index (length c.args.station.now.peers)
+    (subst (λ l. c.loop-p.p-index ≤ length l) c.peers-p-items.ensures.value c.loop-p.auto.p-index-end) c.loop-p.invariant.room

@@ -8,8 +8,10 @@ use Rattle.tsp_date.proofs.set.dismiss.Given as goal
 
 abbrev pub invariant-loop-p : goal.invariant-loop-p
 invariant-loop-p g l = record {
-  row : (x : ℕ) → Performs MasterStands MasterStands (for_each leaves (joined_of l.initial.master.slaves (take l.p-index l.station.peers))) x l.port l.initial.master l.master (g.D.Desk.acts l.initial.desk) (g.D.Desk.acts l.desk);
+  row : (x : ℕ) → Performs MasterStands MasterStands (for_each leaves (joined_of l.initial.master.slaves (take l.p-index l.station.peers))) x l.port
+      l.initial.master l.master (g.D.Desk.acts l.initial.desk) (g.D.Desk.acts l.desk);
   peers : peers_of l.master.slaves ≡ peers_of l.initial.master.slaves;
-  later : (k : ℕ) (d : PeerId) → l.p-index ≤ k → k < length l.station.peers → entry_of l.master.slaves (get_or l.station.peers k d) ≡ entry_of l.initial.master.slaves (get_or l.station.peers k d);
+  later : (k : ℕ) (d : PeerId) → l.p-index ≤ k → k < length l.station.peers → entry_of l.master.slaves (get_or l.station.peers k d) ≡
+      entry_of l.initial.master.slaves (get_or l.station.peers k d);
   room : PutsAtMost l.p-index (g.D.Desk.spare l.initial.desk) (g.D.Desk.spare l.desk) (g.D.Desk.acts l.initial.desk) (g.D.Desk.acts l.desk);
 }

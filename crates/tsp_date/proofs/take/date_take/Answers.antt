@@ -26,7 +26,8 @@ corrects-sets from number time x past = by_test (may_date time x past) where
 
 -- one that is passed on doesn't
 corrects-passes : (from : Place) (q : PeerId) (number : ℕ) (time : ℤ) (x : ℕ) (past : Past) → corrects (passes_on from q number time x past) ≡ false
-corrects-passes from q number time x past = corrects-none (passes_on from q number time x past) ((emits_built {all = still_sorts} refl (built_passes_on number time tt tt from q (place_unchanged from) tt tt)).only x past)
+corrects-passes from q number time x past = corrects-none (passes_on from q number time x past)
+    ((emits_built {all = still_sorts} refl (built_passes_on number time tt tt from q (place_unchanged from) tt tt)).only x past)
 
 -- nor does one that is answered again
 corrects-posts : (p : PeerId) (kind : Kind) (number x : ℕ) (past : Past) → corrects (posts p kind number x past) ≡ false
@@ -35,13 +36,21 @@ corrects-posts p kind number x past = refl
 
 -- nor does the answer of a master
 corrects-end : (from : Place) (m : MessageValue) (x : ℕ) (past : Past) → corrects (from_peer from (date_acked m) x past) ≡ false
-corrects-end from m x past = corrects-none (from_peer from (date_acked m) x past) ((emits_built {all = still_sorts} refl (built_from_peer from _ _ (place_unchanged from) (built_date_acked m))).only x past)
+corrects-end from m x past = corrects-none (from_peer from (date_acked m) x past)
+    ((emits_built {all = still_sorts} refl (built_from_peer from _ _ (place_unchanged from) (built_date_acked m))).only x past)
 
 pub returns-in-DateAck-clause-row : goal.returns-in-DateAck-clause-row
 returns-in-DateAck-clause-row g c last took e t =
     let m = c.args.m.now in
     let k : m.kind ≡ DateAck = sym c.kind.ensures ∙ c.in-DateAck.is in
-    let s : DateState = record { dates = c.args.dates.now; master = c.args.master.now; station = c.args.station.now; last = last; clock = c.args.clock.now; took = took } in
+    let s : DateState = record {
+      dates = c.args.dates.now;
+      master = c.args.master.now;
+      station = c.args.station.now;
+      last = last;
+      clock = c.args.clock.now;
+      took = took;
+    } in
     rw (handles-end c.args.charge c.args.from m m.kind k) (c.hear_end.ensures.row c.args.tick s)
 
 pub returns-in-DateAck-clause-corrects : goal.returns-in-DateAck-clause-corrects
@@ -70,8 +79,16 @@ returns-in-PassOn g c =
     let q = c.in-PassOn.followed in
     record {
       row = λ last took e t. Performs_task (PassOn q) c.args.charge c.args.from m c.in-PassOn.ensures.row
-          (c.pass_on.ensures.row (record { dates = c.args.dates.now; master = c.args.master.now; station = c.args.station.now; last = last; clock = c.args.clock.now; took = took }) _ t);
-      corrects = λ past last took e h. sym (ap corrects (c.in-PassOn.ensures.row past h.station h.dates) ∙ corrects-passes c.args.from q m.number (time_in m.body) c.args.tick past);
+          (c.pass_on.ensures.row (record {
+            dates = c.args.dates.now;
+            master = c.args.master.now;
+            station = c.args.station.now;
+            last = last;
+            clock = c.args.clock.now;
+            took = took;
+          }) _ t);
+      corrects = λ past last took e h. sym (ap corrects (c.in-PassOn.ensures.row past h.station h.dates) ∙
+          corrects-passes c.args.from q m.number (time_in m.body) c.args.tick past);
       room = record { spare = omega (arith, c.pass_on.ensures.room.spare); few = omega (arith, c.pass_on.ensures.room.few) };
       port = c.pass_on.ensures.port;
       role = c.pass_on.ensures.role;
@@ -89,7 +106,8 @@ returns-in-AnswerAgain g c =
           (Performs_posting
           (record { dates = c.args.dates.now; master = c.args.master.now; station = c.args.station.now; last = last; clock = c.args.clock.now; took = took })
           (Emits_posts p DateAck m.number refl) (rw c.number.ensures at (c.post.ensures.row c.args.tick)));
-      corrects = λ past last took e h. sym (ap corrects (c.in-AnswerAgain.ensures.row past h.station h.dates) ∙ corrects-posts p DateAck m.number c.args.tick past);
+      corrects = λ past last took e h. sym (ap corrects (c.in-AnswerAgain.ensures.row past h.station h.dates) ∙
+          corrects-posts p DateAck m.number c.args.tick past);
       room = record { spare = omega (arith, c.post.ensures.room.spare); few = omega (arith, c.post.ensures.room.count) };
       port = record { me = refl; peers = refl };
       role = refl;
@@ -105,8 +123,10 @@ returns-then-not-may_date g c =
     let test = rw c.time_of.ensures at c.may_date.ensures.test in
     record {
       row = λ last took e t. Performs_task Set c.args.charge c.args.from m c.in-Set.ensures.row
-          (Performs_else_part (may_date (time_in m.body)) (new_date c.args.from m.number (time_in m.body)) (λ past h. test past h.master (sym h.last.tick_is ∙ e) ∙ c.if-not-may_date.true) Performs_nothing);
-      corrects = λ past last took e h. sym (ap corrects (c.in-Set.ensures.row past h.station h.dates) ∙ corrects-sets c.args.from m.number (time_in m.body) c.args.tick past ∙ test past h.master (sym h.last.tick_is ∙ e) ∙ c.if-not-may_date.true);
+          (Performs_else_part (may_date (time_in m.body)) (new_date c.args.from m.number (time_in m.body)) (λ past h. test past h.master (sym h.last.tick_is ∙
+          e) ∙ c.if-not-may_date.true) Performs_nothing);
+      corrects = λ past last took e h. sym (ap corrects (c.in-Set.ensures.row past h.station h.dates) ∙
+          corrects-sets c.args.from m.number (time_in m.body) c.args.tick past ∙ test past h.master (sym h.last.tick_is ∙ e) ∙ c.if-not-may_date.true);
       room = record { spare = omega arith; few = omega arith };
       port = record { me = refl; peers = refl };
       role = refl;
@@ -124,10 +144,28 @@ returns-else-not-may_date g c =
     record {
       row = λ last took e t. Performs_task Set c.args.charge c.args.from m c.in-Set.ensures.row
           (Performs_then_part (may_date (time_in m.body)) nothing (λ past h. test past h.master (sym h.last.tick_is ∙ e) ∙ c.if-not-may_date.false)
-          (Performs_then (c.correct.ensures.row (record { dates = c.args.dates.now; master = c.args.master.now; station = c.args.station.now; last = last; clock = c.args.clock.now; took = took }) t)
-          (announces (record { dates = c.correct.new.dates; master = c.args.master.now; station = c.args.station.now; last = moved_where true c.args.tick last; clock = c.correct.new.clock; took = took }))));
-      corrects = λ past last took e h. sym (ap corrects (c.in-Set.ensures.row past h.station h.dates) ∙ corrects-sets c.args.from m.number (time_in m.body) c.args.tick past ∙ test past h.master (sym h.last.tick_is ∙ e) ∙ c.if-not-may_date.false);
-      room = record { spare = omega (arith, c.correct.ensures.room.spare, c.announce.ensures.room.spare); few = omega (arith, c.correct.ensures.room.few, c.announce.ensures.room.few) };
+          (Performs_then (c.correct.ensures.row (record {
+            dates = c.args.dates.now;
+            master = c.args.master.now;
+            station = c.args.station.now;
+            last = last;
+            clock = c.args.clock.now;
+            took = took;
+          }) t)
+          (announces (record {
+            dates = c.correct.new.dates;
+            master = c.args.master.now;
+            station = c.args.station.now;
+            last = moved_where true c.args.tick last;
+            clock = c.correct.new.clock;
+            took = took;
+          }))));
+      corrects = λ past last took e h. sym (ap corrects (c.in-Set.ensures.row past h.station h.dates) ∙
+          corrects-sets c.args.from m.number (time_in m.body) c.args.tick past ∙ test past h.master (sym h.last.tick_is ∙ e) ∙ c.if-not-may_date.false);
+      room = record {
+        spare = omega (arith, c.correct.ensures.room.spare, c.announce.ensures.room.spare);
+        few = omega (arith, c.correct.ensures.room.few, c.announce.ensures.room.few);
+      };
       port = record { me = refl; peers = refl };
       role = refl;
       slaves = c.announce.ensures.slaves;

@@ -14,17 +14,22 @@ returns-in_default c = record {
 pub returns-then-is_last-clause-row : goal.returns-then-is_last-clause-row
 returns-then-is_last-clause-row c past h =
     let m = c.args.m.now in
-    let is = dated-is c.args.p m.number c.args.tick past c.args.dates.now h ∙ ap (λ n. is_last n c.args.tick (last_in c.args.dates.now.dated c.args.p)) (sym c.number.ensures) ∙ sym c.is_last.ensures ∙ c.if-is_last.true in
+    let is = dated-is c.args.p m.number c.args.tick past c.args.dates.now h ∙ ap (λ n. is_last n c.args.tick (last_in c.args.dates.now.dated c.args.p))
+    (sym c.number.ensures) ∙ sym c.is_last.ensures ∙ c.if-is_last.true in
     ap (λ r. date_request_in c.args.charge m c.args.p r c.args.tick past) c.in-Master.is ∙ request-again c.args.charge m c.args.p c.args.tick past is
 
 pub returns-then-charge-clause-row : goal.returns-then-charge-clause-row
 returns-then-charge-clause-row c past h =
     let m = c.args.m.now in
-    let is = dated-is c.args.p m.number c.args.tick past c.args.dates.now h ∙ ap (λ n. is_last n c.args.tick (last_in c.args.dates.now.dated c.args.p)) (sym c.number.ensures) ∙ sym c.is_last.ensures ∙ c.if-is_last.false in
-    ap (λ r. date_request_in c.args.charge m c.args.p r c.args.tick past) c.in-Master.is ∙ ap (λ b. date_request_in b m c.args.p Master c.args.tick past) c.if-charge.true ∙ request-sets m c.args.p c.args.tick past is
+    let is = dated-is c.args.p m.number c.args.tick past c.args.dates.now h ∙ ap (λ n. is_last n c.args.tick (last_in c.args.dates.now.dated c.args.p))
+    (sym c.number.ensures) ∙ sym c.is_last.ensures ∙ c.if-is_last.false in
+    ap (λ r. date_request_in c.args.charge m c.args.p r c.args.tick past) c.in-Master.is ∙
+    ap (λ b. date_request_in b m c.args.p Master c.args.tick past) c.if-charge.true ∙ request-sets m c.args.p c.args.tick past is
 
 pub returns-else-charge-clause-row : goal.returns-else-charge-clause-row
 returns-else-charge-clause-row c past h =
     let m = c.args.m.now in
-    let is = dated-is c.args.p m.number c.args.tick past c.args.dates.now h ∙ ap (λ n. is_last n c.args.tick (last_in c.args.dates.now.dated c.args.p)) (sym c.number.ensures) ∙ sym c.is_last.ensures ∙ c.if-is_last.false in
-    ap (λ r. date_request_in c.args.charge m c.args.p r c.args.tick past) c.in-Master.is ∙ ap (λ b. date_request_in b m c.args.p Master c.args.tick past) c.if-charge.false ∙ request-ignored m c.args.p c.args.tick past is
+    let is = dated-is c.args.p m.number c.args.tick past c.args.dates.now h ∙ ap (λ n. is_last n c.args.tick (last_in c.args.dates.now.dated c.args.p))
+    (sym c.number.ensures) ∙ sym c.is_last.ensures ∙ c.if-is_last.false in
+    ap (λ r. date_request_in c.args.charge m c.args.p r c.args.tick past) c.in-Master.is ∙
+    ap (λ b. date_request_in b m c.args.p Master c.args.tick past) c.if-charge.false ∙ request-ignored m c.args.p c.args.tick past is

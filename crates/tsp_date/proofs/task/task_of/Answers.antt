@@ -10,14 +10,16 @@ pub returns-then-charge-clause-row : goal.returns-then-charge-clause-row
 returns-then-charge-clause-row c past h d =
     let m = c.args.m.now in
     let k : is_date_request m.kind ≡ false = ap is_date_request (sym c.kind.ensures) ∙ sym c.is_date_request.ensures ∙ c.if-not-is_date_request.true in
-    ap (λ row. row c.args.tick past) (handles-date c.args.charge c.args.from m m.kind c.requires.kind k) ∙ ap (λ b. date_of b c.args.from m c.args.tick past) c.if-charge.true
+    ap (λ row. row c.args.tick past) (handles-date c.args.charge c.args.from m m.kind c.requires.kind k) ∙
+    ap (λ b. date_of b c.args.from m c.args.tick past) c.if-charge.true
     ∙ date-charged c.args.from m c.args.station.now.role c.client_task.result c.args.tick past (sym h.role) (c.client_task.ensures.row c.args.from m)
 
 pub returns-else-charge-clause-row : goal.returns-else-charge-clause-row
 returns-else-charge-clause-row c past h d =
     let m = c.args.m.now in
     let k : is_date_request m.kind ≡ false = ap is_date_request (sym c.kind.ensures) ∙ sym c.is_date_request.ensures ∙ c.if-not-is_date_request.true in
-    ap (λ row. row c.args.tick past) (handles-date c.args.charge c.args.from m m.kind c.requires.kind k) ∙ ap (λ b. date_of b c.args.from m c.args.tick past) c.if-charge.false
+    ap (λ row. row c.args.tick past) (handles-date c.args.charge c.args.from m m.kind c.requires.kind k) ∙
+    ap (λ b. date_of b c.args.from m c.args.tick past) c.if-charge.false
     ∙ date-uncharged c.args.from m c.args.tick past
 
 pub returns-then-hears-clause-row : goal.returns-then-hears-clause-row
@@ -27,7 +29,8 @@ returns-then-hears-clause-row c past h d =
     let k : is_date_request m.kind ≡ true = ap is_date_request (sym c.kind.ensures) ∙ sym c.is_date_request.ensures ∙ c.if-not-is_date_request.false in
     let heard : is_heard p c.args.tick past ≡ true = heard-is p c.args.tick past c.args.station.now h ∙ sym c.hears.ensures ∙ c.if-hears.true in
     let row : from_peer c.args.from (date_request_of c.args.charge m) c.args.tick past ≡ task_row c.request_task.result c.args.from m c.args.tick past =
-    rw c.in-Peer.is (request-heard c.args.charge m p c.args.station.now.role c.request_task.result c.args.tick past heard (sym h.role) (c.request_task.ensures.row past d)) in
+    rw c.in-Peer.is (request-heard c.args.charge m p c.args.station.now.role c.request_task.result c.args.tick past heard (sym h.role)
+    (c.request_task.ensures.row past d)) in
     ap (λ row. row c.args.tick past) (handles-request c.args.charge c.args.from m m.kind k) ∙ row
 
 pub returns-else-hears-clause-row : goal.returns-else-hears-clause-row
@@ -36,12 +39,14 @@ returns-else-hears-clause-row c past h d =
     let p = c.in-Peer.p in
     let k : is_date_request m.kind ≡ true = ap is_date_request (sym c.kind.ensures) ∙ sym c.is_date_request.ensures ∙ c.if-not-is_date_request.false in
     let heard : is_heard p c.args.tick past ≡ false = heard-is p c.args.tick past c.args.station.now h ∙ sym c.hears.ensures ∙ c.if-hears.false in
-    let row : from_peer c.args.from (date_request_of c.args.charge m) c.args.tick past ≡ task_row Nothing c.args.from m c.args.tick past = rw c.in-Peer.is (request-unheard c.args.charge m p c.args.tick past heard) in
+    let row : from_peer c.args.from (date_request_of c.args.charge m) c.args.tick past ≡ task_row Nothing c.args.from m c.args.tick past =
+    rw c.in-Peer.is (request-unheard c.args.charge m p c.args.tick past heard) in
     ap (λ row. row c.args.tick past) (handles-request c.args.charge c.args.from m m.kind k) ∙ row
 
 pub returns-in-Stranger-clause-row : goal.returns-in-Stranger-clause-row
 returns-in-Stranger-clause-row c past h d =
     let m = c.args.m.now in
     let k : is_date_request m.kind ≡ true = ap is_date_request (sym c.kind.ensures) ∙ sym c.is_date_request.ensures ∙ c.if-not-is_date_request.false in
-    let row : from_peer c.args.from (date_request_of c.args.charge m) c.args.tick past ≡ task_row Nothing c.args.from m c.args.tick past = rw c.in-Stranger.is (request-stranger c.args.charge m c.args.tick past) in
+    let row : from_peer c.args.from (date_request_of c.args.charge m) c.args.tick past ≡ task_row Nothing c.args.from m c.args.tick past =
+    rw c.in-Stranger.is (request-stranger c.args.charge m c.args.tick past) in
     ap (λ row. row c.args.tick past) (handles-request c.args.charge c.args.from m m.kind k) ∙ row

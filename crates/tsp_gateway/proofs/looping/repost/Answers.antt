@@ -8,9 +8,11 @@ use Rattle.tsp_gateway.proofs.looping.repost.Goals as goal
 use Rattle.tsp_gateway.proofs.looping.repost.Goals.{then-p-station, else-p-station}
 
 -- one post more
-more : (m : MessageValue) (port : Port) (ps : List PeerId) (p : PeerId) (old mid new : List Placed) → mid ≡ old ++ placed port (map (repost m) ps) → new ≡ mid ++ record { port = port; act = repost m p } ∷ [] → new ≡ old ++ placed port (map (repost m) (ps ++ p ∷ []))
+more : (m : MessageValue) (port : Port) (ps : List PeerId) (p : PeerId) (old mid new : List Placed) → mid ≡ old ++ placed port (map (repost m) ps) → new ≡
+    mid ++ record { port = port; act = repost m p } ∷ [] → new ≡ old ++ placed port (map (repost m) (ps ++ p ∷ []))
 more m port ps p old mid new before put =
-    put ∙ ap (λ acts. acts ++ record { port = port; act = repost m p } ∷ []) before ∙ append_assoc old (placed port (map (repost m) ps)) (record { port = port; act = repost m p } ∷ [])
+    put ∙ ap (λ acts. acts ++ record { port = port; act = repost m p } ∷ []) before ∙
+    append_assoc old (placed port (map (repost m) ps)) (record { port = port; act = repost m p } ∷ [])
     ∙ ap (λ acts. old ++ acts) (sym (ap (placed port) (map-append (repost m) ps (p ∷ [])) ∙ map-append _ (map (repost m) ps) (map (repost m) (p ∷ []))))
 
 pub put-requires : goal.put-requires
@@ -30,16 +32,21 @@ loop-p-preserved g c =
     let one : i + 1 ≡ suc i = omega arith in
     let inside = c.loop-p-test.true in
     let end = ap length same in
-    let next : take (i + 1) peers ≡ take i peers ++ p ∷ [] = ap (λ k. take k peers) one ∙ take-suc peers i (record { 0 = 0 }) (omega (arith, inside, end)) ∙ ap (λ l. take i peers ++ get_or l i (record { 0 = 0 }) ∷ []) (sym same) in
+    let next : take (i + 1) peers ≡ take i peers ++ p ∷ [] = ap (λ k. take k peers) one ∙ take-suc peers i (record { 0 = 0 }) (omega (arith, inside, end)) ∙
+    ap (λ l. take i peers ++ get_or l i (record { 0 = 0 }) ∷ []) (sym same) in
     elim c.if-p-station.branch [
       | then-p-station w ↦
           let put = rw w.copy.ensures at w.put.ensures.acts in
           let few = ap length w.put.ensures.acts ∙ length-append (g.D.Desk.acts c.loop-p.desk) _ in
           rw (w.desk-is, next, others-more own p (take i peers) w.if-p-station.true) (record {
-            acts = more c.args.message.now c.args.port (others own (take i peers)) p (g.D.Desk.acts c.args.desk.now) (g.D.Desk.acts c.loop-p.desk) (g.D.Desk.acts w.put.new.self) inv.acts put;
+            acts = more c.args.message.now c.args.port (others own (take i peers)) p (g.D.Desk.acts c.args.desk.now) (g.D.Desk.acts c.loop-p.desk)
+                (g.D.Desk.acts w.put.new.self) inv.acts put;
             room = record { spare = omega (arith, inv.room.spare, w.put.ensures.spare); few = omega (arith, inv.room.few, few) };
           })
-      | else-p-station w ↦ rw (w.desk-is, next, others-own own p (take i peers) w.if-p-station.false) (record { acts = inv.acts; room = record { spare = omega (arith, inv.room.spare); few = omega (arith, inv.room.few) } })
+      | else-p-station w ↦ rw (w.desk-is, next, others-own own p (take i peers) w.if-p-station.false) (record {
+        acts = inv.acts;
+        room = record { spare = omega (arith, inv.room.spare); few = omega (arith, inv.room.few) };
+      })
     ]
 
 pub returns-clause-acts : goal.returns-clause-acts

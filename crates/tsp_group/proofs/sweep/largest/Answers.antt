@@ -14,7 +14,8 @@ group_is c =
     c.largest_sorted.ensures.group ∙ group_of-permutation c.args.span c.args.values.now.items c.sort.new.self.items c.sort.ensures.same c.requires.some some
 
 is_largest : (c : goal.After-largest_sorted) → IsLargest c.args.span c.args.values.now.items c.largest_sorted.result
-is_largest c = subst (λ (g : Group). IsLargest c.args.span c.args.values.now.items g) (sym (group_is c)) (group_of-IsLargest c.args.span c.args.values.now.items c.requires.some)
+is_largest c = subst (λ (g : Group). IsLargest c.args.span c.args.values.now.items g) (sym (group_is c)) (group_of-IsLargest c.args.span c.args.values.now.items
+    c.requires.some)
 
 pub returns-clause-group : goal.returns-clause-group
 returns-clause-group c = group_is c
@@ -29,7 +30,8 @@ pub returns-clause-majority : goal.returns-clause-majority
 returns-clause-majority c = IsLargest-majority c.args.span c.args.values.now.items c.largest_sorted.result (is_largest c)
 
 pub returns-clause-mean : goal.returns-clause-mean
-returns-clause-mean c = IsLargest-near c.args.span c.args.values.now.items c.largest_sorted.result (All-permutation IsNear c.sort.new.self.items c.args.values.now.items (IsPermutation-sym _ _ c.sort.ensures.same) c.sort.ensures.near) (is_largest c)
+returns-clause-mean c = IsLargest-near c.args.span c.args.values.now.items c.largest_sorted.result
+    (All-permutation IsNear c.sort.new.self.items c.args.values.now.items (IsPermutation-sym _ _ c.sort.ensures.same) c.sort.ensures.near) (is_largest c)
 
 pub returns-clause-looks : goal.returns-clause-looks
 returns-clause-looks c = omega (arith, length_permutation _ _ c.sort.ensures.same, c.largest_sorted.ensures.looks, c.sort.ensures.looks)

@@ -3,4 +3,8 @@ use Rattle.tsp_history.{proofs.NoteLemmas.length-history, proofs.NoteLemmas.more
 use Rattle.tsp_history.proofs.clocks.target_at.Goals as goal
 
 pub target-requires : goal.target-requires
-target-requires c = more-small (length (history_of c.args.lines.now)) 4294967295 c.node_at.result.clock.moved (omega (arith, length-history c.args.lines.now, c.requires.few)) c.node_at.ensures.small
+target-requires c = more-small (length (history_of c.args.lines.now)) 4294967295 c.node_at.result.clock.moved (omega (
+  arith,
+  length-history c.args.lines.now,
+  c.requires.few,
+)) c.node_at.ensures.small

@@ -9,7 +9,11 @@ loop-left-init c = record { few = omega arith; quiet = quiet-all c.args.node c.a
 pub loop-left-preserved : goal.loop-left-preserved
 loop-left-preserved c =
     let below : c.loop-left.left - 1 < length c.args.lines.now = omega (arith, c.loop-left.invariant.few, c.loop-left-test.true) in
-    record { few = omega arith; quiet = quiet-back c.args.node c.args.lines.now c.loop-left.left (c.loop-left.left - 1) c.index-lines-left.result (omega arith) below (search rules) (ne_eqb c.index-lines-left.result.node c.args.node c.if-line-node.false) c.loop-left.invariant.quiet }
+    record {
+      few = omega arith;
+      quiet = quiet-back c.args.node c.args.lines.now c.loop-left.left (c.loop-left.left - 1) c.index-lines-left.result (omega arith)
+          below (search rules) (ne_eqb c.index-lines-left.result.node c.args.node c.if-line-node.false) c.loop-left.invariant.quiet;
+    }
 
 pub returns-then-line-node : goal.returns-then-line-node
 returns-then-line-node c =
@@ -19,5 +23,6 @@ returns-then-line-node c =
       below = below;
       noted_is = search rules;
       node = c.if-line-node.true;
-      quiet = quiet-here c.args.node c.args.lines.now c.loop-left.left (c.loop-left.left - 1) c.index-lines-left.result (omega arith) below (search rules) c.loop-left.invariant.quiet;
+      quiet = quiet-here c.args.node c.args.lines.now c.loop-left.left (c.loop-left.left - 1) c.index-lines-left.result (omega arith) below (search rules)
+          c.loop-left.invariant.quiet;
     }

@@ -4,7 +4,11 @@ use Rattle.tsp_history.proofs.notes.note_behind.Goals as goal
 
 pub node_after-requires : goal.node_after-requires
 node_after-requires c = record {
-  moved = more-small (length (history_of c.args.lines.now)) 4294967294 c.node_at.result.clock.moved (omega (arith, length-history c.args.lines.now, c.requires.few)) c.node_at.ensures.small;
+  moved = more-small (length (history_of c.args.lines.now)) 4294967294 c.node_at.result.clock.moved (omega (
+    arith,
+    length-history c.args.lines.now,
+    c.requires.few,
+  )) c.node_at.ensures.small;
   lives = omega (arith, length-history c.args.lines.now, c.requires.few, c.node_at.ensures.counts.few_lives);
   corrects = omega (arith, length-history c.args.lines.now, c.requires.few, c.node_at.ensures.counts.few_corrects);
 }

@@ -10,7 +10,9 @@ returns-then-line-number c =
     let below : c.loop-left.left - 1 < length c.args.lines.now = omega (arith, c.loop-left.invariant.few, c.loop-left-test.true) in
     let is : get_or c.args.lines.now (c.loop-left.left - 1) c.index-lines-left.result ≡ c.index-lines-left.result = search rules in
     let post : IsPost c.index-lines-left.result = search rules in
-    let one : posted (dids (line_of c.index-lines-left.result ∷ history_of (take (c.loop-left.left - 1) c.args.lines.now))) ≡ posted (dids (history_of (take (c.loop-left.left - 1) c.args.lines.now))) + 1 = ap (λ a. posted_after (deed_of a) (posted (dids (history_of (take (c.loop-left.left - 1) c.args.lines.now))))) post.act in
+    let one : posted (dids (line_of c.index-lines-left.result ∷ history_of (take (c.loop-left.left - 1) c.args.lines.now))) ≡
+    posted (dids (history_of (take (c.loop-left.left - 1) c.args.lines.now))) + 1 =
+    ap (λ a. posted_after (deed_of a) (posted (dids (history_of (take (c.loop-left.left - 1) c.args.lines.now))))) post.act in
     let told = (c.requires.told.at (c.loop-left.left - 1) c.index-lines-left.result below is).posted_is in
     record {
       noted = c.index-lines-left.result;
@@ -34,10 +36,12 @@ loop-left-preserved c =
     let told = c.is_post.ensures in
     elim c.else-is_post.branch [
       | else-is_post-via-then-is_post+else-line-number w ↦
-          let post : IsPost item = subst (λ b. MatchBool b (IsPost item) ((h : List Line) → posted (dids (line_of item ∷ h)) ≡ posted (dids h))) w.if-is_post.true told in
+          let post : IsPost item = subst (λ b. MatchBool b (IsPost item) ((h : List Line) → posted (dids (line_of item ∷ h)) ≡ posted (dids h)))
+          w.if-is_post.true told in
           let one : posted (dids (line_of item ∷ past)) ≡ posted (dids past) + 1 = ap (λ a. posted_after (deed_of a) (posted (dids past))) post.act in
           record { few = omega arith; some = omega (arith, one, more, note, c.loop-left.invariant.some, w.if-line-number.false) }
       | else-is_post-via-else-is_post w ↦
-          let same : (h : List Line) → posted (dids (line_of item ∷ h)) ≡ posted (dids h) = subst (λ b. MatchBool b (IsPost item) ((h : List Line) → posted (dids (line_of item ∷ h)) ≡ posted (dids h))) w.if-is_post.false told in
+          let same : (h : List Line) → posted (dids (line_of item ∷ h)) ≡ posted (dids h) =
+          subst (λ b. MatchBool b (IsPost item) ((h : List Line) → posted (dids (line_of item ∷ h)) ≡ posted (dids h))) w.if-is_post.false told in
           record { few = omega arith; some = omega (arith, same past, more, c.loop-left.invariant.some) }
     ]

@@ -7,7 +7,8 @@ use Rattle.tsp_history.proofs.rounds.asked_at.Given as goal
 abbrev pub invariant-loop-left : goal.invariant-loop-left
 invariant-loop-left l = record {
   few : l.left ≤ length l.lines;
-  same : exchange l.p l.counter (view l.port (of l.node (history_of l.lines))) ≡ exchange l.p l.counter (view l.port (of l.node (history_of (take l.left l.lines))));
+  same : exchange l.p l.counter (view l.port (of l.node (history_of l.lines))) ≡ exchange l.p l.counter
+      (view l.port (of l.node (history_of (take l.left l.lines))));
 }
 
 abbrev pub decreases-loop-left : goal.decreases-loop-left

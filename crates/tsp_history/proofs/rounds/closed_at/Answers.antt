@@ -8,13 +8,19 @@ pub loop-left-preserved : goal.loop-left-preserved
 loop-left-preserved c =
     let below : c.loop-left.left - 1 < length c.args.lines.now = omega (arith, c.loop-left.invariant.few, c.loop-left-test.true) in
     let is : get_or c.args.lines.now (c.loop-left.left - 1) c.index-lines-left.result ≡ c.index-lines-left.result = search rules in
-    record { few = omega arith; same = newest-is (λ h. closed (view c.args.port (of c.args.node h))) c.args.lines.now c.loop-left.left (c.loop-left.left - 1) c.index-lines-left.result (omega arith) below is c.loop-left.invariant.same ∙ c.in-Keeps.ensures.place (history_of (take (c.loop-left.left - 1) c.args.lines.now)) }
+    record {
+      few = omega arith;
+      same = newest-is (λ h. closed (view c.args.port (of c.args.node h))) c.args.lines.now c.loop-left.left (c.loop-left.left - 1)
+          c.index-lines-left.result (omega arith) below is c.loop-left.invariant.same ∙
+          c.in-Keeps.ensures.place (history_of (take (c.loop-left.left - 1) c.args.lines.now));
+    }
 
 pub returns-in-Ends : goal.returns-in-Ends
 returns-in-Ends c =
     let below : c.loop-left.left - 1 < length c.args.lines.now = omega (arith, c.loop-left.invariant.few, c.loop-left-test.true) in
     let is : get_or c.args.lines.now (c.loop-left.left - 1) c.index-lines-left.result ≡ c.index-lines-left.result = search rules in
-    newest-is (λ h. closed (view c.args.port (of c.args.node h))) c.args.lines.now c.loop-left.left (c.loop-left.left - 1) c.index-lines-left.result (omega arith) below is c.loop-left.invariant.same ∙ c.in-Ends.ensures.place (history_of (take (c.loop-left.left - 1) c.args.lines.now))
+    newest-is (λ h. closed (view c.args.port (of c.args.node h))) c.args.lines.now c.loop-left.left (c.loop-left.left - 1) c.index-lines-left.result
+    (omega arith) below is c.loop-left.invariant.same ∙ c.in-Ends.ensures.place (history_of (take (c.loop-left.left - 1) c.args.lines.now))
 
 pub returns-in-Begins : goal.returns-in-Begins
 returns-in-Begins c =
@@ -26,5 +32,6 @@ returns-in-Begins c =
       at = line-at c.args.lines.now (c.loop-left.left - 1) c.index-lines-left.result below is;
       node = begins.node;
       port = begins-port c.index-lines-left.result c.args.node c.args.port begins;
-      is = newest-is (λ h. closed (view c.args.port (of c.args.node h))) c.args.lines.now c.loop-left.left (c.loop-left.left - 1) c.index-lines-left.result (omega arith) below is c.loop-left.invariant.same ∙ c.in-Begins.ensures.place (history_of (take (c.loop-left.left - 1) c.args.lines.now));
+      is = newest-is (λ h. closed (view c.args.port (of c.args.node h))) c.args.lines.now c.loop-left.left (c.loop-left.left - 1) c.index-lines-left.result
+          (omega arith) below is c.loop-left.invariant.same ∙ c.in-Begins.ensures.place (history_of (take (c.loop-left.left - 1) c.args.lines.now));
     }

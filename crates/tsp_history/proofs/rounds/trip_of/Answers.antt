@@ -11,4 +11,6 @@ returns-in-Sample-clause-trip c =
     let deed : deed_of c.args.line.now.act ≡ Acts (Sample o.peer o.counter o.field-2 o.field-3 o.field-4) = ap deed_of o.ensures.act.1 in
     let same : to_z w128 (of_z w128 c.target_at.result) ≡ c.target_at.result = search rules in
     let back : to_z w128 (of_z w128 c.since.result) ≡ c.since.result = search rules in
-    back ∙ c.since.ensures.time ∙ ap (λ t. t -ℤ start_of c.asked_at-asked.result) same ∙ sym (trip-told (line_of c.args.line.now) (history_of c.args.lines.now) o.peer o.counter o.field-2 o.field-3 o.field-4 c.asked_at-asked.result c.target_at.result deed c.asked_at-asked.ensures.asked c.target_at.ensures.target)
+    back ∙ c.since.ensures.time ∙ ap (λ t. t -ℤ start_of c.asked_at-asked.result) same ∙
+    sym (trip-told (line_of c.args.line.now) (history_of c.args.lines.now) o.peer o.counter o.field-2 o.field-3 o.field-4 c.asked_at-asked.result
+    c.target_at.result deed c.asked_at-asked.ensures.asked c.target_at.ensures.target)

@@ -8,7 +8,13 @@ pub returns-clause-value : goal.returns-clause-value
 returns-clause-value c =
     let t = c.trip-trip.ensures.value in
     let s = c.shift.ensures in
-    found _ _ c.trip-trip.result c.args.o c.args.r c.args.d t c.if-trip-ge-HALF_DAY.false (omega (arith, ints, s, shift_of-low c.args.o c.args.r, shift_of-high c.args.o c.args.r)) (omega (arith, ints))
+    found _ _ c.trip-trip.result c.args.o c.args.r c.args.d t c.if-trip-ge-HALF_DAY.false (omega (
+      arith,
+      ints,
+      s,
+      shift_of-low c.args.o c.args.r,
+      shift_of-high c.args.o c.args.r,
+    )) (omega (arith, ints))
 
 pub returns-clause-dayside : goal.returns-clause-dayside
 returns-clause-dayside c = subst (Dayside c.args.o c.args.r c.args.d) (sym (returns-clause-value c)) (Dayside-difference_of c.args.o c.args.r c.args.d)

@@ -10,22 +10,39 @@ returns-in_err-name c = MatchOption-none c.from_residual.result _ _ c.from_resid
     let e = c.in_err-name.ensures.reads host in cc)
 
 pub message_in-requires : goal.message_in-requires
-message_in-requires c = omega (arith, ap length c.cut-2.ensures.word, ap length c.cut.ensures.rest, length-first_word c.cut.result.1.now, length-after_word c.args.line.now)
+message_in-requires c = omega (
+  arith,
+  ap length c.cut-2.ensures.word,
+  ap length c.cut.ensures.rest,
+  length-first_word c.cut.result.1.now,
+  length-after_word c.args.line.now,
+)
 
 pub message_in-requires-2 : goal.message_in-requires-2
-message_in-requires-2 c = omega (arith, ap length c.cut-3.ensures.word, ap length c.cut-2.ensures.rest, ap length c.cut.ensures.rest, length-first_word c.cut-2.result.1.now, length-after_word c.cut.result.1.now, length-after_word c.args.line.now)
+message_in-requires-2 c = omega (
+  arith,
+  ap length c.cut-3.ensures.word,
+  ap length c.cut-2.ensures.rest,
+  ap length c.cut.ensures.rest,
+  length-first_word c.cut-2.result.1.now,
+  length-after_word c.cut.result.1.now,
+  length-after_word c.args.line.now,
+)
 
 pub returns-in_err-request : goal.returns-in_err-request
 returns-in_err-request c = MatchOption-none c.from_residual-in_err-request.result _ _ c.from_residual-in_err-request.ensures (λ r h.
-    c.in_err-request.ensures r.request (subst (λ w. SaysInHex w r.request) (sym (c.cut-2.ensures.word ∙ ap first_word c.cut.ensures.rest)) (HasWords-IsRecord _ r h).request))
+    c.in_err-request.ensures r.request (subst (λ w. SaysInHex w r.request) (sym (c.cut-2.ensures.word ∙ ap first_word c.cut.ensures.rest))
+    (HasWords-IsRecord _ r h).request))
 
 pub returns-in_err-reply : goal.returns-in_err-reply
 returns-in_err-reply c = MatchOption-none c.from_residual-in_err-reply.result _ _ c.from_residual-in_err-reply.ensures (λ r h.
-    c.in_err-reply.ensures r.reply (subst (λ w. SaysInHex w r.reply) (sym (c.cut-3.ensures.word ∙ ap first_word (c.cut-2.ensures.rest ∙ ap after_word c.cut.ensures.rest))) (HasWords-IsRecord _ r h).reply))
+    c.in_err-reply.ensures r.reply (subst (λ w. SaysInHex w r.reply) (sym (c.cut-3.ensures.word ∙
+    ap first_word (c.cut-2.ensures.rest ∙ ap after_word c.cut.ensures.rest))) (HasWords-IsRecord _ r h).reply))
 
 pub returns-in_err-arrival : goal.returns-in_err-arrival
 returns-in_err-arrival c = MatchOption-none c.from_residual-in_err-arrival.result _ _ c.from_residual-in_err-arrival.ensures (λ r h.
-    c.in_err-arrival.ensures r.arrival h.arrival (c.cut-3.ensures.rest ∙ ap after_word (c.cut-2.ensures.rest ∙ ap after_word c.cut.ensures.rest) ∙ (HasWords-IsRecord _ r h).arrival))
+    c.in_err-arrival.ensures r.arrival h.arrival (c.cut-3.ensures.rest ∙ ap after_word (c.cut-2.ensures.rest ∙ ap after_word c.cut.ensures.rest) ∙
+    (HasWords-IsRecord _ r h).arrival))
 
 pub returns : goal.returns
 returns c =

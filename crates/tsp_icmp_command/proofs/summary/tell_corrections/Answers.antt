@@ -13,7 +13,8 @@ returns-in_err-put-clause-err g c =
       told.0,
       corrections c.args.mean (drop c.loop-best.best-index c.args.bests.now),
       rw back at told.2,
-      subst (λ o. Hands (g.K.Sink.written c.args.sink.now) c.args.output.now (g.K.Sink.written c.put.new.sink) c.put.new.self o) (append-nil told.0) (Hands-trans _ _ _ _ _ _ told.0 _ told.1 c.in_err-put.ensures.err),
+      subst (λ o. Hands (g.K.Sink.written c.args.sink.now) c.args.output.now (g.K.Sink.written c.put.new.sink) c.put.new.self o) (append-nil told.0)
+          (Hands-trans _ _ _ _ _ _ told.0 _ told.1 c.in_err-put.ensures.err),
     )
 
 pub loop-best-preserved : goal.loop-best-preserved
@@ -30,7 +31,8 @@ loop-best-preserved g c =
     record {
       told = (
         told.0 ++ close (correct_line mean item),
-        subst (λ o. Hands (g.K.Sink.written c.args.sink.now) c.args.output.now (g.K.Sink.written c.put.new.sink) c.put.new.self (told.0 ++ o)) text (Hands-trans _ _ _ _ _ _ told.0 c.as_slice.result.now told.1 c.in_ok-put.ensures.ok),
+        subst (λ o. Hands (g.K.Sink.written c.args.sink.now) c.args.output.now (g.K.Sink.written c.put.new.sink) c.put.new.self (told.0 ++ o)) text
+            (Hands-trans _ _ _ _ _ _ told.0 c.as_slice.result.now told.1 c.in_ok-put.ensures.ok),
         told.2 ∙ ap (λ z. told.0 ++ z) here ∙ sym (append_assoc told.0 (close (correct_line mean item)) rest),
       );
       later = search rules;

@@ -13,12 +13,14 @@ pub returns-clause-ok : goal.returns-clause-ok
 returns-clause-ok g c =
     let fits : FitsSigned w64 c.mean-mean.result = search rules in
     let mean : to_z w64 (of_z w64 c.mean-mean.result) ≡ mean_of c.args.group.now = to_z-of_z w64 c.mean-mean.result fits ∙ c.mean-mean.ensures in
-    Hands-both _ _ _ _ _ _ c.tell_corrections.result c.as_slice.result.now (close (group_line c.args.group.now)) (corrections (mean_of c.args.group.now) c.args.bests.now)
+    Hands-both _ _ _ _ _ _ c.tell_corrections.result c.as_slice.result.now (close (group_line c.args.group.now))
+    (corrections (mean_of c.args.group.now) c.args.bests.now)
     (c.as_slice.ensures.value ∙ c.group_line.ensures.text) c.in_ok-put.ensures.ok (rw mean at c.tell_corrections.ensures.ok)
 
 pub returns-clause-err : goal.returns-clause-err
 returns-clause-err g c =
     let fits : FitsSigned w64 c.mean-mean.result = search rules in
     let mean : to_z w64 (of_z w64 c.mean-mean.result) ≡ mean_of c.args.group.now = to_z-of_z w64 c.mean-mean.result fits ∙ c.mean-mean.ensures in
-    HandsPart-behind _ _ _ _ _ _ c.tell_corrections.result c.as_slice.result.now (close (group_line c.args.group.now)) (corrections (mean_of c.args.group.now) c.args.bests.now)
+    HandsPart-behind _ _ _ _ _ _ c.tell_corrections.result c.as_slice.result.now (close (group_line c.args.group.now))
+    (corrections (mean_of c.args.group.now) c.args.bests.now)
     (c.as_slice.ensures.value ∙ c.group_line.ensures.text) c.in_ok-put.ensures.ok (rw mean at c.tell_corrections.ensures.err)

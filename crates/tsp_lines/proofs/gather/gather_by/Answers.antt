@@ -6,7 +6,12 @@ use Rattle.tsp_lines.proofs.Gatherings.{Gathers-end, Gathers-past, Gives-more, m
 use Rattle.tsp_lines.proofs.gather.gather_by.Goals as goal
 
 pub loop-octets-init : goal.loop-octets-init
-loop-octets-init g c = (rw c.new-octets.ensures.items (Gives-nil (g.S.Source.left c.args.source.now)), rw c.new-octets.ensures.items (omega arith), c.requires.open, refl)
+loop-octets-init g c = (
+  rw c.new-octets.ensures.items (Gives-nil (g.S.Source.left c.args.source.now)),
+  rw c.new-octets.ensures.items (omega arith),
+  c.requires.open,
+  refl,
+)
 
 pub returns-in-End-clause-comes : goal.returns-in-End-clause-comes
 returns-in-End-clause-comes g c =
@@ -17,8 +22,11 @@ pub returns-in-Fault : goal.returns-in-Fault
 returns-in-Fault g c =
     let i = c.loop-octets.invariant in
     record {
-      comes = ReadsWhole-fault c.args.limit c.min-most.result (g.S.Source.left c.args.source.now) (g.S.Source.left c.loop-octets.source) (g.S.Source.left c.read_more.new.source) (g.S.Source.ended c.read_more.new.source) c.loop-octets.octets.items c.read_more.new.octets.items c.in-Fault.fault i.0 (omega arith) c.in-Fault.ensures.adds;
-      faults = Counts-from _ _ _ _ _ i.3 (λ e. c.in-Fault.is ∙ ap Fault (cc)) (λ e. let q : Fault c.in-Fault.fault ≡ Fault ReadFault = sym c.in-Fault.is ∙ e in cc) c.read_more.ensures.faults;
+      comes = ReadsWhole-fault c.args.limit c.min-most.result (g.S.Source.left c.args.source.now) (g.S.Source.left c.loop-octets.source)
+          (g.S.Source.left c.read_more.new.source) (g.S.Source.ended c.read_more.new.source) c.loop-octets.octets.items c.read_more.new.octets.items
+          c.in-Fault.fault i.0 (omega arith) c.in-Fault.ensures.adds;
+      faults = Counts-from _ _ _ _ _ i.3 (λ e. c.in-Fault.is ∙ ap Fault (cc)) (λ e. let q : Fault c.in-Fault.fault ≡ Fault ReadFault = sym c.in-Fault.is ∙ e in
+          cc) c.read_more.ensures.faults;
     }
 
 pub loop-octets-preserved : goal.loop-octets-preserved

@@ -11,10 +11,15 @@ returns-in-Ok g c =
     let e = c.in-Ok.ensures.comes in
     let t = c.treat_all.ensures in
     let read : c.treat_all.result ≡ ReadFault → ⊥ = λ r. absurd (omega (arith, (t.leaves.read r).0)) in
-    let given : Comes g.T.Treatment.meaning c.args.limit (g.S.Source.left c.args.source.now) (g.S.Source.left c.gather.new.source) (g.K.Sink.written c.args.sink.now) (g.K.Sink.written c.treat_all.new.sink) c.treat_all.result =
-    Comes-given g.T.Treatment.meaning c.args.limit (g.S.Source.left c.args.source.now) (g.S.Source.left c.gather.new.source) (Some (drop c.treat_all.new.source.at c.treat_all.new.source.octets.items)) (g.K.Sink.written c.args.sink.now) (g.K.Sink.written c.treat_all.new.sink) (g.S.Source.ended c.gather.new.source) c.in-Ok.gathered.octets.items c.in-Ok.gathered.at c.treat_all.result e.0 e.1 read t.comes in record {
-      comes = ComesGathered-comes g.T.Treatment.meaning c.args.limit (g.S.Source.left c.args.source.now) (g.S.Source.left c.gather.new.source) (g.K.Sink.written c.args.sink.now) (g.K.Sink.written c.treat_all.new.sink) c.treat_all.result read given;
-      answers = λ definite. Comes-answers g.T.Treatment.meaning definite c.args.limit (g.S.Source.left c.args.source.now) (g.S.Source.left c.gather.new.source) (g.K.Sink.written c.args.sink.now) (g.K.Sink.written c.treat_all.new.sink) c.treat_all.result given;
+    let given : Comes g.T.Treatment.meaning c.args.limit (g.S.Source.left c.args.source.now) (g.S.Source.left c.gather.new.source)
+    (g.K.Sink.written c.args.sink.now) (g.K.Sink.written c.treat_all.new.sink) c.treat_all.result =
+    Comes-given g.T.Treatment.meaning c.args.limit (g.S.Source.left c.args.source.now) (g.S.Source.left c.gather.new.source)
+    (Some (drop c.treat_all.new.source.at c.treat_all.new.source.octets.items)) (g.K.Sink.written c.args.sink.now) (g.K.Sink.written c.treat_all.new.sink)
+    (g.S.Source.ended c.gather.new.source) c.in-Ok.gathered.octets.items c.in-Ok.gathered.at c.treat_all.result e.0 e.1 read t.comes in record {
+      comes = ComesGathered-comes g.T.Treatment.meaning c.args.limit (g.S.Source.left c.args.source.now) (g.S.Source.left c.gather.new.source)
+          (g.K.Sink.written c.args.sink.now) (g.K.Sink.written c.treat_all.new.sink) c.treat_all.result read given;
+      answers = λ definite. Comes-answers g.T.Treatment.meaning definite c.args.limit (g.S.Source.left c.args.source.now) (g.S.Source.left c.gather.new.source)
+          (g.K.Sink.written c.args.sink.now) (g.K.Sink.written c.treat_all.new.sink) c.treat_all.result given;
       gathered = λ r m. (c.in-Ok.gathered.octets.items, e.0);
       unwritten = λ r. absurd (read r);
       leaves = record {
@@ -22,7 +27,10 @@ returns-in-Ok g c =
         read = λ r. absurd (read r);
         write = t.leaves.write;
         still = (λ r. c.gather.ensures.faults.still (λ n. let q = sym c.in-Ok.is ∙ n in cc), t.leaves.still.1);
-        ended = λ done. ended-given g.T.Treatment.meaning c.args.limit (g.S.Source.left c.args.source.now) (g.S.Source.left c.gather.new.source) (Some (drop c.treat_all.new.source.at c.treat_all.new.source.octets.items)) (g.K.Sink.written c.args.sink.now) (g.K.Sink.written c.treat_all.new.sink) (g.S.Source.ended c.gather.new.source) c.in-Ok.gathered.octets.items c.in-Ok.gathered.at c.treat_all.result e.0 e.1 t.comes done;
+        ended = λ done. ended-given g.T.Treatment.meaning c.args.limit (g.S.Source.left c.args.source.now) (g.S.Source.left c.gather.new.source)
+            (Some (drop c.treat_all.new.source.at c.treat_all.new.source.octets.items)) (g.K.Sink.written c.args.sink.now)
+            (g.K.Sink.written c.treat_all.new.sink) (g.S.Source.ended c.gather.new.source) c.in-Ok.gathered.octets.items c.in-Ok.gathered.at c.treat_all.result
+            e.0 e.1 t.comes done;
       };
     }
 
@@ -47,7 +55,9 @@ pub returns-in-Err-OutOfMemory : goal.returns-in-Err-OutOfMemory
 returns-in-Err-OutOfMemory g c =
     let fault : c.gather.result ≡ Err NoMemory = c.in-Err-OutOfMemory.is ∙ ap Err c.in-Err-OutOfMemory.field-0-is in record {
       comes = Comes-nothing g.T.Treatment.meaning _ _ _ c.requires.nothing;
-      answers = λ definite. Comes-answers g.T.Treatment.meaning definite c.args.limit (g.S.Source.left c.args.source.now) (g.S.Source.left c.gather.new.source) (g.K.Sink.written c.args.sink.now) (g.K.Sink.written c.args.sink.now) OutOfMemory (Comes-nothing g.T.Treatment.meaning c.args.limit (g.S.Source.left c.args.source.now) (g.K.Sink.written c.args.sink.now) c.requires.nothing);
+      answers = λ definite. Comes-answers g.T.Treatment.meaning definite c.args.limit (g.S.Source.left c.args.source.now) (g.S.Source.left c.gather.new.source)
+          (g.K.Sink.written c.args.sink.now) (g.K.Sink.written c.args.sink.now) OutOfMemory (Comes-nothing g.T.Treatment.meaning c.args.limit
+          (g.S.Source.left c.args.source.now) (g.K.Sink.written c.args.sink.now) c.requires.nothing);
       gathered = λ r m. absurd (m refl);
       unwritten = λ r. cc;
       leaves = record {

@@ -7,4 +7,5 @@ pub returns-clause-lines : goal.returns-clause-lines
 returns-clause-lines c =
     let past = c.loop-line-test.false in
     let all : length c.loop-line.lines ≤ c.loop-line.line-index = omega (arith, past) in
-    sym (told_all c.args.event c.args.node c.args.tick (length c.loop-line.sent.items) c.loop-line.line-index c.loop-line.lines all) ∙ c.loop-line.invariant.told
+    sym (told_all c.args.event c.args.node c.args.tick (length c.loop-line.sent.items) c.loop-line.line-index c.loop-line.lines all) ∙
+    c.loop-line.invariant.told

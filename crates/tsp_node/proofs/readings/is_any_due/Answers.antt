@@ -7,7 +7,8 @@ use Rattle.tsp_node.proofs.{AlarmCases.at_place, AlarmCases.has_place, AlarmCase
 use Rattle.tsp_node.proofs.readings.is_any_due.Goals as goal
 
 pub returns-then-is_due : goal.returns-then-is_due
-returns-then-is_due c = sym (over-at c.args.station.now.alarms c.args.tick (slice_index_or ALL c.loop-alarm.alarm-index Quiet) (sym c.is_due.ensures ∙ c.if-is_due.true))
+returns-then-is_due c = sym (over-at c.args.station.now.alarms c.args.tick (slice_index_or ALL c.loop-alarm.alarm-index Quiet) (sym c.is_due.ensures ∙
+    c.if-is_due.true))
 
 pub loop-alarm-init : goal.loop-alarm-init
 loop-alarm-init c = λ i lt. absurd (omega (arith, lt))
@@ -24,5 +25,6 @@ loop-alarm-preserved c =
 pub returns : goal.returns
 returns c =
     let alarms = c.args.station.now.alarms in
-    let waits = λ (a : Alarm). subst (λ (b : Alarm). is_over (deadline alarms b) c.args.tick ≡ false) (at_place a) (c.loop-alarm.invariant (place a) (omega (arith, has_place a, c.loop-alarm-test.false))) in
+    let waits = λ (a : Alarm). subst (λ (b : Alarm). is_over (deadline alarms b) c.args.tick ≡
+    false) (at_place a) (c.loop-alarm.invariant (place a) (omega (arith, has_place a, c.loop-alarm-test.false))) in
     sym (none_over alarms c.args.tick waits)

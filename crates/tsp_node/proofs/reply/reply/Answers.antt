@@ -12,7 +12,12 @@ returns-in-Some-clause-row g c part =
     Performs_then_part is_in_range _ (λ past s. let a = s.clock.offset_is in let b = c.in-Some.ensures.there.0 in rw a at b)
     (record {
       acts = λ past h.
-          let e : c.in-Some.stamp ≡ Reply (record { ticket = ticket (plain past.seen); word = c.args.word; counter = c.args.counter; reading = target (plain past.seen) c.args.tick }) = c.in-Some.ensures.there.1 ∙ (rw (h.clock.ticket_is, h.clock.offset_is) refl) in
+          let e : c.in-Some.stamp ≡ Reply (record {
+            ticket = ticket (plain past.seen);
+            word = c.args.word;
+            counter = c.args.counter;
+            reading = target (plain past.seen) c.args.tick;
+          }) = c.in-Some.ensures.there.1 ∙ (rw (h.clock.ticket_is, h.clock.offset_is) refl) in
           rw e at c.put.ensures.acts;
       stands = λ past h. PortStands_stamp c.args.from _ c.args.tick past (port_with part c.args.clock.now) h;
     })

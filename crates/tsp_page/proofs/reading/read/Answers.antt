@@ -10,4 +10,5 @@ returns-then-is_sound-2-clause-unsound c told =
     (daemon, look, c.if-now.true)
 
 pub returns-then-is_sound-2-clause-stale : goal.returns-then-is_sound-2-clause-stale
-returns-then-is_sound-2-clause-stale c e = stale_alone c.args.daemon.now c.args.look.now (to_z w64 (of_z w64 c.tick_at.result)) c.reading_at.result c.reading_at.ensures e
+returns-then-is_sound-2-clause-stale c e = stale_alone c.args.daemon.now c.args.look.now (to_z w64 (of_z w64 c.tick_at.result)) c.reading_at.result
+    c.reading_at.ensures e

@@ -10,5 +10,6 @@ pub returns : goal.returns
 returns c setting world f = record {
   sets = Everywhere-from (SetsAt setting) world (λ l s w. sets_at setting l s (fits_at setting (l ∷ s) world f w));
   confirmed = λ honest life few. Everywhere-from DateConfirmedAt world (λ l s w.
-      date_confirmed setting l s (fits_at setting (l ∷ s) world f w) (Everywhere-within HonestAt (l ∷ s) world honest w) (Everywhere-within (TakenWithinAt LIFE) (l ∷ s) world life w) (Everywhere-within FewAt (l ∷ s) world few w));
+      date_confirmed setting l s (fits_at setting (l ∷ s) world f w) (Everywhere-within HonestAt (l ∷ s) world honest w)
+      (Everywhere-within (TakenWithinAt LIFE) (l ∷ s) world life w) (Everywhere-within FewAt (l ∷ s) world few w));
 }

@@ -24,7 +24,8 @@ returns-in-Failed-clause-listens g c = λ o t.
     let i = c.loop.counter in
     let before = c.loop.invariant.0 o t in
     let here = c.in-Failed.ensures.hears (heard_times i o) before.0 in
-    let least : i + 1 ≤ receives (asked_from c.args.question i (8 - i) (heard_times i o).arrivals) = receives-least c.args.question i (heard_times i o).arrivals c.loop-test.true in
+    let least : i + 1 ≤ receives (asked_from c.args.question i (8 - i) (heard_times i o).arrivals) =
+    receives-least c.args.question i (heard_times i o).arrivals c.loop-test.true in
     (i, rw before.1 (omega (arith, least)), here)
 
 pub returns-in-Failed-clause-waits : goal.returns-in-Failed-clause-waits

@@ -36,4 +36,5 @@ returns-in-OutOfMemory-clause-asks g c = λ o wall word written k. inl (record {
 })
 
 pub returns-in-Bound-clause-faults : goal.returns-in-Bound-clause-faults
-returns-in-Bound-clause-faults g c = LinkCounts-from _ _ _ _ _ _ (c.bind.ensures.still (λ e. cc)) c.bind.ensures.later.1 c.tell.ensures.link c.tell.ensures.linked c.ask_bound-end.ensures.faults
+returns-in-Bound-clause-faults g c = LinkCounts-from _ _ _ _ _ _ (c.bind.ensures.still (λ e. cc)) c.bind.ensures.later.1 c.tell.ensures.link
+    c.tell.ensures.linked c.ask_bound-end.ensures.faults

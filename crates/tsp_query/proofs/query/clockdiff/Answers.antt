@@ -30,8 +30,10 @@ returns-in-Answer-clause-asks g c = λ o word wall t w v.
     let same : c.begin-start.result.word ≡ word = of_some (λ (v : ℕ). c.begin-start.result.word ≡ v) _ word c.begin-start.ensures.word w in
     let readings = c.begin-start.ensures.readings o.readings t.readings_are in
     let tells = tells-twice o _ _ _ _ _ _ c.begin-start.result.sent _ t readings.1 readings.2 c.begin-start.ensures.last in
-    let asked = asks-stamp c.begin-start.result.word word (read_twice o) _ _ _ _ _ 0 0 (Answer c.in-Answer.answer c.in-Answer.came) same (c.in-Answer.ensures.asks (read_twice o) tells) in
+    let asked = asks-stamp c.begin-start.result.word word (read_twice o) _ _ _ _ _ 0 0 (Answer c.in-Answer.answer c.in-Answer.came) same
+    (c.in-Answer.ensures.asks (read_twice o) tells) in
     let clock : c.begin-start.result.wall ≡ wall = of_some (λ (x : ℤ). c.begin-start.result.wall ≡ x) _ wall c.begin-start.ensures.wall v in
     let first = readings.0 ∙ ap (λ last. tick_given last o.readings 0) t.last_is in
     let sent = readings.1 ∙ ap (λ last. tick_given last o.readings 1) t.last_is in
-    ends-diff (stamp word) (OfWord word) c.begin-start.result.wall wall c.begin-start.result.first _ c.begin-start.result.sent _ o _ _ _ _ _ _ _ c.sample.result c.in-Answer.answer c.in-Answer.came c.sample.ensures clock first sent asked
+    ends-diff (stamp word) (OfWord word) c.begin-start.result.wall wall c.begin-start.result.first _ c.begin-start.result.sent _ o _ _ _ _ _ _ _ c.sample.result
+    c.in-Answer.answer c.in-Answer.came c.sample.ensures clock first sent asked

@@ -12,4 +12,5 @@ returns-clause-asks g c = λ o word t w.
     (λ d tick h. (d, tick, h, refl)) (c.ask_by_message.ensures.asks o word t w))
 
 pub returns-clause-faults : goal.returns-clause-faults
-returns-clause-faults g c = counts_end _ _ _ date_answer c.ask_by_message.result c.date_end.result (λ d tick e. cc) c.date_end.ensures c.ask_by_message.ensures.faults
+returns-clause-faults g c = counts_end _ _ _ date_answer c.ask_by_message.result c.date_end.result (λ d tick e. cc) c.date_end.ensures
+    c.ask_by_message.ensures.faults

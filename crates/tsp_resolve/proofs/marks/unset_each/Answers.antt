@@ -7,7 +7,10 @@ pub loop-mark-init : goal.loop-mark-init
 loop-mark-init c = (refl, omega arith)
 
 pub loop-mark-preserved : goal.loop-mark-preserved
-loop-mark-preserved c = (unset_more c.args.marks.now c.loop-mark.marks c.loop-mark.mark-index c.loop-mark-test.true c.loop-mark.invariant.0, omega (arith, c.loop-mark-test.true))
+loop-mark-preserved c = (
+  unset_more c.args.marks.now c.loop-mark.marks c.loop-mark.mark-index c.loop-mark-test.true c.loop-mark.invariant.0,
+  omega (arith, c.loop-mark-test.true),
+)
 
 pub returns : goal.returns
 returns c = unset_all c.args.marks.now c.loop-mark.marks c.loop-mark.mark-index c.loop-mark-test.false c.loop-mark.invariant.1 c.loop-mark.invariant.0

@@ -51,7 +51,14 @@ returns-clause-found c =
     let mean : FitsSigned w64 c.in_ok-mean.mean = search rules in (
       (
         refl,
-        c.in_ok-count.ensures.found.1 ∙ rw (c.in_ok-lo.ensures.found, c.in_ok-width.ensures.found, c.in_ok-mean.ensures.found, to_z-of_z w64 c.in_ok-lo.lo lo, to_z-of_z w64 c.in_ok-width.width width, to_z-of_z w64 c.in_ok-mean.mean mean) refl,
+        c.in_ok-count.ensures.found.1 ∙ rw (
+          c.in_ok-lo.ensures.found,
+          c.in_ok-width.ensures.found,
+          c.in_ok-mean.ensures.found,
+          to_z-of_z w64 c.in_ok-lo.lo lo,
+          to_z-of_z w64 c.in_ok-width.width width,
+          to_z-of_z w64 c.in_ok-mean.mean mean,
+        ) refl,
       ),
       ((c.in_ok-count.ensures.found.0, search rules, search rules, search rules), refl),
     )

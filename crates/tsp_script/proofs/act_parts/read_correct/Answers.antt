@@ -43,7 +43,13 @@ returns-clause-found c =
     let way = c.in_ok-stepped.ensures.found way_text refl refl in (
       (
         refl,
-        c.in_ok-amount.ensures.found ∙ rw (c.in_ok-way.ensures.found.2, way, c.in_ok-shown.ensures.found, to_z-of_z w64 c.in_ok-amount.amount amount, to_z-of_z w64 c.in_ok-shown.shown shown) refl,
+        c.in_ok-amount.ensures.found ∙ rw (
+          c.in_ok-way.ensures.found.2,
+          way,
+          c.in_ok-shown.ensures.found,
+          to_z-of_z w64 c.in_ok-amount.amount amount,
+          to_z-of_z w64 c.in_ok-shown.shown shown,
+        ) refl,
       ),
       ((search rules, search rules), refl),
     )

@@ -24,4 +24,8 @@ returns-in-Err-clause-reads c = λ number to d h p i e.
     cc
 
 pub returns-in-Ok-clause-found : goal.returns-in-Ok-clause-found
-returns-in-Ok-clause-found c = (refl, c.in_ok-number.ensures.found.1 ∙ ap (λ (r : List ℕ). decimal c.in_ok-number.number ++ 32 ∷ r) (c.in_ok-to.ensures.found.1 ∙ rw c.in-Ok.ensures.reads.1 refl))
+returns-in-Ok-clause-found c = (
+  refl,
+  c.in_ok-number.ensures.found.1 ∙ ap (λ (r : List ℕ). decimal c.in_ok-number.number ++ 32 ∷
+      r) (c.in_ok-to.ensures.found.1 ∙ rw c.in-Ok.ensures.reads.1 refl),
+)

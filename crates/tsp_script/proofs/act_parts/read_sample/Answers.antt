@@ -70,7 +70,15 @@ returns-clause-found c =
     let err : FitsSigned w64 c.in_ok-err.err = search rules in (
       (
         refl,
-        c.in_ok-peer.ensures.found.1 ∙ rw (c.in_ok-counter.ensures.found.1, c.in_ok-diff.ensures.found, c.in_ok-err.ensures.found, c.in_ok-ticket.ensures.found, c.in_ok-ticket-2.ensures.same.0, to_z-of_z w64 c.in_ok-diff.diff diff, to_z-of_z w64 c.in_ok-err.err err) refl,
+        c.in_ok-peer.ensures.found.1 ∙ rw (
+          c.in_ok-counter.ensures.found.1,
+          c.in_ok-diff.ensures.found,
+          c.in_ok-err.ensures.found,
+          c.in_ok-ticket.ensures.found,
+          c.in_ok-ticket-2.ensures.same.0,
+          to_z-of_z w64 c.in_ok-diff.diff diff,
+          to_z-of_z w64 c.in_ok-err.err err,
+        ) refl,
       ),
       ((c.in_ok-peer.ensures.found.0, c.in_ok-counter.ensures.found.0, search rules, search rules, c.in_ok-ticket-2.ensures.same.1), refl),
     )

@@ -18,4 +18,7 @@ returns-clause-reads c = λ from t p h e.
     ap (λ x. Some (Took x c.in_ok-taken.taken)) w.0 ∙ ap (λ x. Some (Took from x)) s
 
 pub returns-clause-found : goal.returns-clause-found
-returns-clause-found c = ((refl, c.in_ok-from.ensures.found.1 ∙ rw c.in_ok-taken.ensures.found.0 refl), ((c.in_ok-from.ensures.found.0, c.in_ok-taken.ensures.found.1), refl))
+returns-clause-found c = (
+  (refl, c.in_ok-from.ensures.found.1 ∙ rw c.in_ok-taken.ensures.found.0 refl),
+  ((c.in_ok-from.ensures.found.0, c.in_ok-taken.ensures.found.1), refl),
+)

@@ -12,17 +12,20 @@ rest_is : (text rest : List ℕ) (number : ℕ) (a : Act) → rest ≡ after_wor
 rest_is text rest number a r e = r ∙ ap (λ t. after_word t) e ∙ (act_splits number a).1
 
 pub returns-in_err-verb-clause-reads : goal.returns-in_err-verb-clause-reads
-returns-in_err-verb-clause-reads c = λ number a is n e. absurd (none_not_some (verb_of a) (c.in_err-verb.ensures.reads (verb_of a) (word_is c.args.text.now c.in-Some.word.now number a c.in-Some.ensures.found.0 e)))
+returns-in_err-verb-clause-reads c = λ number a is n e. absurd (none_not_some (verb_of a)
+    (c.in_err-verb.ensures.reads (verb_of a) (word_is c.args.text.now c.in-Some.word.now number a c.in-Some.ensures.found.0 e)))
 
 pub returns-in-Post-clause-reads : goal.returns-in-Post-clause-reads
 returns-in-Post-clause-reads c = λ number a is n e.
     let verb = some_injective _ _ (c.in_ok-verb.ensures.reads (verb_of a) (word_is c.args.text.now c.in-Some.word.now number a c.in-Some.ensures.found.0 e)) in
-    post_case (λ k x. IsSomeAnd c.read_post.result (λ r. (r.0 ≡ k) × (r.1 ≡ x))) c.in-Some.rest.now number a is n (sym c.in-Post.is ∙ verb) (rest_is c.args.text.now c.in-Some.rest.now number a c.in-Some.ensures.found.1 e)
+    post_case (λ k x. IsSomeAnd c.read_post.result (λ r. (r.0 ≡ k) × (r.1 ≡ x))) c.in-Some.rest.now number a is n (sym c.in-Post.is ∙
+    verb) (rest_is c.args.text.now c.in-Some.rest.now number a c.in-Some.ensures.found.1 e)
     (λ to d h p i t. c.read_post.ensures.reads number to d h p i t)
 
 pub returns-in_err-read_lone-clause-reads : goal.returns-in_err-read_lone-clause-reads
 returns-in_err-read_lone-clause-reads c = λ number a is n e.
-    absurd (lone_case (λ k x. ⊥) c.args.text.now number a n c.in_default.ensures.none e (λ b. none_not_some _ (c.in_err-read_lone.ensures.boot b)) (λ b. none_not_some _ (c.in_err-read_lone.ensures.abandon b)))
+    absurd (lone_case (λ k x. ⊥) c.args.text.now number a n c.in_default.ensures.none e (λ b. none_not_some _ (c.in_err-read_lone.ensures.boot b))
+    (λ b. none_not_some _ (c.in_err-read_lone.ensures.abandon b)))
 
 pub returns-in_default-clause-reads : goal.returns-in_default-clause-reads
 returns-in_default-clause-reads c = λ number a is n e.
@@ -33,14 +36,17 @@ returns-in_default-clause-reads c = λ number a is n e.
 pub returns-in-Post-clause-found : goal.returns-in-Post-clause-found
 returns-in-Post-clause-found c =
     if_some-then c.read_post.result
-    (λ r h. joined_found c.args.text.now c.in-Some.word.now c.in-Some.rest.now c.in_ok-verb.verb r.0 r.1 c.in-Some.ensures.found.2 c.in_ok-verb.ensures.found (c.in-Post.is ∙ h.0, h.1) (λ b. post_differs _ c.in-Post.is (inl b)) (λ b. post_differs _ c.in-Post.is (inr b)))
+    (λ r h. joined_found c.args.text.now c.in-Some.word.now c.in-Some.rest.now c.in_ok-verb.verb r.0 r.1 c.in-Some.ensures.found.2 c.in_ok-verb.ensures.found
+    (c.in-Post.is ∙ h.0, h.1) (λ b. post_differs _ c.in-Post.is (inl b)) (λ b. post_differs _ c.in-Post.is (inr b)))
     c.read_post.ensures.found
 
 pub returns-in_err-read_silent-in_default-2 : goal.returns-in_err-read_silent-in_default-2
 returns-in_err-read_silent-in_default-2 c = record {
   reads = λ number a is n e.
-      let verb = some_injective _ _ (c.in_ok-verb.ensures.reads (verb_of a) (word_is c.args.text.now c.in-Some.word.now number a c.in-Some.ensures.found.0 e)) in
-      let other = other_case c.in-Some.rest.now number a n (λ p. c.in_default-2.not-Post (verb ∙ sym p)) (rest_is c.args.text.now c.in-Some.rest.now number a c.in-Some.ensures.found.1 e) in
+      let verb = some_injective _ _ (c.in_ok-verb.ensures.reads (verb_of a) (word_is c.args.text.now c.in-Some.word.now number a c.in-Some.ensures.found.0 e))
+      in
+      let other = other_case c.in-Some.rest.now number a n (λ p. c.in_default-2.not-Post (verb ∙ sym p)) (rest_is c.args.text.now c.in-Some.rest.now number a
+      c.in-Some.ensures.found.1 e) in
       let long = not_lone c.args.text.now c.in-Some.word.now c.in-Some.rest.now c.in_ok-verb.verb number a verb e c.in-Some.ensures.found.2 in
       absurd (none_not_some a (c.in_err-read_silent-in_default-2.ensures.reads a is c.in_default-2.not-Post long.0 long.1 verb other.1));
   found = search rules;
@@ -50,12 +56,15 @@ returns-in_err-read_silent-in_default-2 c = record {
 pub returns-in_ok-read_silent-in_default-2 : goal.returns-in_ok-read_silent-in_default-2
 returns-in_ok-read_silent-in_default-2 c = record {
   reads = λ number a is n e.
-      let verb = some_injective _ _ (c.in_ok-verb.ensures.reads (verb_of a) (word_is c.args.text.now c.in-Some.word.now number a c.in-Some.ensures.found.0 e)) in
-      let other = other_case c.in-Some.rest.now number a n (λ p. c.in_default-2.not-Post (verb ∙ sym p)) (rest_is c.args.text.now c.in-Some.rest.now number a c.in-Some.ensures.found.1 e) in
+      let verb = some_injective _ _ (c.in_ok-verb.ensures.reads (verb_of a) (word_is c.args.text.now c.in-Some.word.now number a c.in-Some.ensures.found.0 e))
+      in
+      let other = other_case c.in-Some.rest.now number a n (λ p. c.in_default-2.not-Post (verb ∙ sym p)) (rest_is c.args.text.now c.in-Some.rest.now number a
+      c.in-Some.ensures.found.1 e) in
       let long = not_lone c.args.text.now c.in-Some.word.now c.in-Some.rest.now c.in_ok-verb.verb number a verb e c.in-Some.ensures.found.2 in
       (sym other.0, some_injective _ _ (c.in_ok-read_silent-in_default-2.ensures.reads a is c.in_default-2.not-Post long.0 long.1 verb other.1));
   found =
       let read = c.in_ok-read_silent-in_default-2.ensures in
-      joined_found c.args.text.now c.in-Some.word.now c.in-Some.rest.now c.in_ok-verb.verb 0 c.in_ok-read_silent-in_default-2.field-0 c.in-Some.ensures.found.2 c.in_ok-verb.ensures.found read.found.0 read.apart.0 read.apart.1;
+      joined_found c.args.text.now c.in-Some.word.now c.in-Some.rest.now c.in_ok-verb.verb 0 c.in_ok-read_silent-in_default-2.field-0 c.in-Some.ensures.found.2
+      c.in_ok-verb.ensures.found read.found.0 read.apart.0 read.apart.1;
   range = c.in_ok-read_silent-in_default-2.ensures.found.1;
 }

@@ -50,7 +50,24 @@ returns-clause-reads c = λ l s.
 
 pub returns-clause-found : goal.returns-clause-found
 returns-clause-found c = (
-  record { event = c.in_ok-event.ensures.found.0; node = c.in_ok-node.ensures.found.0; port = c.in_ok-port-2.ensures.same.1; tick = c.in_ok-tick.ensures.found.0; number = c.in_ok-number.ensures.range.1; act = c.in_ok-number.ensures.range.0 },
-  line_found c.args.line.now c.in_ok-event.rest.now c.in_ok-node.rest.now c.in_ok-port.rest.now c.in_ok-tick.rest.now (record { event = c.in_ok-event.event; node = c.in_ok-node.node; tick = c.in_ok-tick.tick; number = c.in_ok-number.number; placed = record { port = record { 0 = c.in_ok-port-2.port }; act = c.in_ok-number.act } })
-      c.in_ok-event.ensures.found.1 c.in_ok-node.ensures.found.1 (rw c.in_ok-port-2.ensures.same.0 c.in_ok-port.ensures.found.1) c.in_ok-tick.ensures.found.1 c.in_ok-number.ensures.found,
+  record {
+    event = c.in_ok-event.ensures.found.0;
+    node = c.in_ok-node.ensures.found.0;
+    port = c.in_ok-port-2.ensures.same.1;
+    tick = c.in_ok-tick.ensures.found.0;
+    number = c.in_ok-number.ensures.range.1;
+    act = c.in_ok-number.ensures.range.0;
+  },
+  line_found c.args.line.now c.in_ok-event.rest.now c.in_ok-node.rest.now c.in_ok-port.rest.now c.in_ok-tick.rest.now (record {
+    event = c.in_ok-event.event;
+    node = c.in_ok-node.node;
+    tick = c.in_ok-tick.tick;
+    number = c.in_ok-number.number;
+    placed = record {
+      port = record { 0 = c.in_ok-port-2.port };
+      act = c.in_ok-number.act;
+    };
+  })
+      c.in_ok-event.ensures.found.1 c.in_ok-node.ensures.found.1 (rw c.in_ok-port-2.ensures.same.0 c.in_ok-port.ensures.found.1) c.in_ok-tick.ensures.found.1
+      c.in_ok-number.ensures.found,
 )

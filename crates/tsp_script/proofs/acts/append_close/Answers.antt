@@ -7,4 +7,14 @@ returns c =
     let lo = to_z-of_z w64 c.args.lo c.ranges.lo in
     let width = to_z-of_z w64 c.args.width c.ranges.width in
     let mean = to_z-of_z w64 c.args.mean c.ranges.mean in
-    simp (c.append_next_signed-3.ensures.text, c.append_next_signed-2.ensures.text, c.append_next_signed.ensures.text, c.append_number.ensures.text, c.append.ensures, lo, width, mean, append_assoc)
+    simp (
+      c.append_next_signed-3.ensures.text,
+      c.append_next_signed-2.ensures.text,
+      c.append_next_signed.ensures.text,
+      c.append_number.ensures.text,
+      c.append.ensures,
+      lo,
+      width,
+      mean,
+      append_assoc,
+    )

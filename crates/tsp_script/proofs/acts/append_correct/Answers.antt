@@ -6,4 +6,13 @@ pub returns : goal.returns
 returns c =
     let amount = to_z-of_z w64 c.args.amount c.ranges.amount in
     let shown = to_z-of_z w64 c.args.shown c.ranges.shown in
-    simp (c.append_signed-2.ensures.text, c.append-2.ensures, c.append_signed.ensures.text, c.append.ensures, c.way_word.ensures.word, amount, shown, append_assoc)
+    simp (
+      c.append_signed-2.ensures.text,
+      c.append-2.ensures,
+      c.append_signed.ensures.text,
+      c.append.ensures,
+      c.way_word.ensures.word,
+      amount,
+      shown,
+      append_assoc,
+    )

@@ -8,13 +8,15 @@ append_decimal-append_short-requires-then-number-lt100000000-clause-room t c = o
 
 pub append_decimal-append_four-requires-clause-room : goal.append_decimal-append_four-requires-clause-room
 append_decimal-append_four-requires-clause-room t c =
-    let before = length_written c.args.out.now.items c.append_short-then-number-lt100000000.new.out.items (decimal (c.args.number / 10000)) c.append_short-then-number-lt100000000.ensures in
+    let before = length_written c.args.out.now.items c.append_short-then-number-lt100000000.new.out.items (decimal (c.args.number / 10000))
+    c.append_short-then-number-lt100000000.ensures in
     omega (arith, c.requires, length_four c.args.number (omega arith) (omega arith), before)
 
 pub append_decimal-returns-then-number-lt100000000 : goal.append_decimal-returns-then-number-lt100000000
 append_decimal-returns-then-number-lt100000000 t c =
     let n = c.args.number in
-    written c.args.out.now.items _ _ (decimal (n / 10000)) (four (n % 10000)) (decimal n) c.append_short-then-number-lt100000000.ensures c.append_four.ensures (decimal_four n (omega arith) (omega arith))
+    written c.args.out.now.items _ _ (decimal (n / 10000)) (four (n % 10000)) (decimal n) c.append_short-then-number-lt100000000.ensures c.append_four.ensures
+    (decimal_four n (omega arith) (omega arith))
 
 pub append_long-append_decimal-requires : goal.append_long-append_decimal-requires
 append_long-append_decimal-requires t c = (omega arith, omega (arith, c.requires.room, length_eight c.args.number (omega arith) (omega arith)))
@@ -37,4 +39,5 @@ append_long-returns t c =
     let high = four (n % 100000000 / 10000) in
     let low = four (n % 100000000 % 10000) in
     let both = written c.append_decimal.new.out.items _ _ high low (high ++ low) c.append_four.ensures c.append_four-2.ensures refl in
-    written c.args.out.now.items _ _ (decimal (n / 100000000)) (high ++ low) (decimal n) c.append_decimal.ensures both (decimal_eight n (omega arith) (omega arith))
+    written c.args.out.now.items _ _ (decimal (n / 100000000)) (high ++ low) (decimal n) c.append_decimal.ensures both
+    (decimal_eight n (omega arith) (omega arith))

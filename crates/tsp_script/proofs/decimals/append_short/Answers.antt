@@ -28,7 +28,8 @@ returns-then-number-lt100 c = c.append_pair.ensures ∙ ap (λ l. c.args.out.now
 pub returns-then-number-lt1000 : goal.returns-then-number-lt1000
 returns-then-number-lt1000 c =
     let n = c.args.number in
-    written c.args.out.now.items _ _ ((48 + n / 100) ∷ []) (pair (n % 100)) (decimal n) c.push-then-number-lt1000.ensures.items c.append_pair-then-number-lt1000.ensures (decimal_three n (omega arith) (omega arith))
+    written c.args.out.now.items _ _ ((48 + n / 100) ∷ []) (pair (n % 100)) (decimal n) c.push-then-number-lt1000.ensures.items
+    c.append_pair-then-number-lt1000.ensures (decimal_three n (omega arith) (omega arith))
 
 pub returns-else-number-lt1000 : goal.returns-else-number-lt1000
 returns-else-number-lt1000 c = c.append_four.ensures ∙ ap (λ l. c.args.out.now.items ++ l) (sym (decimal_four_alone c.args.number (omega arith) (omega arith)))

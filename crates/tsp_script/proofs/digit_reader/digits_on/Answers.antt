@@ -14,5 +14,6 @@ loop-place-preserved c =
     let small = digits-small c.loop-place.number c.loop-place.place (omega arith) i.1 in (
       omega (arith, i.0),
       digits-bound c.loop-place.number c.loop-place.place _ i.1 (omega arith) (omega arith),
-      digits-more c.args.front c.loop-place.number c.loop-place.place c.args.digits.now (omega arith) i.0 (omega (arith, small)) (omega arith) (omega arith) i.2,
+      digits-more c.args.front c.loop-place.number c.loop-place.place c.args.digits.now (omega arith) i.0 (omega (arith, small)) (omega arith) (omega arith)
+          i.2,
     )

@@ -18,6 +18,9 @@ returns c =
     let ds = c.args.octets.now in
     let high = high_word ds c.word_of-word.result c.type_inv.octets c.word_of-word.ensures c.if-word-ne-ZEROS.false in
     let digits = digits_word ds c.word_of-word.result c.type_inv.octets c.word_of-word.ensures high c.if-word-ne-ZEROS-2.false in
-    let joined = c.joined.ensures (slice_index_or ds 0 0 - 48) (slice_index_or ds 1 0 - 48) (slice_index_or ds 2 0 - 48) (slice_index_or ds 3 0 - 48) (slice_index_or ds 4 0 - 48) (slice_index_or ds 5 0 - 48) (slice_index_or ds 6 0 - 48) (slice_index_or ds 7 0 - 48)
-    (omega (arith, digits.0.0.1)) (omega (arith, digits.0.1.1)) (omega (arith, digits.0.2.1)) (omega (arith, digits.0.3.1)) (omega (arith, digits.1.0.1)) (omega (arith, digits.1.1.1)) (omega (arith, digits.1.2.1)) (omega (arith, digits.1.3.1)) (values_word ds c.word_of-word.result c.word_of-word.ensures digits).1 in
+    let joined = c.joined.ensures (slice_index_or ds 0 0 - 48) (slice_index_or ds 1 0 - 48) (slice_index_or ds 2 0 - 48) (slice_index_or ds 3 0 - 48)
+    (slice_index_or ds 4 0 - 48) (slice_index_or ds 5 0 - 48) (slice_index_or ds 6 0 - 48) (slice_index_or ds 7 0 - 48)
+    (omega (arith, digits.0.0.1)) (omega (arith, digits.0.1.1)) (omega (arith, digits.0.2.1)) (omega (arith, digits.0.3.1)) (omega (arith, digits.1.0.1))
+    (omega (arith, digits.1.1.1)) (omega (arith, digits.1.2.1)) (omega (arith, digits.1.3.1)) (values_word ds c.word_of-word.result c.word_of-word.ensures
+    digits).1 in
     eight_read ds c.joined.result c.requires digits joined

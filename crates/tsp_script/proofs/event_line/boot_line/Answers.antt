@@ -33,5 +33,10 @@ returns-in_err-word-clause-none c = if_none c.from_residual-in_err-word.result (
 pub returns-clause-found : goal.returns-clause-found
 returns-clause-found c = (
   (c.in_ok-at.ensures.found.0, c.in_ok-node.ensures.found.0, omega arith),
-  ([], refl, boot_written _ _ _ c.args.line.now c.in_ok-at.line.now c.in_ok-line.line.now c.in_ok-node.line.now c.in_ok-at.ensures.found.1 c.in_ok-line.ensures c.in_ok-node.ensures.found.1 c.in_ok-word.ensures.found),
+  (
+    [],
+    refl,
+    boot_written _ _ _ c.args.line.now c.in_ok-at.line.now c.in_ok-line.line.now c.in_ok-node.line.now c.in_ok-at.ensures.found.1 c.in_ok-line.ensures
+        c.in_ok-node.ensures.found.1 c.in_ok-word.ensures.found,
+  ),
 )

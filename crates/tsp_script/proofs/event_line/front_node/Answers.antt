@@ -6,7 +6,8 @@ use Rattle.tsp_script.proofs.event_line.front_node.Goals as goal
 pub returns-in-Some-clause-reads : goal.returns-in-Some-clause-reads
 returns-in-Some-clause-reads c = λ node port rest h k e.
     let f = port_none c.args.line.now c.in-Some.rest.now c.in-Some.node c.in-Some.ensures.found.1 in
-    let a = nodes_apart c.args.line.now c.in-Some.node node (record { 0 = 0 }) port c.in-Some.rest.now rest (omega (arith, c.in-Some.ensures.found.0)) (omega (arith, h)) (omega arith) (omega (arith, k)) f e in
+    let a = nodes_apart c.args.line.now c.in-Some.node node (record { 0 = 0 }) port c.in-Some.rest.now rest (omega (arith, c.in-Some.ensures.found.0))
+    (omega (arith, h)) (omega arith) (omega (arith, k)) f e in
     (a.0, a.1, a.2)
 
 pub returns-in_err-word-clause-reads : goal.returns-in_err-word-clause-reads
@@ -22,4 +23,5 @@ pub returns-clause-reads : goal.returns-clause-reads
 returns-clause-reads c = λ node port rest h k e.
     let r = c.in_ok-node.ensures.found in
     let f = c.in_ok-word.ensures.found.2 ∙ ap (λ (w : List ℕ). w ++ 32 ∷ c.in_ok-word.rest.now) r.2 in
-    nodes_apart c.args.line.now c.in_ok-node.node node c.in_ok-node.port port c.in_ok-word.rest.now rest (omega (arith, r.0)) (omega (arith, h)) (omega (arith, r.1)) (omega (arith, k)) f e
+    nodes_apart c.args.line.now c.in_ok-node.node node c.in_ok-node.port port c.in_ok-word.rest.now rest (omega (arith, r.0)) (omega (arith, h))
+    (omega (arith, r.1)) (omega (arith, k)) f e

@@ -51,6 +51,7 @@ returns-clause-found c =
       (
         c.in_ok-from.hex.now,
         o.0,
-        bytes_written _ _ _ _ (take c.in_ok-count.count c.octets_handed.new.buffer) c.args.line.now c.in_ok-at.line.now c.in_ok-line.line.now c.in_ok-node.line.now c.in_ok-from.hex.now c.in_ok-at.ensures.found.1 c.in_ok-line.ensures n.2 c.in_ok-from.ensures.found.1,
+        bytes_written _ _ _ _ (take c.in_ok-count.count c.octets_handed.new.buffer) c.args.line.now c.in_ok-at.line.now c.in_ok-line.line.now
+            c.in_ok-node.line.now c.in_ok-from.hex.now c.in_ok-at.ensures.found.1 c.in_ok-line.ensures n.2 c.in_ok-from.ensures.found.1,
       ),
     )

@@ -1,7 +1,8 @@
 use Rattle.std.proofs.Common.{◌∙◌}
 use Rattle.tsp_base.specs.Words.{event_in}
 use Rattle.tsp_script.proofs.EventLines.{at_of, IsTrueTime-at_of}
-use Rattle.tsp_script.proofs.PlainLines.{behind_time, none_plain, plain_parts, turn_node, turn_parts, turn_written, take_datagram, take_parts, take_written, no_plain}
+use Rattle.tsp_script.proofs.PlainLines.{behind_time, none_plain, plain_parts, turn_node, turn_parts, turn_written, take_datagram, take_parts, take_written}
+use Rattle.tsp_script.proofs.PlainLines.{no_plain}
 use Rattle.tsp_script.proofs.event_line.plain_front.Goals as goal
 
 pub returns-in_err-at-clause-none : goal.returns-in_err-at-clause-none
@@ -16,8 +17,13 @@ returns-in_err-node-clause-none c = none_plain c.args.octets.now _ (λ plain res
 
 pub returns-in-Some-clause-found : goal.returns-in-Some-clause-found
 returns-in-Some-clause-found c =
-    let f = c.in_ok-node.ensures.found in
-    (tt, (c.in_ok-at.ensures.found.0, f.0), f.1, turn_written c.in_ok-at.at c.in_ok-node.node c.args.octets.now c.in_ok-at.rest.now c.in-Some.digits.now c.in_ok-node.rest.now c.in_ok-at.ensures.found.1 c.in-Some.ensures f.2)
+    let f = c.in_ok-node.ensures.found in (
+      tt,
+      (c.in_ok-at.ensures.found.0, f.0),
+      f.1,
+      turn_written c.in_ok-at.at c.in_ok-node.node c.args.octets.now c.in_ok-at.rest.now c.in-Some.digits.now
+          c.in_ok-node.rest.now c.in_ok-at.ensures.found.1 c.in-Some.ensures f.2,
+    )
 
 pub returns-in_err-digits-clause-none : goal.returns-in_err-digits-clause-none
 returns-in_err-digits-clause-none c = none_plain c.args.octets.now _ (λ plain rest i e d l.
@@ -32,5 +38,10 @@ returns-in_err-datagram-clause-none c = none_plain c.args.octets.now _ (λ plain
 
 pub returns-clause-found : goal.returns-clause-found
 returns-clause-found c =
-    let f = c.in_ok-datagram.ensures.found in
-    (tt, (c.in_ok-at.ensures.found.0, f.0), f.1, take_written c.in_ok-at.at c.in_ok-datagram.datagram c.args.octets.now c.in_ok-at.rest.now c.in_ok-digits.digits.now c.in_ok-datagram.rest.now c.in_ok-at.ensures.found.1 c.in_ok-digits.ensures f.2)
+    let f = c.in_ok-datagram.ensures.found in (
+      tt,
+      (c.in_ok-at.ensures.found.0, f.0),
+      f.1,
+      take_written c.in_ok-at.at c.in_ok-datagram.datagram c.args.octets.now c.in_ok-at.rest.now
+          c.in_ok-digits.digits.now c.in_ok-datagram.rest.now c.in_ok-at.ensures.found.1 c.in_ok-digits.ensures f.2,
+    )

@@ -13,11 +13,13 @@ returns-then-is_empty-clause-found c =
 pub returns-then-is_empty-clause-reads : goal.returns-then-is_empty-clause-reads
 returns-then-is_empty-clause-reads c = λ plain i s.
     let f = c.in_ok-plain.ensures.found in
-    ap Some (plain_one c.in_ok-plain.plain plain c.args.line.now c.in_ok-plain.rest.now [] f.0 i f.1 s.0 f.2 NoDigit-nil f.3 (plain_spelled c.args.line.now plain i s)).0
+    ap Some (plain_one c.in_ok-plain.plain plain c.args.line.now c.in_ok-plain.rest.now [] f.0 i f.1 s.0 f.2 NoDigit-nil f.3
+    (plain_spelled c.args.line.now plain i s)).0
 
 pub returns-else-is_empty-clause-reads : goal.returns-else-is_empty-clause-reads
 returns-else-is_empty-clause-reads c = λ plain i s.
     let f = c.in_ok-plain.ensures.found in
-    let none = (plain_one c.in_ok-plain.plain plain c.args.line.now c.in_ok-plain.rest.now [] f.0 i f.1 s.0 f.2 NoDigit-nil f.3 (plain_spelled c.args.line.now plain i s)).1 in
+    let none = (plain_one c.in_ok-plain.plain plain c.args.line.now c.in_ok-plain.rest.now [] f.0 i f.1 s.0 f.2 NoDigit-nil f.3
+    (plain_spelled c.args.line.now plain i s)).1 in
     let some : 0 < length c.in_ok-plain.rest.now = search rules in
     absurd (omega (arith, some, ap length none))

@@ -5,12 +5,14 @@ use Rattle.tsp_script.proofs.message_reader.next_hops.Goals as goal
 
 pub returns-in_err-hops-clause-reads : goal.returns-in_err-hops-clause-reads
 returns-in_err-hops-clause-reads c = λ body rest b i e.
-    absurd (hops_case (λ x. IsBody x → c.args.line.now ≡ body_text x ++ rest → ⊥) body i (λ n h l. c.in_err-hops.ensures.reads n rest (omega (arith, h)) (l ∙ append_assoc (decimal n) (32 ∷ []) rest)) b e)
+    absurd (hops_case (λ x. IsBody x → c.args.line.now ≡ body_text x ++ rest → ⊥) body i (λ n h l. c.in_err-hops.ensures.reads n rest (omega (arith, h)) (l ∙
+    append_assoc (decimal n) (32 ∷ []) rest)) b e)
 
 pub returns-in_err-hops-2-clause-reads : goal.returns-in_err-hops-2-clause-reads
 returns-in_err-hops-2-clause-reads c = λ body rest b i e.
     absurd (hops_case (λ x. IsBody x → c.args.line.now ≡ body_text x ++ rest → ⊥) body i
-    (λ n h l. let a = c.in_ok-hops.ensures.reads n rest (omega (arith, h)) (l ∙ append_assoc (decimal n) (32 ∷ []) rest) in none_not_some _ (c.in_err-hops-2.ensures.fits (omega (arith, a.0, h)))) b e)
+    (λ n h l. let a = c.in_ok-hops.ensures.reads n rest (omega (arith, h)) (l ∙ append_assoc (decimal n) (32 ∷ []) rest) in
+    none_not_some _ (c.in_err-hops-2.ensures.fits (omega (arith, a.0, h)))) b e)
 
 pub returns-clause-found : goal.returns-clause-found
 returns-clause-found c =
@@ -20,4 +22,5 @@ returns-clause-found c =
 pub returns-clause-reads : goal.returns-clause-reads
 returns-clause-reads c = λ body rest b i e.
     hops_case (λ x. IsBody x → c.args.line.now ≡ body_text x ++ rest → (Hops c.in_ok-hops-2.hops ≡ x) × (c.in_ok-hops.rest.now ≡ rest)) body i
-    (λ n h l. let a = c.in_ok-hops.ensures.reads n rest (omega (arith, h)) (l ∙ append_assoc (decimal n) (32 ∷ []) rest) in (ap Hops (c.in_ok-hops-2.ensures.same.0 ∙ a.0), a.1)) b e
+    (λ n h l. let a = c.in_ok-hops.ensures.reads n rest (omega (arith, h)) (l ∙ append_assoc (decimal n) (32 ∷ []) rest) in
+    (ap Hops (c.in_ok-hops-2.ensures.same.0 ∙ a.0), a.1)) b e

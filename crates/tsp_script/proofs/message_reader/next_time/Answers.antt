@@ -7,7 +7,8 @@ use Rattle.tsp_script.proofs.message_reader.next_time.Goals as goal
 
 pub returns-in_err-time-clause-reads : goal.returns-in_err-time-clause-reads
 returns-in_err-time-clause-reads c = λ body rest b i e.
-    absurd (time_case (λ x. IsBody x → c.args.line.now ≡ body_text x ++ rest → ⊥) body i (λ t h l. c.in_err-time.ensures.reads t rest (fits_micros t h) (l ∙ append_assoc (signed_decimal t) (32 ∷ []) rest)) b e)
+    absurd (time_case (λ x. IsBody x → c.args.line.now ≡ body_text x ++ rest → ⊥) body i (λ t h l. c.in_err-time.ensures.reads t rest (fits_micros t h) (l ∙
+    append_assoc (signed_decimal t) (32 ∷ []) rest)) b e)
 
 pub returns-in_err-time-2-clause-reads : goal.returns-in_err-time-2-clause-reads
 returns-in_err-time-2-clause-reads c = λ body rest b i e.

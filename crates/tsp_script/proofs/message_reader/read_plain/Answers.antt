@@ -23,7 +23,8 @@ returns-in_err-name-clause-reads c = λ m h w e.
 pub returns-clause-found : goal.returns-clause-found
 returns-clause-found c =
     let n = c.in_ok-number-2.ensures.same in
-    plain_found c.args.word.now c.args.line.now _ _ c.in_ok-kind.kind _ _ _ c.in_ok-message.message c.in_ok-kind.ensures.found n.1 c.in-Some.ensures.found.0 c.in-Some.ensures.found.1 c.in_ok-name.ensures.found
+    plain_found c.args.word.now c.args.line.now _ _ c.in_ok-kind.kind _ _ _ c.in_ok-message.message c.in_ok-kind.ensures.found n.1 c.in-Some.ensures.found.0
+    c.in-Some.ensures.found.1 c.in_ok-name.ensures.found
     (rw n.0 c.in_ok-number.ensures.found.1) c.in-Some.ensures.found.2 c.in_ok-message.ensures.value
 
 pub returns-clause-reads : goal.returns-clause-reads

@@ -4,4 +4,5 @@ use Rattle.tsp_script.proofs.message_reader.read_request.Goals as goal
 
 pub returns-clause-found : goal.returns-clause-found
 returns-clause-found c =
-    request_found c.args.line.now _ c.in_ok-word.word c.in_ok-counter.counter c.in_ok-word.ensures.found.0 (omega arith) c.in_ok-word.ensures.found.1 c.in_ok-counter.ensures.found
+    request_found c.args.line.now _ c.in_ok-word.word c.in_ok-counter.counter c.in_ok-word.ensures.found.0 (omega arith) c.in_ok-word.ensures.found.1
+    c.in_ok-counter.ensures.found

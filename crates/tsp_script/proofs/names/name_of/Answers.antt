@@ -15,7 +15,8 @@ returns-then-is_empty-clause-reads c = λ name n b e.
 
 pub returns-then-are_plain : goal.returns-then-are_plain
 returns-then-are_plain c = record {
-  found = rw c.ok.ensures.value (name_found c.of.result c.args.text.now c.args.text.now (search rules) (search rules) (sym (plain_text c.args.text.now c.if-are_plain.ensures)) c.of.ensures);
+  found = rw c.ok.ensures.value (name_found c.of.result c.args.text.now c.args.text.now (search rules) (search rules)
+      (sym (plain_text c.args.text.now c.if-are_plain.ensures)) c.of.ensures);
   reads = λ name n b e.
       c.ok.ensures.value ∙ name_made c.of.result _ name n (plain_name name _ c.if-are_plain.ensures (name_begins _ name c.if-is_same.ensures e)) c.of.ensures;
 }

@@ -24,7 +24,8 @@ returns-in_err-next-clause-reads c = λ ns h e.
 
 pub returns-in_err-number-clause-reads : goal.returns-in_err-number-clause-reads
 returns-in_err-number-clause-reads c = λ ns h e.
-    absurd (no_next ns c.loop-rest.numbers.items c.loop-rest.rest.now c.in_ok-next.next.now h.small (search rules) (c.loop-rest.invariant.reads ns h e) c.in_ok-next.ensures c.in_err-number.ensures.none)
+    absurd (no_next ns c.loop-rest.numbers.items c.loop-rest.rest.now c.in_ok-next.next.now h.small (search rules) (c.loop-rest.invariant.reads ns h e)
+    c.in_ok-next.ensures c.in_err-number.ensures.none)
 
 pub loop-rest-preserved : goal.loop-rest-preserved
 loop-rest-preserved c =
@@ -32,8 +33,10 @@ loop-rest-preserved c =
     let found = c.in_ok-number.ensures.found in
     let more = c.in-Ok.ensures.ok in
     record {
-      reads = λ ns h e. next_read ns c.loop-rest.numbers.items _ c.loop-rest.rest.now c.in_ok-next.next.now c.in_ok-number.behind.now c.in_ok-number.number h.small (search rules) (inv.reads ns h e) c.in_ok-next.ensures found.0 found.1 found.2 more;
-      text = text-more c.args.text.now c.loop-rest.numbers.items _ c.loop-rest.rest.now c.in_ok-next.next.now c.in_ok-number.behind.now c.in_ok-number.number inv.some inv.text c.in_ok-next.ensures found.2 more;
+      reads = λ ns h e. next_read ns c.loop-rest.numbers.items _ c.loop-rest.rest.now c.in_ok-next.next.now c.in_ok-number.behind.now c.in_ok-number.number
+          h.small (search rules) (inv.reads ns h e) c.in_ok-next.ensures found.0 found.1 found.2 more;
+      text = text-more c.args.text.now c.loop-rest.numbers.items _ c.loop-rest.rest.now c.in_ok-next.next.now c.in_ok-number.behind.now c.in_ok-number.number
+          inv.some inv.text c.in_ok-next.ensures found.2 more;
       some = search rules;
       small = rw more (All-small c.loop-rest.numbers.items c.in_ok-number.number inv.small found.0);
     }
@@ -45,7 +48,12 @@ returns-in_default-clause-reads c = λ ns h e.
 
 pub loop-rest-smaller : goal.loop-rest-smaller
 loop-rest-smaller c =
-    omega (arith, ap length c.in_ok-next.ensures, ap length c.in_ok-number.ensures.found.2, length-append (decimal c.in_ok-number.number) c.in_ok-number.behind.now)
+    omega (
+      arith,
+      ap length c.in_ok-next.ensures,
+      ap length c.in_ok-number.ensures.found.2,
+      length-append (decimal c.in_ok-number.number) c.in_ok-number.behind.now,
+    )
 
 pub returns-clause-reads : goal.returns-clause-reads
 returns-clause-reads c = λ ns h e. all_read ns c.loop-rest.numbers.items c.loop-rest.rest.now (c.loop-rest.invariant.reads ns h e) (search rules)

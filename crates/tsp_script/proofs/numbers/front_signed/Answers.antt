@@ -7,7 +7,8 @@ use Rattle.tsp_script.proofs.numbers.front_signed.Goals as goal
 pub returns-clause-found : goal.returns-clause-found
 returns-clause-found c =
     let fits : FitsSigned w64 c.in_ok-number.number = search rules in
-    rw (to_z-of_z w64 c.in_ok-number.number fits) (c.in_ok-word.ensures.found.2 ∙ ap (λ (w : List ℕ). w ++ 32 ∷ c.in_ok-word.rest.now) c.in_ok-number.ensures.found)
+    rw (to_z-of_z w64 c.in_ok-number.number fits) (c.in_ok-word.ensures.found.2 ∙
+    ap (λ (w : List ℕ). w ++ 32 ∷ c.in_ok-word.rest.now) c.in_ok-number.ensures.found)
 
 pub returns-clause-reads : goal.returns-clause-reads
 returns-clause-reads c = λ n rest h e.

@@ -11,7 +11,8 @@ negative : (m : ℕ) → 0 < m → m ≤ 2 ^ 63 → to_z w64 (of_z w64 (negsuc 0
 negative m some most =
     let small : m - 1 < 2 ^ 63 = omega (arith, some, most) in
     let fits : FitsSigned w64 (negsuc (m - 1)) = record { sfits = small } in
-    ap (λ (z : ℤ). to_z w64 (of_z w64 (negsuc 0 -ℤ z))) (to_z_pos w64 (m - 1) small) ∙ ap (λ (z : ℤ). to_z w64 (of_z w64 z)) (below_zero (m - 1)) ∙ to_z-of_z w64 (negsuc (m - 1)) fits
+    ap (λ (z : ℤ). to_z w64 (of_z w64 (negsuc 0 -ℤ z))) (to_z_pos w64 (m - 1) small) ∙ ap (λ (z : ℤ). to_z w64 (of_z w64 z)) (below_zero (m - 1)) ∙
+    to_z-of_z w64 (negsuc (m - 1)) fits
 
 pub returns-clause-found : goal.returns-clause-found
 returns-clause-found c = (c.args.magnitude - 1, negative c.args.magnitude (omega arith) (omega arith), omega arith)

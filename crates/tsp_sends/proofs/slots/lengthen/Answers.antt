@@ -14,8 +14,10 @@ loop-next-preserved c =
     let z : PeerId = record { 0 = 0 } in
     let p : PeerId = get_or ps c.loop-next.next z in
     let inside : length held < length ps = omega (arith, inv.long, c.loop-next-test.true, c.requires.inside) in
-    let here : get_or ps c.loop-next.next z ≡ get_or ps (length held) (get_or ps c.loop-next.next z) = ap (λ n. get_or ps n z) (sym inv.long) ∙ get_or_default ps (length held) z (get_or ps c.loop-next.next z) inside in
-    let items : c.push_reserved.new.self.items ≡ held ++ empty_slot (get_or ps c.loop-next.next z) ∷ [] = c.push_reserved.ensures.items ∙ ap (λ (s : Slot). held ++ s ∷ []) c.new.ensures in
+    let here : get_or ps c.loop-next.next z ≡ get_or ps (length held) (get_or ps c.loop-next.next z) = ap (λ n. get_or ps n z) (sym inv.long) ∙
+    get_or_default ps (length held) z (get_or ps c.loop-next.next z) inside in
+    let items : c.push_reserved.new.self.items ≡ held ++ empty_slot (get_or ps c.loop-next.next z) ∷ [] = c.push_reserved.ensures.items ∙
+    ap (λ (s : Slot). held ++ s ∷ []) c.new.ensures in
     record {
       held = rw (items, c.push_reserved.ensures.capacity) (AreHeld-more ps held _ p inv.held inside here);
       same = ap (slots_of ps) items ∙ slots_of-more ps held p inside here ∙ inv.same;

@@ -14,7 +14,8 @@ loop-height-init c = record {
 
 pub read-requires : goal.read-requires
 read-requires c =
-    let bounds = climbing_bounds _ _ c.args.store.now.nodes c.args.levels c.loop-height.node c.loop-height.height c.requires.size c.if-node-eq1.true (omega arith) c.loop-height.invariant.climbing in
+    let bounds = climbing_bounds _ _ c.args.store.now.nodes c.args.levels c.loop-height.node c.loop-height.height c.requires.size c.if-node-eq1.true
+    (omega arith) c.loop-height.invariant.climbing in
     rw c.loop-height.invariant.nodes (omega (arith, bounds.0))
 
 pub descend-requires-clause-small : goal.descend-requires-clause-small
@@ -25,13 +26,15 @@ descend-requires-clause-small c =
 pub descend-requires-clause-node : goal.descend-requires-clause-node
 descend-requires-clause-node c =
     let odd = c.if-node-eq1.true in
-    let bounds = climbing_bounds _ _ c.args.store.now.nodes c.args.levels c.loop-height.node c.loop-height.height c.requires.size odd (omega arith) c.loop-height.invariant.climbing in
+    let bounds = climbing_bounds _ _ c.args.store.now.nodes c.args.levels c.loop-height.node c.loop-height.height c.requires.size odd (omega arith)
+    c.loop-height.invariant.climbing in
     rw (c.read.ensures.nodes, c.loop-height.invariant.nodes) (omega arith, bounds.1)
 
 pub overflow_add-node : goal.overflow_add-node
 overflow_add-node c =
     let small : 2 ^ c.args.levels ≤ 2 ^ 60 = pow-small c.args.levels c.requires.small in
-    let bounds = climbing_bounds _ _ c.args.store.now.nodes c.args.levels c.loop-height.node c.loop-height.height c.requires.size c.if-node-eq1.true (omega arith) c.loop-height.invariant.climbing in
+    let bounds = climbing_bounds _ _ c.args.store.now.nodes c.args.levels c.loop-height.node c.loop-height.height c.requires.size c.if-node-eq1.true
+    (omega arith) c.loop-height.invariant.climbing in
     omega (arith, bounds.0, c.requires.size)
 
 pub loop-height-preserved : goal.loop-height-preserved
@@ -39,10 +42,13 @@ loop-height-preserved c =
     elim c.if-node-eq1.branch [
       | then-node-eq1+else-is_due w ↦
           let odd = w.if-node-eq1.true in
-          let late : is_due c.args.tick (deadline_at c.args.store.now.nodes c.loop-height.node) ≡ false = rw (← c.loop-height.invariant.nodes, ← w.read.ensures.value) (sym w.is_due.ensures ∙ w.if-is_due.false) in
+          let late : is_due c.args.tick (deadline_at c.args.store.now.nodes c.loop-height.node) ≡ false =
+          rw (← c.loop-height.invariant.nodes, ← w.read.ensures.value) (sym w.is_due.ensures ∙ w.if-is_due.false) in
           let even : c.loop-height.node + 1 ≡ 2 * ((c.loop-height.node + 1) / 2) = omega arith in
           record {
-            climbing = rw w.node-is (IsClimbing-up _ _ _ _ (c.loop-height.node + 1) c.loop-height.height _ even (IsClimbing-next _ _ _ c.args.levels c.loop-height.node c.loop-height.height c.requires.earlier c.requires.size odd (omega arith) late c.loop-height.invariant.climbing));
+            climbing = rw w.node-is (IsClimbing-up _ _ _ _ (c.loop-height.node + 1) c.loop-height.height _ even
+                (IsClimbing-next _ _ _ c.args.levels c.loop-height.node c.loop-height.height c.requires.earlier c.requires.size odd (omega arith) late
+                c.loop-height.invariant.climbing));
             nodes = rw w.store-is (w.read.ensures.nodes ∙ c.loop-height.invariant.nodes);
             looks = rw w.store-is (omega (arith, w.read.ensures.looks, c.loop-height.invariant.looks));
           }
@@ -58,9 +64,13 @@ loop-height-preserved c =
 
 pub returns-then-is_due-clause-leaf : goal.returns-then-is_due-clause-leaf
 returns-then-is_due-clause-leaf c =
-    IsFirstDueAt-below _ _ c.args.store.now.nodes c.loop-height.node c.loop-height.height _ c.loop-height.invariant.climbing.before (rw (c.read.ensures.nodes, c.loop-height.invariant.nodes) at c.descend.ensures.leaf)
+    IsFirstDueAt-below _ _ c.args.store.now.nodes c.loop-height.node c.loop-height.height _ c.loop-height.invariant.climbing.before (rw (
+      c.read.ensures.nodes,
+      c.loop-height.invariant.nodes,
+    ) at c.descend.ensures.leaf)
 
 pub returns-clause-leaf : goal.returns-clause-leaf
 returns-clause-leaf c =
     let low : 2 ^ c.args.levels ≤ c.args.leaf = c.requires.leaf.0 in
-    IsClimbing-over _ _ c.args.store.now.nodes c.args.levels c.loop-height.node c.loop-height.height c.requires.size (omega (arith, pow_pos c.args.levels)) (omega (arith, c.loop-height-test.false)) c.loop-height.invariant.climbing
+    IsClimbing-over _ _ c.args.store.now.nodes c.args.levels c.loop-height.node c.loop-height.height c.requires.size (omega (arith, pow_pos c.args.levels))
+    (omega (arith, c.loop-height-test.false)) c.loop-height.invariant.climbing

@@ -13,7 +13,8 @@ loop-height-init c =
       below = omega arith;
       node = omega arith;
       size = length-set c.args.store.now.nodes c.args.leaf c.args.at;
-      earlier = HoldsEarlier-set c.args.store.now.nodes c.args.leaf c.args.at (HoldsEarlier-any _ c.args.leaf c.requires.earlier) high (λ some inside. absurd (omega arith));
+      earlier = HoldsEarlier-set c.args.store.now.nodes c.args.leaf c.args.at (HoldsEarlier-any _ c.args.leaf c.requires.earlier) high
+          (λ some inside. absurd (omega arith));
       leaves = refl;
       looks = omega (arith, c.write.ensures.looks);
     })
@@ -38,18 +39,21 @@ loop-height-preserved c =
     let node : c.loop-height.node < 2 * 2 ^ c.args.levels = c.loop-height.invariant.node in
     let size : length c.loop-height.store.nodes ≡ 2 * 2 ^ c.args.levels = c.loop-height.invariant.size ∙ c.requires.size in
     let n = c.loop-height.node / 2 in
-    let value : c.earlier.result ≡ earlier (deadline_at c.loop-height.store.nodes (2 * (c.loop-height.node / 2))) (deadline_at c.loop-height.store.nodes (2 * (c.loop-height.node / 2) + 1)) =
+    let value : c.earlier.result ≡ earlier (deadline_at c.loop-height.store.nodes (2 * (c.loop-height.node / 2)))
+    (deadline_at c.loop-height.store.nodes (2 * (c.loop-height.node / 2) + 1)) =
     c.earlier.ensures ∙ rw (c.read-right.ensures.value, c.read-left.ensures.value, c.read-left.ensures.nodes) refl in
     rw (c.write-in-loop-height.ensures.nodes, c.read-right.ensures.nodes, c.read-left.ensures.nodes) (record {
       below = half_below c.loop-height.node c.loop-height.height (2 * 2 ^ c.args.levels) c.loop-height.invariant.below;
       node = omega arith;
       size = length-set c.loop-height.store.nodes (c.loop-height.node / 2) c.earlier.result ∙ c.loop-height.invariant.size;
-      earlier = HoldsEarlier-set c.loop-height.store.nodes (c.loop-height.node / 2) c.earlier.result c.loop-height.invariant.earlier (omega arith) (λ some inside. value);
+      earlier = HoldsEarlier-set c.loop-height.store.nodes (c.loop-height.node / 2) c.earlier.result c.loop-height.invariant.earlier (omega arith)
+          (λ some inside. value);
       leaves = leaves_kept _ _ c.args.levels (c.loop-height.node / 2) _ (omega arith) c.loop-height.invariant.leaves;
       looks = omega (arith, c.write-in-loop-height.ensures.looks, c.read-right.ensures.looks, c.read-left.ensures.looks, c.loop-height.invariant.looks);
     })
 
 pub returns-clause-earlier : goal.returns-clause-earlier
 returns-clause-earlier c =
-    let root : c.loop-height.node / 2 ≡ 0 = at_root c.loop-height.node c.loop-height.height c.args.levels (omega (arith, c.loop-height-test.false)) c.loop-height.invariant.below in
+    let root : c.loop-height.node / 2 ≡ 0 = at_root c.loop-height.node c.loop-height.height c.args.levels (omega (arith, c.loop-height-test.false))
+    c.loop-height.invariant.below in
     rw root at c.loop-height.invariant.earlier

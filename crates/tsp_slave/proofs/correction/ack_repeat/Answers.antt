@@ -9,7 +9,8 @@ use Rattle.tsp_slave.proofs.correction.ack_repeat.Goals as goal
 pub returns-else-is_repeat-clause-row : goal.returns-else-is_repeat-clause-row
 unfolding acks_repeat
 returns-else-is_repeat-clause-row g c clock took =
-    Performs_else_part (is_repeated c.args.correction.from c.args.correction.number) (posts c.args.correction.from Ack c.args.correction.number) (λ past h. let t = h.last.taken_is in cc) Performs_nothing
+    Performs_else_part (is_repeated c.args.correction.from c.args.correction.number) (posts c.args.correction.from Ack c.args.correction.number)
+    (λ past h. let t = h.last.taken_is in cc) Performs_nothing
 
 pub returns-then-is_repeat : goal.returns-then-is_repeat
 unfolding acks_repeat

@@ -27,13 +27,15 @@ returns-then-acts_now-clause-row g c took s =
     let change = c.of-change.result in
     let row = correction_of from m.number (change_in m) in
     let x = c.args.at.tick in
-    let told : correcting_of (said took) ≡ Some (record { from = from; number = n }) = s ∙ ap (λ k. Some (record { from = from; number = k })) (sym c.number-number.ensures) in
+    let told : correcting_of (said took) ≡ Some (record { from = from; number = n }) = s ∙
+    ap (λ k. Some (record { from = from; number = k })) (sym c.number-number.ensures) in
     Performs_same {r = correction_of from n change} (reading role_at (from_master from row))
     (λ past h. ap (λ k. correction_of from k change x past) c.number-number.ensures ∙ (ap (λ ch. correction_of from m.number ch x past) c.of-change.ensures
     ∙ sym (c.follows.ensures row x past h.station ∙ ap (λ b. if b then row x past else []) c.if-not-follows.false)))
     (rw (correction_of-is from n change) (Performs_then_part (acts_at n change) (acks_repeat from n)
     (λ past h. acts_at-is n change x past c.args.last.now c.args.clock.now h.last h.clock ∙ (sym c.acts_now.ensures ∙ c.if-acts_now.true))
-    (Performs_then (Performs_changes change c.args.station.now c.args.last.now _ took _ told c.took.ensures c.make.ensures.row) (Performs_station (AlsoStands_confirms from n) c.confirm.ensures.row))))
+    (Performs_then (Performs_changes change c.args.station.now c.args.last.now _ took _ told c.took.ensures c.make.ensures.row)
+    (Performs_station (AlsoStands_confirms from n) c.confirm.ensures.row))))
 
 pub returns-then-not-follows-clause-corrects : goal.returns-then-not-follows-clause-corrects
 returns-then-not-follows-clause-corrects g c past took s h = tells_nothing c.args.at.port _
@@ -43,8 +45,10 @@ returns-then-acts_now-clause-corrects g c past took s h =
     let from = c.args.from in
     let n = c.number-number.result in
     let change = c.of-change.result in
-    let told : correcting_of (said took) ≡ Some (record { from = from; number = n }) = s ∙ ap (λ k. Some (record { from = from; number = k })) (sym c.number-number.ensures) in
-    tells_row (Performs_then (Performs_changes change c.args.station.now c.args.last.now _ took _ told c.took.ensures c.make.ensures.row) (Performs_station (AlsoStands_confirms from n) c.confirm.ensures.row))
+    let told : correcting_of (said took) ≡ Some (record { from = from; number = n }) = s ∙
+    ap (λ k. Some (record { from = from; number = k })) (sym c.number-number.ensures) in
+    tells_row (Performs_then (Performs_changes change c.args.station.now c.args.last.now _ took _ told c.took.ensures c.make.ensures.row)
+    (Performs_station (AlsoStands_confirms from n) c.confirm.ensures.row))
     past h true (corrects-change change (confirms from n) c.args.at.tick past)
 
 pub returns-else-acts_now-clause-corrects : goal.returns-else-acts_now-clause-corrects

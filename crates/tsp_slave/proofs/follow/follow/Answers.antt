@@ -12,7 +12,8 @@ become_role-requires-clause-peer g c = among-Contains c.args.p c.args.station.no
 pub returns-clause-row : goal.returns-clause-row
 unfolding follow_row
 returns-clause-row g c took e =
-    Performs_then (follow_becomes c.args.p c.args.last.now _ c.args.clock.now took (c.keep_name.ensures ∙ ap (λ n. record c.args.last.now { name = n }) (sym e)) (c.become_role.ensures.row c.args.tick))
+    Performs_then (follow_becomes c.args.p c.args.last.now _ c.args.clock.now took (c.keep_name.ensures ∙ ap (λ n. record c.args.last.now { name = n }) (sym e))
+    (c.become_role.ensures.row c.args.tick))
     (Performs_then (Performs_station AlsoStands_arms_elect c.arm_elect.ensures.row) (c.tell_ticket.ensures.row c.args.tick _ took))
 
 pub returns-clause-room : goal.returns-clause-room

@@ -11,15 +11,18 @@ pub returns-then-is_in_time-clause-row : goal.returns-then-is_in_time-clause-row
 unfolding elect_rings
 returns-then-is_in_time-clause-row g c =
     let st = c.args.station.now in
-    let stays : (st.me.may && may_stand st.hold c.args.tick st.me.own) ≡ false = stays_in_time c.args.tick st (sym c.is_in_time.ensures ∙ c.if-is_in_time.true) c.requires.stays in
+    let stays : (st.me.may && may_stand st.hold c.args.tick st.me.own) ≡ false = stays_in_time c.args.tick st (sym c.is_in_time.ensures ∙
+    c.if-is_in_time.true) c.requires.stays in
     Performs_then_part (is_in_time Elect) (puts (Late Elect) followed_by arms_elect) (λ past s. let a = s.alarms in cc)
-    (Performs_then (c.ring.ensures.row c.args.tick) (Performs_else_part may_stand_at candidature_row (λ past s. sym (may_stand-is c.args.tick past c.ring.new.self s) ∙ rw c.ring.ensures.station stays)
+    (Performs_then (c.ring.ensures.row c.args.tick) (Performs_else_part may_stand_at candidature_row
+    (λ past s. sym (may_stand-is c.args.tick past c.ring.new.self s) ∙ rw c.ring.ensures.station stays)
     (Performs_then (c.loosen.ensures.row c.args.tick) c.search.ensures.row)))
 
 pub returns-else-is_in_time-clause-row : goal.returns-else-is_in_time-clause-row
 unfolding elect_rings
 returns-else-is_in_time-clause-row g c =
-    Performs_else_part (is_in_time Elect) (puts (Ring Elect) followed_by either_by may_stand_at candidature_row (loosens followed_by searches)) (λ past s. let a = s.alarms in cc)
+    Performs_else_part (is_in_time Elect) (puts (Ring Elect) followed_by either_by may_stand_at candidature_row (loosens followed_by searches))
+    (λ past s. let a = s.alarms in cc)
     (Performs_then (c.late.ensures.row c.args.tick) c.arm_elect.ensures.row)
 
 pub returns-else-is_in_time-clause-room : goal.returns-else-is_in_time-clause-room

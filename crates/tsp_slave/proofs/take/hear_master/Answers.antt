@@ -16,7 +16,8 @@ report_conflict-requires-clause-peer g c = followed-Contains c.args.station.now 
 pub returns-in-Loose-clause-row : goal.returns-in-Loose-clause-row
 unfolding masterup_in
 returns-in-Loose-clause-row g c took e =
-    Performs_reading role_at (masterup_in c.args.from) Loose (λ past h. let r = h.station.role in let i = c.in-Loose.is in cc) (c.follow.ensures.row took (ap name_in e ∙ sym c.name.ensures))
+    Performs_reading role_at (masterup_in c.args.from) Loose (λ past h. let r = h.station.role in let i = c.in-Loose.is in
+    cc) (c.follow.ensures.row took (ap name_in e ∙ sym c.name.ensures))
 
 pub returns-then-q-from-clause-row : goal.returns-then-q-from-clause-row
 unfolding masterup_in

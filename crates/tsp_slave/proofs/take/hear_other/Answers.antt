@@ -21,7 +21,8 @@ returns-then-heeds_masterack-clause-row g c took e =
     let k : c.args.m.now.kind ≡ MasterAck = sym c.kind.ensures ∙ c.in-MasterAck.is in
     let row = reading role_at (masterup_in c.args.from) in
     rw k (Performs_same (reading role_at (masterack_in c.args.from))
-    (λ past h. sym (c.heeds_masterack.ensures c.args.at.tick past h.station ∙ ap (λ b. if b then row c.args.at.tick past else []) c.if-heeds_masterack.true)) (c.hear_master-then-heeds_masterack.ensures.row took e))
+    (λ past h. sym (c.heeds_masterack.ensures c.args.at.tick past h.station ∙ ap (λ b. if b then row c.args.at.tick past else []) c.if-heeds_masterack.true))
+    (c.hear_master-then-heeds_masterack.ensures.row took e))
 
 pub returns-else-heeds_masterack-clause-row : goal.returns-else-heeds_masterack-clause-row
 unfolding slave_takes slave_takes_kind nothing
@@ -29,7 +30,8 @@ returns-else-heeds_masterack-clause-row g c took e =
     let k : c.args.m.now.kind ≡ MasterAck = sym c.kind.ensures ∙ c.in-MasterAck.is in
     let row = reading role_at (masterup_in c.args.from) in
     rw k (Performs_same (reading role_at (masterack_in c.args.from))
-    (λ past h. sym (c.heeds_masterack.ensures c.args.at.tick past h.station ∙ ap (λ b. if b then row c.args.at.tick past else []) c.if-heeds_masterack.false)) Performs_nothing)
+    (λ past h. sym (c.heeds_masterack.ensures c.args.at.tick past h.station ∙ ap (λ b. if b then row c.args.at.tick past else []) c.if-heeds_masterack.false))
+    Performs_nothing)
 
 pub returns-in-Election-clause-row : goal.returns-in-Election-clause-row
 unfolding slave_takes slave_takes_kind
@@ -60,7 +62,8 @@ returns-in_default-clause-row g c took e =
     let other : is_correction c.kind.result ≡ false = ap is_correction c.kind.ensures ∙ c.requires.other in
     let k : slave_takes_kind c.args.from m m.kind ≡ nothing =
     ap (slave_takes_kind c.args.from m) (sym c.kind.ensures)
-    ∙ slave_takes_kind-other c.args.from m c.kind.result o.not-MasterUp o.not-MasterAck o.not-Election (λ e. true≢false (sym (ap is_correction e) ∙ other)) (λ e. true≢false (sym (ap is_correction e) ∙ other)) o.not-Quit o.not-Ack in
+    ∙ slave_takes_kind-other c.args.from m c.kind.result o.not-MasterUp o.not-MasterAck o.not-Election (λ e. true≢false (sym (ap is_correction e) ∙ other))
+    (λ e. true≢false (sym (ap is_correction e) ∙ other)) o.not-Quit o.not-Ack in
     rw k Performs_nothing
 
 pub returns-in-MasterUp-clause-room : goal.returns-in-MasterUp-clause-room

@@ -15,4 +15,5 @@ returns-in-Follow c x past s = masterack_in-Follow c.args.from c.in-Follow.q _ x
 pub returns-in_default : goal.returns-in_default
 unfolding reading nothing
 returns-in_default c x past s =
-    ap (λ r. masterack_in c.args.from r x past) (sym s.role) ∙ ap (λ row. row x past) (masterack_in-other c.args.from _ c.in_default.not-Loose c.in_default.not-Follow)
+    ap (λ r. masterack_in c.args.from r x past) (sym s.role) ∙ ap (λ row. row x past) (masterack_in-other c.args.from _ c.in_default.not-Loose
+    c.in_default.not-Follow)

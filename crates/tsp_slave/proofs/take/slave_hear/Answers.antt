@@ -11,20 +11,23 @@ pub returns-then-is_correction-clause-row : goal.returns-then-is_correction-clau
 unfolding slave_takes
 returns-then-is_correction-clause-row g c took e =
     let m = c.args.m.now in
-    let k : (m.kind ≡ AdjTime) ⊎ (m.kind ≡ SetTime) = correction-kind m.kind (ap is_correction (sym c.kind.ensures) ∙ (sym c.is_correction.ensures ∙ c.if-is_correction.true)) in
+    let k : (m.kind ≡ AdjTime) ⊎ (m.kind ≡ SetTime) = correction-kind m.kind (ap is_correction (sym c.kind.ensures) ∙
+    (sym c.is_correction.ensures ∙ c.if-is_correction.true)) in
     rw (slave_takes_kind-correction c.args.from m m.kind refl k) (c.take_correction.ensures.row took (told_correction c.args.from m took k e))
 
 pub returns-then-is_correction-clause-corrects : goal.returns-then-is_correction-clause-corrects
 returns-then-is_correction-clause-corrects g c past took e h =
     let m = c.args.m.now in
-    let k : (m.kind ≡ AdjTime) ⊎ (m.kind ≡ SetTime) = correction-kind m.kind (ap is_correction (sym c.kind.ensures) ∙ (sym c.is_correction.ensures ∙ c.if-is_correction.true)) in
+    let k : (m.kind ≡ AdjTime) ⊎ (m.kind ≡ SetTime) = correction-kind m.kind (ap is_correction (sym c.kind.ensures) ∙
+    (sym c.is_correction.ensures ∙ c.if-is_correction.true)) in
     c.take_correction.ensures.corrects past took (told_correction c.args.from m took k e) h
 
 pub returns-else-is_correction-clause-corrects : goal.returns-else-is_correction-clause-corrects
 returns-else-is_correction-clause-corrects g c past took e h =
     let m = c.args.m.now in
     let other : is_correction m.kind ≡ false = ap is_correction (sym c.kind.ensures) ∙ (sym c.is_correction.ensures ∙ c.if-is_correction.false) in
-    tells_still (Emits_more unmoved_sorts refl (emits_built (slave_part_unmoved m.kind other) (built_slave_takes c.args.from m tt tt))) (c.hear_other.ensures.row took e) past h
+    tells_still (Emits_more unmoved_sorts refl (emits_built (slave_part_unmoved m.kind other) (built_slave_takes c.args.from m tt tt)))
+    (c.hear_other.ensures.row took e) past h
 
 pub hear_other-requires-clause-other : goal.hear_other-requires-clause-other
 hear_other-requires-clause-other g c = ap is_correction (sym c.kind.ensures) ∙ (sym c.is_correction.ensures ∙ c.if-is_correction.false)

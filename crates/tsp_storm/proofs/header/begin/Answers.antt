@@ -17,7 +17,8 @@ head-requires-clause-more c =
     let more = c.loop-test.true in
     omega (arith, named, nodes, more)
 
-few_lines : (header : HeaderValue) (n nodes : ℕ) (v : StormValue) → header ≡ record { drift = 100; strict = false; nodes = storm_lines n v; nets = [] } → n < nodes → nodes ≤ 64 → length header.nodes < 64
+few_lines : (header : HeaderValue) (n nodes : ℕ) (v : StormValue) → header ≡ record { drift = 100; strict = false; nodes = storm_lines n v; nets = [] } →
+    n < nodes → nodes ≤ 64 → length header.nodes < 64
 few_lines header n nodes v is more few = let same = ap (λ (h : HeaderValue). length h.nodes) is ∙ length-storm_lines n v in omega (arith, same, more, few)
 
 pub unreachable-requires : goal.unreachable-requires
@@ -29,13 +30,19 @@ unreachable-requires c =
 pub loop-preserved : goal.loop-preserved
 loop-preserved c = rw add-one (record {
   generator = c.head.ensures.after ∙ ap (λ v. storm_named v) c.loop.invariant.generator;
-  header = header_more c.loop.header c.push.new.self c.head.result (generator_of c.args.words.now) c.loop.storm c.loop.counter c.in-Ok.ensures.2 c.loop.invariant.header c.head.ensures.line c.loop.invariant.generator;
+  header = header_more c.loop.header c.push.new.self c.head.result (generator_of c.args.words.now) c.loop.storm c.loop.counter c.in-Ok.ensures.2
+      c.loop.invariant.header c.head.ensures.line c.loop.invariant.generator;
 })
 
 pub returns : goal.returns
 returns c =
     let all : c.loop.counter ≡ c.args.words.now.nodes = (let low = c.loop-test.false in let high = c.loop.auto.counter-end in omega (arith, low, high)) in
     record {
-      header = c.loop.invariant.header ∙ ap (λ (n : ℕ). record { drift = 100; strict = false; nodes = storm_lines n (generator_of c.args.words.now); nets = [] }) all;
+      header = c.loop.invariant.header ∙ ap (λ (n : ℕ). record {
+        drift = 100;
+        strict = false;
+        nodes = storm_lines n (generator_of c.args.words.now);
+        nets = [];
+      }) all;
       generator = c.loop.invariant.generator ∙ ap (λ (n : ℕ). after_lines n (generator_of c.args.words.now)) all;
     }

@@ -20,7 +20,8 @@ returns-in-Limit-clause-stops c =
     let s = c.args.words.now in
     let n = c.args.world.now.events in
     let refused = (c.in-Err.ensures (event_after s n) c.requires.event (header_of s) (storm_events s n) c.requires.stands).0 in
-    let stops = stops_after s n c.args.world.now c.in-Err.fault c.in-Limit.events c.in-Limit.field-1 c.requires.words c.requires.more refl c.requires.stands refused c.in-Limit.is in
+    let stops = stops_after s n c.args.world.now c.in-Err.fault c.in-Limit.events c.in-Limit.field-1 c.requires.words c.requires.more refl c.requires.stands
+    refused c.in-Limit.is in
     (ap (λ k. k + 1) stops.0, stops.1)
 
 pub overflow_add-result : goal.overflow_add-result
@@ -28,7 +29,8 @@ overflow_add-result c =
     let s = c.args.words.now in
     let n = c.args.world.now.events in
     let refused = (c.in-Err.ensures (event_after s n) c.requires.event (header_of s) (storm_events s n) c.requires.stands).0 in
-    let same = (stops_after s n c.args.world.now c.in-Err.fault c.in-Limit.events c.in-Limit.field-1 c.requires.words c.requires.more refl c.requires.stands refused c.in-Limit.is).0 in
+    let same = (stops_after s n c.args.world.now c.in-Err.fault c.in-Limit.events c.in-Limit.field-1 c.requires.words c.requires.more refl c.requires.stands
+    refused c.in-Limit.is).0 in
     let more = c.requires.more in
     let few = c.requires.words.events in
     omega (arith, same, more, few)

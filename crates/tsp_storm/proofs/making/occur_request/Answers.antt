@@ -5,4 +5,5 @@ use Rattle.tsp_storm.proofs.Requests.{request-octets, request-read}
 use Rattle.tsp_storm.proofs.making.occur_request.Goals as goal
 
 pub returns : goal.returns
-returns c = c.hand.ensures (request_octets c.args.word) (request-octets c.args.word) (request-read c.args.word (omega (arith, c.ranges.word.fits)) ∙ sym (c.taken.ensures ∙ c.put_stamp.ensures))
+returns c = c.hand.ensures (request_octets c.args.word) (request-octets c.args.word) (request-read c.args.word (omega (arith, c.ranges.word.fits)) ∙
+    sym (c.taken.ensures ∙ c.put_stamp.ensures))

@@ -10,9 +10,11 @@ loop-preserved c =
     let s = c.args.words.now in
     let stands = c.in-Ok-step.ensures.stands in
     let given : c.step.new.self.storm.given ≡ c.loop.counter + 1 = c.in-Ok-step.ensures.given ∙ ap (λ (n : ℕ). n + 1) c.loop.invariant.given in
-    let lines : c.acts.result.now ≡ gained (header_of s) (storm_events s (c.loop.counter + 1)) = c.acts.ensures ∙ stands.world.lines ∙ ap (λ (n : ℕ). gained (header_of s) (storm_events s n)) given in
+    let lines : c.acts.result.now ≡ gained (header_of s) (storm_events s (c.loop.counter + 1)) = c.acts.ensures ∙ stands.world.lines ∙
+    ap (λ (n : ℕ). gained (header_of s) (storm_events s n)) given in
     let next : c.acts.result.now ≡ gained (header_of s) (storm_events s (suc c.loop.counter)) = rw add-one at lines in
-    let counted = counted_more s c.loop.counter c.loop.counts c.add_all.new.self c.acts.result.now c.loop.invariant.counted next c.add_all.ensures.took c.add_all.ensures.corrects c.add_all.ensures.masters in
+    let counted = counted_more s c.loop.counter c.loop.counts c.add_all.new.self c.acts.result.now c.loop.invariant.counted next c.add_all.ensures.took
+    c.add_all.ensures.corrects c.add_all.ensures.masters in
     record {
       stands = stands;
       given = given;
@@ -26,4 +28,5 @@ pub returns : goal.returns
 returns c =
     let s = c.args.words.now in
     let all : c.loop.counter ≡ s.events = (let low = c.loop-test.false in let high = c.loop.auto.counter-end in omega (arith, low, high)) in
-    sums_up s c.loop.making c.posted.result c.loop.counts c.loop.invariant.stands (c.loop.invariant.given ∙ all) c.posted.ensures (subst (λ n. CountsLines (told (header_of s) (storm_events s n)) c.loop.counts) all c.loop.invariant.counted)
+    sums_up s c.loop.making c.posted.result c.loop.counts c.loop.invariant.stands (c.loop.invariant.given ∙
+    all) c.posted.ensures (subst (λ n. CountsLines (told (header_of s) (storm_events s n)) c.loop.counts) all c.loop.invariant.counted)

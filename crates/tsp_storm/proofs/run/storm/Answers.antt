@@ -7,7 +7,12 @@ use Rattle.tsp_storm.proofs.run.storm.Goals as goal
 
 pub returns-in-Ok-clause-ends : goal.returns-in-Ok-clause-ends
 returns-in-Ok-clause-ends g c =
-    said c.args.words.now Done c.as_slice.result.now _ _ c.say.result (c.in-Ok.ensures.0, c.in-Ok.ensures.1, c.as_slice.ensures.value ∙ c.text.ensures ∙ c.in-Ok.ensures.2) c.say.ensures.says
+    said c.args.words.now Done c.as_slice.result.now _ _ c.say.result (
+      c.in-Ok.ensures.0,
+      c.in-Ok.ensures.1,
+      c.as_slice.ensures.value ∙ c.text.ensures ∙
+          c.in-Ok.ensures.2,
+    ) c.say.ensures.says
 
 pub returns-in-Ok-clause-answers : goal.returns-in-Ok-clause-answers
 returns-in-Ok-clause-answers g c = λ end text a. agrees c.args.words.now _ _ c.say.result (returns-in-Ok-clause-ends g c) end text a

@@ -8,4 +8,5 @@ pub returns : goal.returns
 returns c =
     let all : c.as_slice.result.now ≡ c.args.self.now = c.as_slice.ensures.value ∙ c.self.view_is in
     let up : IsAscending c.as_slice.result.now = rw c.as_slice.ensures.value c.self.invariant.ascending in
-    c.is_ok.ensures.value ∙ is_among-searched c.args.p c.as_slice.result.now _ up c.place_of.ensures.bound c.place_of.ensures.position ∙ ap (is_among c.args.p) all
+    c.is_ok.ensures.value ∙ is_among-searched c.args.p c.as_slice.result.now _ up c.place_of.ensures.bound c.place_of.ensures.position ∙
+    ap (is_among c.args.p) all

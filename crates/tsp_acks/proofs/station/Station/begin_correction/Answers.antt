@@ -11,7 +11,8 @@ pub returns-clause-row : goal.returns-clause-row
 returns-clause-row g c =
     let own = is_correction-other c.args.kind c.requires.kind in
     let e = c.new-message.ensures in
-    Performs_opened (posts_time c.args.p c.args.kind c.args.number c.args.time) (λ past s. posts_time-is c.args.kind c.args.p c.args.number c.args.time c.args.at.tick past c.args.self.now s ∙ cc) (record {
+    Performs_opened (posts_time c.args.p c.args.kind c.args.number c.args.time) (λ past s. posts_time-is c.args.kind c.args.p c.args.number c.args.time
+    c.args.at.tick past c.args.self.now s ∙ cc) (record {
       numbered = ap (λ m. is_numbered m.kind) e ∙ own.0;
       rest = c.open.ensures.rest;
       acts = c.open.ensures.acts;

@@ -13,7 +13,8 @@ returns-clause-row g c =
     let own = is_date-own c.args.kind c.requires.kind in
     let e = c.new-message.ensures in
     let r = c.open.ensures.rest in
-    Performs_opened (begins_timed c.args.kind c.args.p c.args.time) (λ past s. begins_timed-is c.args.kind c.args.p c.args.time c.args.tick past c.args.self.now s ∙ cc) (record {
+    Performs_opened (begins_timed c.args.kind c.args.p c.args.time) (λ past s. begins_timed-is c.args.kind c.args.p c.args.time c.args.tick past c.args.self.now
+    s ∙ cc) (record {
       numbered = ap (λ m. is_numbered m.kind) e ∙ own.0;
       rest = record { me = r.me; role = r.role; hold = r.hold; alarms = r.alarms; backers = r.backers; peers = r.peers };
       acts = c.open.ensures.acts;

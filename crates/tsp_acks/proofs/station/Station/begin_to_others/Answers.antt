@@ -26,12 +26,17 @@ loop-place-preserved g c =
     let inside = c.loop-place-test.true in
     let end = ap length c.as_slice-place-end.ensures.value in
     let one : n + 1 ≡ suc n = omega arith in
-    let more : take (n + 1) peers ≡ take n peers ++ p ∷ [] = ap (λ k. take k peers) one ∙ take-suc peers n (record { 0 = 0 }) (omega (arith, inside, end)) ∙ ap (λ l. take n peers ++ slice_index_or l n (record { 0 = 0 }) ∷ []) (sym there) in
+    let more : take (n + 1) peers ≡ take n peers ++ p ∷ [] = ap (λ k. take k peers) one ∙ take-suc peers n (record { 0 = 0 }) (omega (arith, inside, end)) ∙
+    ap (λ l. take n peers ++ slice_index_or l n (record { 0 = 0 }) ∷ []) (sym there) in
     elim c.if-p-self.branch [
       | then-p-self w ↦ record {
-        row = rw (w.self-is, w.desk-is, more) (Performs_begun_more c.args.kind c.args.self.now.me.own p (take n peers) (λ e. w.if-p-self.true (e ∙ ap (λ i. i.own.0) (sym inv.rest.me))) inv.row w.begin.ensures.row);
+        row = rw (w.self-is, w.desk-is, more) (Performs_begun_more c.args.kind c.args.self.now.me.own p (take n peers) (λ e. w.if-p-self.true (e ∙
+            ap (λ i. i.own.0) (sym inv.rest.me))) inv.row w.begin.ensures.row);
         rest = rw w.self-is (ChangesSends_then inv.rest w.begin.ensures.rest);
-        room = rw w.desk-is (record { spare = omega (arith, inv.room.spare, w.begin.ensures.room.spare); few = omega (arith, inv.room.few, w.begin.ensures.room.count) });
+        room = rw w.desk-is (record {
+          spare = omega (arith, inv.room.spare, w.begin.ensures.room.spare);
+          few = omega (arith, inv.room.few, w.begin.ensures.room.count);
+        });
       }
       | else-p-self w ↦ record {
         row = rw (w.self-is, w.desk-is, more, others-own c.args.self.now.me.own p (take n peers) (w.if-p-self.false ∙ ap (λ i. i.own.0) inv.rest.me)) inv.row;
@@ -50,5 +55,6 @@ returns-clause-row g c =
     let all : take n st.peers ≡ st.peers = take_all _ _ (omega (arith, end, past_end)) in
     Performs_reading others_at (for_each (begins c.args.kind)) (others st.me.own st.peers)
     (λ past h. ap (λ own. others own past.peers) (sym h.stands.own) ∙ ap (λ ps. others st.me.own ps) (sym h.stands.peers))
-    (subst (λ ps. Performs StandsActing StandsActing (for_each (begins c.args.kind) (others st.me.own ps)) c.args.tick c.args.port st c.loop-place.self (g.D.Desk.acts c.args.desk.now) (g.D.Desk.acts c.loop-place.desk))
+    (subst (λ ps. Performs StandsActing StandsActing (for_each (begins c.args.kind) (others st.me.own ps)) c.args.tick c.args.port st c.loop-place.self
+    (g.D.Desk.acts c.args.desk.now) (g.D.Desk.acts c.loop-place.desk))
     all c.loop-place.invariant.row)

@@ -13,7 +13,8 @@ returns-then-ended g c =
     let only : SetsOnly c.args.p None c.args.self.now.sends c.ack-ended.new.self = MatchBool-at_true _ _ c.if-ended.true c.ack-ended.ensures.sends in
     record {
       test = λ x past s. has_open-of c.args.answer c.args.p c.args.number x past c.args.self.now fits s ∙ sym c.ack-ended.ensures.ends;
-      row = λ e x. Performs_acked c.args.p (record { me = refl; role = refl; hold = refl; alarms = refl; backers = refl; peers = refl }) refl only c.put.ensures.acts;
+      row = λ e x. Performs_acked c.args.p (record { me = refl; role = refl; hold = refl; alarms = refl; backers = refl; peers = refl }) refl only
+          c.put.ensures.acts;
       sends = rw c.if-ended.true only;
       same = λ e. absurd (true≢false (sym c.if-ended.true ∙ e));
       rest = record { me = refl; role = refl; hold = refl; alarms = refl; backers = refl; peers = refl };

@@ -8,6 +8,7 @@ new-message-requires g c = is_plain_fits c.args.kind c.requires.plain
 
 pub returns : goal.returns
 returns g c = record {
-  row = λ x. Performs_post_back c.args.to c.args.kind c.args.number x c.args.port c.args.self.now c.requires.plain (named c.args.kind c.args.number c.new-message.ensures c.copy.ensures) c.put.ensures.acts;
+  row = λ x. Performs_post_back c.args.to c.args.kind c.args.number x c.args.port c.args.self.now c.requires.plain
+      (named c.args.kind c.args.number c.new-message.ensures c.copy.ensures) c.put.ensures.acts;
   room = PutsExactly_put _ c.put.ensures.spare c.put.ensures.acts;
 }

@@ -22,4 +22,5 @@ returns-clause-row g c x =
 pub returns-clause-room : goal.returns-clause-room
 returns-clause-room g c =
     let n = c.loop-p.p-index in
-    PutsAtMost_up n (length c.args.self.now.peers) (subst (λ l. n ≤ length l) c.as_slice-p-items.ensures.value c.loop-p.auto.p-index-end) c.loop-p.invariant.room
+    PutsAtMost_up n (length c.args.self.now.peers) (subst (λ l. n ≤ length l) c.as_slice-p-items.ensures.value c.loop-p.auto.p-index-end)
+    c.loop-p.invariant.room

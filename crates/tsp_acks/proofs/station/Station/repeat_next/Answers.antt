@@ -14,8 +14,19 @@ pub returns-clause-row : goal.returns-clause-row
 returns-clause-row g c =
     let due = c.in_ok-due.due in
     let put : g.D.Desk.acts c.match-due.desk ≡ g.D.Desk.acts c.args.desk.now ++ record { port = c.args.port; act = act_of due } ∷ [] =
-    elim c.match-due.branch [ in-Again w ↦ rw (w.desk-is, w.in-Again.is) (rw w.copy.ensures at w.put.ensures.acts) | in-Gave w ↦ rw (w.desk-is, w.in-Gave.is) w.put-in-Gave.ensures.acts ] in
-    Performs_due c.args.after c.args.tick c.args.port due c.args.self.now _ _ _ c.in_ok-due.ensures.sends (record { me = refl; role = refl; hold = refl; alarms = refl; backers = refl; peers = refl }) refl put
+    elim c.match-due.branch [
+      | in-Again w ↦ rw (w.desk-is, w.in-Again.is) (rw w.copy.ensures at w.put.ensures.acts)
+      | in-Gave w ↦
+          rw (w.desk-is, w.in-Gave.is) w.put-in-Gave.ensures.acts
+    ] in
+    Performs_due c.args.after c.args.tick c.args.port due c.args.self.now _ _ _ c.in_ok-due.ensures.sends (record {
+      me = refl;
+      role = refl;
+      hold = refl;
+      alarms = refl;
+      backers = refl;
+      peers = refl;
+    }) refl put
 
 pub invariant_of-self : goal.invariant_of-self
 invariant_of-self g c =
@@ -30,4 +41,8 @@ returns-clause-rest g c = record { me = refl; role = refl; hold = refl; alarms =
 
 pub returns-clause-room : goal.returns-clause-room
 returns-clause-room g c =
-    elim c.match-due.branch [ in-Again w ↦ rw w.desk-is (PutsExactly_put _ w.put.ensures.spare w.put.ensures.acts) | in-Gave w ↦ rw w.desk-is (PutsExactly_put _ w.put-in-Gave.ensures.spare w.put-in-Gave.ensures.acts) ]
+    elim c.match-due.branch [
+      | in-Again w ↦ rw w.desk-is (PutsExactly_put _ w.put.ensures.spare w.put.ensures.acts)
+      | in-Gave w ↦
+          rw w.desk-is (PutsExactly_put _ w.put-in-Gave.ensures.spare w.put-in-Gave.ensures.acts)
+    ]

@@ -51,7 +51,8 @@ loop-i-preserved c =
 
 pub returns : goal.returns
 returns c = record {
-  keeps = λ setting count has timely numbered room a settled agreed. rw (take_all c.loop-i.i c.args.lines.now (omega arith)) at (c.loop-i.invariant.1 setting count has timely numbered room a settled agreed);
+  keeps = λ setting count has timely numbered room a settled agreed. rw (take_all c.loop-i.i c.args.lines.now (omega arith)) at
+      (c.loop-i.invariant.1 setting count has timely numbered room a settled agreed);
   agreement = λ count told room a.
       agreement-settled count (history_of c.args.lines.now) c.loop-i.self c.loop-i.settled
       (rw (take_all c.loop-i.i c.args.lines.now (omega arith)) at (c.loop-i.invariant.0 count room a));

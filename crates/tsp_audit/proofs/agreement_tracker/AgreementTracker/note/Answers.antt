@@ -20,8 +20,14 @@ returns-clause-agreement c count spare is =
     let trips = c.note_trip.ensures.items spare ∙ ap (λ (z : ℤ). c.args.self.now.trips.items ++ z ∷ []) (same ∙ c.trip_of-trip.ensures.trip) in
     let last = c.newest-self.ensures h (sym (history-length lines i (omega (arith, c.requires.below)))) is.last_is in
     let nodes = c.note_node.ensures.nodes more tell is.last_is is.nodes_are in
-    let new : AgreementTracker = record { trips = c.note_trip.new.trips; last = c.newest-self.result; nodes = c.note_node.new.nodes; settled = c.args.self.now.settled } in
-    subst (λ (k : List Line). AgreementIs count k new) (sym more) (agreement-next count h (line_of noted) c.args.self.now new is trips last nodes c.note_node.ensures.many)
+    let new : AgreementTracker = record {
+      trips = c.note_trip.new.trips;
+      last = c.newest-self.result;
+      nodes = c.note_node.new.nodes;
+      settled = c.args.self.now.settled;
+    } in
+    subst (λ (k : List Line). AgreementIs count k new) (sym more) (agreement-next count h (line_of noted) c.args.self.now new is trips last nodes
+    c.note_node.ensures.many)
 
 pub trip_of-trip-requires-clause-told : goal.trip_of-trip-requires-clause-told
 trip_of-trip-requires-clause-told c = told_take c.args.lines.now c.args.index c.requires.told

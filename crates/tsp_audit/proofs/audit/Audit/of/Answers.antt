@@ -9,8 +9,10 @@ use Rattle.tsp_audit.proofs.audit.Audit.of.Goals as goal
 pub returns-in-Ok-look_through : goal.returns-in-Ok-look_through
 returns-in-Ok-look_through c header told stand dated ends =
     let nodes : c.nodes.result.now ≡ header.nodes = c.nodes.ensures.nodes ∙ ap (λ (h : HeaderValue). h.nodes) (c.header.ensures ∙ stand.header_is) in
-    let none : RememberedStands c.args.premises header [] c.in-Ok.notes = c.in-Ok.ensures c.args.premises header (ap (λ (ns : List NodeLine). length ns) (sym nodes)) in
-    let first : IsFoundOfAll c.args.premises header told c.look_through.new.notes c.in-Ok-look_through.failed = c.in-Ok-look_through.ensures header told stand dated ends none in
+    let none : RememberedStands c.args.premises header [] c.in-Ok.notes = c.in-Ok.ensures c.args.premises header
+    (ap (λ (ns : List NodeLine). length ns) (sym nodes)) in
+    let first : IsFoundOfAll c.args.premises header told c.look_through.new.notes c.in-Ok-look_through.failed =
+    c.in-Ok-look_through.ensures header told stand dated ends none in
     record {
       claims_stand = stand;
       premises_are = refl;

@@ -15,9 +15,11 @@ invariant_of-self-2 c =
     let yes : FitsHere c.args.self.now c.args.line = search rules in
     let room : lines_told c.args.self.now < most_lines = search rules in
     let more_is : c.push_reserved.new.self.items ≡ i.pending.items ++ c.args.line ∷ [] = search rules in
-    let stand : ClaimsStand i.claims.header (claims_on i.events.items i.ends.items i.claims) c.count.new.self = c.count.ensures.stand i.claims.header (claims_on i.events.items i.ends.items i.claims) c.self.invariant.stand in
+    let stand : ClaimsStand i.claims.header (claims_on i.events.items i.ends.items i.claims) c.count.new.self =
+    c.count.ensures.stand i.claims.header (claims_on i.events.items i.ends.items i.claims) c.self.invariant.stand in
     subst (λ h. Sound h i.events.items c.count.new.self i.ends.items c.push_reserved.new.self.items i.premises) (sym stand.header_is)
-    (Sound-added i.claims.header i.events.items i.claims i.ends.items i.pending.items i.premises c.self.invariant c.args.line c.push_reserved.new.self.items c.count.new.self stand
+    (Sound-added i.claims.header i.events.items i.claims i.ends.items i.pending.items i.premises c.self.invariant c.args.line c.push_reserved.new.self.items
+    c.count.new.self stand
     (subst (λ v. FitsHere v c.args.line) (sym c.self.view_is) yes)
     (subst (λ v. lines_told v < most_lines) (sym c.self.view_is) room)
     more_is c.count.ensures.counted)
@@ -28,6 +30,8 @@ returns c =
     let yes : FitsHere c.args.self.now c.args.line = search rules in
     let room : lines_told c.args.self.now < most_lines = search rules in
     let more_is : c.push_reserved.new.self.items ≡ i.pending.items ++ c.args.line ∷ [] = search rules in
-    let stand : ClaimsStand i.claims.header (claims_on i.events.items i.ends.items i.claims) c.count.new.self = c.count.ensures.stand i.claims.header (claims_on i.events.items i.ends.items i.claims) c.self.invariant.stand in
-    let added = view-added i.claims.header i.events.items i.claims i.ends.items i.pending.items i.premises c.self.invariant c.args.line c.push_reserved.new.self.items c.count.new.self stand more_is in
+    let stand : ClaimsStand i.claims.header (claims_on i.events.items i.ends.items i.claims) c.count.new.self =
+    c.count.ensures.stand i.claims.header (claims_on i.events.items i.ends.items i.claims) c.self.invariant.stand in
+    let added = view-added i.claims.header i.events.items i.claims i.ends.items i.pending.items i.premises c.self.invariant c.args.line
+    c.push_reserved.new.self.items c.count.new.self stand more_is in
     (yes, room, added ∙ ap (λ v. told_more v c.args.line) c.self.view_is)

@@ -7,7 +7,8 @@ pub invariant_of-result : goal.invariant_of-result
 invariant_of-result c =
     let stand = c.in_ok-claims.ensures.stand in
     subst (λ h. Sound h c.args.events.items c.in_ok-claims.claims c.new-2.result.items c.new-3.result.items c.all_kept.result) (sym stand.header_is)
-    (Sound-begun c.args.header c.args.events.items c.in_ok-claims.claims c.new-2.result.items c.new-3.result.items c.all_kept.result c.requires.header c.requires.listed stand
+    (Sound-begun c.args.header c.args.events.items c.in_ok-claims.claims c.new-2.result.items c.new-3.result.items c.all_kept.result c.requires.header
+    c.requires.listed stand
     c.new-2.ensures.items c.new-3.ensures.items c.in_ok-claims.ensures.counted (c.all_kept.ensures c.args.header))
 
 pub returns : goal.returns

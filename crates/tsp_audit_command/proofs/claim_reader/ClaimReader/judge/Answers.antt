@@ -10,7 +10,9 @@ returns c =
     let i = c.self.inside in
     let s = c.self.invariant in
     let passed : List Claim = claims_on i.events.items i.ends.items i.claims in
-    let ends : EndsAt i.claims.header passed c.as_slice.result.now = subst (λ (t : List ℕ). EndsAt i.claims.header passed t) (sym c.as_slice.ensures.value) s.ends_at in
+    let ends : EndsAt i.claims.header passed c.as_slice.result.now = subst (λ (t : List ℕ). EndsAt i.claims.header passed t) (sym c.as_slice.ensures.value)
+    s.ends_at in
     let audit : AuditStands i.premises i.claims.header passed c.in_ok-audit.audit = c.in_ok-audit.ensures i.claims.header passed s.stand s.dated ends in
-    let found : GivesVerdict i.claims.header passed c.failure.result = c.failure.ensures _ i.claims.header passed (subst (λ p. AuditStands p i.claims.header passed c.in_ok-audit.audit) s.premises_are audit) in
+    let found : GivesVerdict i.claims.header passed c.failure.result = c.failure.ensures _ i.claims.header passed
+    (subst (λ p. AuditStands p i.claims.header passed c.in_ok-audit.audit) s.premises_are audit) in
     subst (λ (v : ClaimReaderValue). GivesVerdict v.header v.passed c.failure.result) c.self.view_is found

@@ -11,4 +11,5 @@ returns-in-Err c =
 pub loop-preserved : goal.loop-preserved
 loop-preserved c =
     let left : suc (c.args.count - (c.loop.counter + 1)) ≡ c.args.count - c.loop.counter = omega arith in
-    sym (passes-next (c.args.count - (c.loop.counter + 1)) c.loop.self c.pass_one.new.self c.in-Ok.ensures) ∙ (ap (λ n. passes n c.loop.self) left ∙ c.loop.invariant)
+    sym (passes-next (c.args.count - (c.loop.counter + 1)) c.loop.self c.pass_one.new.self c.in-Ok.ensures) ∙
+    (ap (λ n. passes n c.loop.self) left ∙ c.loop.invariant)

@@ -10,5 +10,6 @@ returns c =
     let all : c.len.result ≡ length i.events.items = search rules in
     let done : c.len-2.result ≡ length i.ends.items = search rules in
     let left : c.len.result - c.len-2.result ≡ length v.ahead =
-    ap (λ n. n - c.len-2.result) all ∙ (ap (λ n. length i.events.items - n) done ∙ (sym (length-drop (length i.ends.items) i.events.items) ∙ ap (λ (x : ClaimReaderValue). length x.ahead) c.self.view_is)) in
+    ap (λ n. n - c.len-2.result) all ∙ (ap (λ n. length i.events.items - n) done ∙ (sym (length-drop (length i.ends.items) i.events.items) ∙
+    ap (λ (x : ClaimReaderValue). length x.ahead) c.self.view_is)) in
     subst (λ n. MatchResult c.pass.result (λ _. passes n v ≡ Some c.pass.new.self) (Unpassed (passes n v))) left c.pass.ensures

@@ -72,7 +72,8 @@ invariant_of-self-2 c =
     (let len : c.len-at.result ≡ length i.ends.items = search rules in
     c.keep_with-premises.ensures ∙ (ap (λ n. kept_with i.premises (reverse (take n c.deref-2.result.now)) c.posts.result.now e) len
     ∙ (ap (λ es. kept_with i.premises (reverse (take (length i.ends.items) es)) c.posts.result.now e) c.deref-2.ensures.value
-    ∙ ap (λ ps. kept_with i.premises (reverse (take (length i.ends.items) i.events.items)) ps e) (c.posts.ensures i.claims.header passed c.self.invariant.stand)))) in
+    ∙ ap (λ ps. kept_with i.premises (reverse (take (length i.ends.items) i.events.items)) ps e)
+    (c.posts.ensures i.claims.header passed c.self.invariant.stand)))) in
     let fresh : c.add.new.self.tally ≡ untold = search rules in
     subst (λ h. Sound h i.events.items c.add.new.self c.push_reserved.new.self.items c.clear.new.self.items c.keep_with-premises.result) (sym stand.header_is)
     (Sound-passed i.claims.header i.events.items i.claims i.ends.items i.pending.items i.premises c.self.invariant e at none c.add.new.self

@@ -5,7 +5,12 @@ use Rattle.tsp_base.proofs.header.Header.net.Goals as goal
 pub invariant_of-self : goal.invariant_of-self
 invariant_of-self c =
     rw (c.push.ensures.items, c.in-Some.ensures.value)
-    (IsHeader-joined_maybe _ (record { drift = c.self.inside.drift; strict = c.self.inside.strict; nodes = c.self.inside.nodes.items; nets = c.self.inside.nets.items }) c.args.nodes.now c.self.invariant (search rules) (search rules))
+    (IsHeader-joined_maybe _ (record {
+      drift = c.self.inside.drift;
+      strict = c.self.inside.strict;
+      nodes = c.self.inside.nodes.items;
+      nets = c.self.inside.nets.items;
+    }) c.args.nodes.now c.self.invariant (search rules) (search rules))
 
 pub returns-in_default : goal.returns-in_default
 returns-in_default c =

@@ -3,4 +3,8 @@ use Rattle.tsp_claims.{proofs.StandLemmas.of-fields, specs.Fitting.FitsAfter, sp
 use Rattle.tsp_claims.proofs.claims.Claims.event.Goals as goal
 
 pub returns-in-Some : goal.returns-in-Some
-returns-in-Some c = λ header claims s. (of-fields header claims c.args.self.now s (λ h ps u n. Misfits (FitsAfter h ps u n) c.args.e.now untold c.args.acts.now c.in-Some.index) c.in-Some.ensures, s)
+returns-in-Some c = λ header claims s. (
+  of-fields header claims c.args.self.now s (λ h ps u n. Misfits (FitsAfter h ps u n) c.args.e.now untold c.args.acts.now
+      c.in-Some.index) c.in-Some.ensures,
+  s,
+)

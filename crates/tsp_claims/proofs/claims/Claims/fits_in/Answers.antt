@@ -15,7 +15,8 @@ pub returns-in-Some : goal.returns-in-Some
 returns-in-Some c =
     let self = c.args.self.now in
     let o : Option Step = step_at self.header self.posts.items (up_in self.up.items) c.args.e.now in
-    subst (λ p. IsTrue c.fits_at.result ↔ LineFitsIn self.header self.posts.items (up_in self.up.items) (self.events + 1) c.args.e.now c.args.tally p c.args.line.now)
+    subst (λ p. IsTrue c.fits_at.result ↔ LineFitsIn self.header self.posts.items (up_in self.up.items) (self.events + 1) c.args.e.now c.args.tally p
+    c.args.line.now)
     (sym (acts-in self.header o c.in-Some.step (subst (λ s. ActsIn self.header o s) c.in-Some.is c.requires.step)).step_is)
     c.fits_at.ensures
 
@@ -23,7 +24,8 @@ pub returns-in-None : goal.returns-in-None
 returns-in-None c =
     let self = c.args.self.now in
     let o : Option Step = step_at self.header self.posts.items (up_in self.up.items) c.args.e.now in
-    let none : IsTrue false ↔ LineFitsIn self.header self.posts.items (up_in self.up.items) (self.events + 1) c.args.e.now c.args.tally None c.args.line.now = search rules in
+    let none : IsTrue false ↔ LineFitsIn self.header self.posts.items (up_in self.up.items) (self.events + 1) c.args.e.now c.args.tally None c.args.line.now =
+    search rules in
     subst (λ p. IsTrue false ↔ LineFitsIn self.header self.posts.items (up_in self.up.items) (self.events + 1) c.args.e.now c.args.tally p c.args.line.now)
     (sym (acts-out self.header o (subst (λ s. ActsIn self.header o s) c.in-None.is c.requires.step)))
     none

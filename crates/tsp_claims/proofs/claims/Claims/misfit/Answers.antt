@@ -10,7 +10,8 @@ returns-then-not-fits_in c =
     let self = c.args.self.now in
     let fits : Event → Tally → Line2 → Type 0 = FitsAfter self.header self.posts.items (up_in self.up.items) (self.events + 1) in
     let no : ¬ fits c.args.e.now c.loop-i.tally c.index-lines-i.result = search rules in
-    left-misfits fits c.args.e.now c.loop-i.tally c.loop-i.i c.args.lines.now c.loop-i.invariant.left c.index-lines-i.result (omega arith) (sym c.index-lines-i.is) no
+    left-misfits fits c.args.e.now c.loop-i.tally c.loop-i.i c.args.lines.now c.loop-i.invariant.left c.index-lines-i.result (omega arith)
+    (sym c.index-lines-i.is) no
 
 pub loop-i-preserved : goal.loop-i-preserved
 loop-i-preserved c =
@@ -18,9 +19,11 @@ loop-i-preserved c =
     let fits : Event → Tally → Line2 → Type 0 = FitsAfter self.header self.posts.items (up_in self.up.items) (self.events + 1) in
     let yes : fits c.args.e.now c.loop-i.tally c.index-lines-i.result = search rules in
     record {
-      posts = (let counted_is = ap (λ t. t.posts) c.count.ensures in let few = claims_of_step-few c.index-lines-i.result.placed.act in let so_far = c.loop-i.invariant.posts in omega (arith, counted_is, few, so_far));
+      posts = (let counted_is = ap (λ t. t.posts) c.count.ensures in let few = claims_of_step-few c.index-lines-i.result.placed.act in
+          let so_far = c.loop-i.invariant.posts in omega (arith, counted_is, few, so_far));
       left = subst (λ t. Left fits c.args.e.now t (c.loop-i.i + 1) c.args.lines.now) (sym c.count.ensures)
-          (left-next fits c.args.e.now c.loop-i.tally c.loop-i.i c.args.lines.now c.loop-i.invariant.left c.index-lines-i.result (omega arith) (sym c.index-lines-i.is) yes);
+          (left-next fits c.args.e.now c.loop-i.tally c.loop-i.i c.args.lines.now c.loop-i.invariant.left c.index-lines-i.result (omega arith)
+          (sym c.index-lines-i.is) yes);
     }
 
 pub returns-then-lacks : goal.returns-then-lacks

@@ -6,4 +6,5 @@ pub returns-clause-taken : goal.returns-clause-taken
 returns-clause-taken c header claims s =
     let self = c.args.self.now in
     let step = step_at self.header self.posts.items (up_in self.up.items) c.args.e.now in
-    ClaimsStand-taken header claims c.args.e.now c.args.acts.now c.in_ok-held.held self c.make_room.new.self c.join.new.self c.make_room.ensures.same c.join.ensures (c.in_ok-held.ensures self.header step c.requires.step) s
+    ClaimsStand-taken header claims c.args.e.now c.args.acts.now c.in_ok-held.held self c.make_room.new.self c.join.new.self c.make_room.ensures.same
+    c.join.ensures (c.in_ok-held.ensures self.header step c.requires.step) s

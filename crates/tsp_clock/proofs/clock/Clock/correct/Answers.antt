@@ -31,4 +31,5 @@ returns c =
     let arg : to_z w64 (of_z w64 c.args.target) ≡ c.args.target = to_z-of_z c.ranges.target in
     let rest : to_z w64 (of_z w64 c.args.rest) ≡ c.args.rest = to_z-of_z c.ranges.rest in
     let is : r ≡ c.args.target -ℤ pos c.args.tick = c.offset_at.ensures.value ∙ ap (λ z. z -ℤ pos c.args.tick) arg in
-    rw (back, rest, is) (ap (λ n. record { offset = c.args.target -ℤ pos c.args.tick; rest = c.args.rest; at = c.args.tick; ticket = (n + 1) % 32768 }) (ap (λ v. v.ticket) c.self.view_is))
+    rw (back, rest, is) (ap (λ n. record { offset = c.args.target -ℤ pos c.args.tick; rest = c.args.rest; at = c.args.tick; ticket = (n + 1) % 32768 })
+    (ap (λ v. v.ticket) c.self.view_is))

@@ -19,14 +19,16 @@ returns g c = record {
       let shown_back : to_z w64 (of_z w64 s) ≡ s = to_z-of_z fits in
       let clock : c.adjust_in_range-stepped.new.self ≡ adjusted now x amount = let e = c.adjust_in_range-stepped.ensures.clock in rw back at e in
       let stepped : c.adjust_in_range-stepped.result ≡ is_step amount = let e = c.adjust_in_range-stepped.ensures.stepped in rw back at e in
-      let is : s ≡ (if is_step amount then target_of now x +ℤ amount else shown_of now x) = c.shown-shown.ensures ∙ ap (λ v. shown_of v x) clock ∙ shown_adjusted now x amount in
+      let is : s ≡ (if is_step amount then target_of now x +ℤ amount else shown_of now x) = c.shown-shown.ensures ∙ ap (λ v. shown_of v x) clock ∙
+      shown_adjusted now x amount in
       let put = c.put.ensures.acts in
       record {
         acts = λ past h.
             let o = h.offset_is in
             let r = h.rest_is in
             let a = h.at_is in
-            let told : (if is_step amount then target_of now x +ℤ amount else shown_of now x) ≡ (if is_step amount then target (plain past.seen) x +ℤ amount else shown (plain past.seen) x) = rw (o, r, a) refl in
+            let told : (if is_step amount then target_of now x +ℤ amount else shown_of now x) ≡
+            (if is_step amount then target (plain past.seen) x +ℤ amount else shown (plain past.seen) x) = rw (o, r, a) refl in
             rw (back, stepped, shown_back, is, told) at put;
         stands = λ past h. rw clock (Stands_adjusts amount x past now h);
       };

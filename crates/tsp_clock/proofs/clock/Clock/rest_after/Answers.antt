@@ -13,7 +13,8 @@ overflow_add-result c =
     let fits : SFits w64 c.rest.result = search rules in
     let back : to_z w64 (of_z w64 c.rest.result) ≡ c.rest.result = to_z-of_z fits in
     let arg : to_z w64 (of_z w64 c.args.amount) ≡ c.args.amount = to_z-of_z c.ranges.amount in
-    rw (back, arg, c.rest.ensures.value) (left_fits (target_of now x) (slew_rest now x) c.args.amount x c.requires.tick c.requires.range c.rest.ensures.low c.rest.ensures.high)
+    rw (back, arg, c.rest.ensures.value) (left_fits (target_of now x) (slew_rest now x) c.args.amount x c.requires.tick c.requires.range c.rest.ensures.low
+    c.rest.ensures.high)
 
 pub returns-then-is_step : goal.returns-then-is_step
 returns-then-is_step c =

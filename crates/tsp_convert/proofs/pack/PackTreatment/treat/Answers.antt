@@ -8,5 +8,6 @@ use Rattle.tsp_convert.proofs.pack.PackTreatment.treat.Goals as goal
 pub returns-in-Ok-clause-treats : goal.returns-in-Ok-clause-treats
 returns-in-Ok-clause-treats g c = λ lines text s a room.
     let h = c.hand_over.ensures in
-    let more = Converts-more IsLineOf (λ d. encode_lower (canon d)) lines text c.args.line.now _ c.in-Ok.ensures.1.0 a c.in-Ok.ensures.1.1 c.in-Ok.ensures.1.2 in
+    let more = Converts-more IsLineOf (λ d. encode_lower (canon d)) lines text c.args.line.now _ c.in-Ok.ensures.1.0 a c.in-Ok.ensures.1.1 c.in-Ok.ensures.1.2
+    in
     Goes-or_StopsAt pack_meaning (λ _. ⊤) lines text c.args.line.now _ _ _ _ _ c.hand_over.result h.ok h.err h.stop more tt

@@ -23,5 +23,6 @@ returns-in-Some-clause-peers c =
 pub returns-in_default-clause-last : goal.returns-in_default-clause-last
 returns-in_default-clause-last c q = absurd (by_result c.place_of.result (λ i e. c.in_default.not-Some i e) c.place_of.ensures) where
   by_result : (r : Option ℕ) → ((i : ℕ) → r ≡ Some i → ⊥) → r ≡ position (λ (d : Dated). d.peer.0 == c.args.peer.0) c.as_slice.result.now → ⊥
-  by_result None n e = never_missing c.args.self.now.dated c.args.peer c.requires (sym (rw (c.as_slice.ensures.value, ap (λ (v : DatesValue). v.dated) c.self.view_is) at e))
+  by_result None n e = never_missing c.args.self.now.dated c.args.peer c.requires
+      (sym (rw (c.as_slice.ensures.value, ap (λ (v : DatesValue). v.dated) c.self.view_is) at e))
   by_result (Some i) n e = n i refl

@@ -17,8 +17,11 @@ loop-q-preserved c k lt =
     let len : vec_len c.self.inside.ports ≡ length c.self.inside.ports.items = search rules in
     let end = c.len-q-end.ensures in
     let inside : c.loop-q.q < length c.self.inside.ports.items = omega (arith, len, end, c.loop-q-test.true) in
-    let is : c.index.result.now ≡ get_or c.args.self.now.ports c.loop-q.q no_port = c.index.ensures ∙ same-get c.self.inside.ports.items c.loop-q.q c.index.result.now no_port inside ∙ ap (λ (ps : List PortSetup). get_or ps c.loop-q.q no_port) (sym ports) in
-    one_more (λ j. IsPortSetup (get_or c.args.self.now.ports j no_port)) c.loop-q.q c.loop-q.invariant (subst IsPortSetup is (c.is_port.ensures.0 c.if-not-is_port.false)) k lt
+    let is : c.index.result.now ≡ get_or c.args.self.now.ports c.loop-q.q no_port = c.index.ensures ∙
+    same-get c.self.inside.ports.items c.loop-q.q c.index.result.now no_port inside ∙
+    ap (λ (ps : List PortSetup). get_or ps c.loop-q.q no_port) (sym ports) in
+    one_more (λ j. IsPortSetup (get_or c.args.self.now.ports j no_port)) c.loop-q.q c.loop-q.invariant
+    (subst IsPortSetup is (c.is_port.ensures.0 c.if-not-is_port.false)) k lt
 
 pub returns-then-not-is_port-clause-value : goal.returns-then-not-is_port-clause-value
 returns-then-not-is_port-clause-value c =
@@ -26,8 +29,14 @@ returns-then-not-is_port-clause-value c =
     let len : vec_len c.self.inside.ports ≡ length c.self.inside.ports.items = search rules in
     let end = c.len-q-end.ensures in
     let inside : c.loop-q.q < length c.self.inside.ports.items = omega (arith, len, end, c.loop-q-test.true) in
-    let is : c.index.result.now ≡ get_or c.args.self.now.ports c.loop-q.q no_port = c.index.ensures ∙ same-get c.self.inside.ports.items c.loop-q.q c.index.result.now no_port inside ∙ ap (λ (ps : List PortSetup). get_or ps c.loop-q.q no_port) (sym ports) in
-    (λ e. absurd (false≢true e), λ all. sym c.if-not-is_port.true ∙ c.is_port.ensures.1 (subst IsPortSetup (sym is) (port_in_place c.args.self.now.ports c.loop-q.q all (subst (λ (ps : List PortSetup). c.loop-q.q < length ps) (sym ports) inside))))
+    let is : c.index.result.now ≡ get_or c.args.self.now.ports c.loop-q.q no_port = c.index.ensures ∙
+    same-get c.self.inside.ports.items c.loop-q.q c.index.result.now no_port inside ∙
+    ap (λ (ps : List PortSetup). get_or ps c.loop-q.q no_port) (sym ports) in (
+      λ e. absurd (false≢true e),
+      λ all. sym c.if-not-is_port.true ∙ c.is_port.ensures.1
+          (subst IsPortSetup (sym is) (port_in_place c.args.self.now.ports c.loop-q.q all (subst (λ (ps : List PortSetup). c.loop-q.q < length ps) (sym ports)
+          inside))),
+    )
 
 pub returns-clause-value : goal.returns-clause-value
 returns-clause-value c =

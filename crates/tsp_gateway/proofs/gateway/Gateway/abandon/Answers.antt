@@ -16,10 +16,12 @@ unfolding abandons_on on abandons_going either_by abandons puts nothing
 returns-clause-row g c x =
     let there = part_there c.args.self.now c.args.r c.index_mut.result.now c.requires.port c.index_mut.ensures.value in
     All_same (abandons_on (port_at c.args.r)) (λ past h. placed-where (port_at c.args.r) _)
-    (All_here c.abandon.new.self (emits_built refl built_abandons_going) there refl refl (rw c.port_at.ensures at (c.abandon.ensures.row x c.args.self.now.clock)))
+    (All_here c.abandon.new.self (emits_built refl built_abandons_going) there refl refl
+    (rw c.port_at.ensures at (c.abandon.ensures.row x c.args.self.now.clock)))
 
 pub returns-clause-ports : goal.returns-clause-ports
-returns-clause-ports g c = ports_set c.args.self.now.ports.items c.args.r c.index_mut.result.now c.abandon.new.self (part_there c.args.self.now c.args.r c.index_mut.result.now c.requires.port c.index_mut.ensures.value) c.abandon.ensures.peers
+returns-clause-ports g c = ports_set c.args.self.now.ports.items c.args.r c.index_mut.result.now c.abandon.new.self
+    (part_there c.args.self.now c.args.r c.index_mut.result.now c.requires.port c.index_mut.ensures.value) c.abandon.ensures.peers
 
 pub invariant_of-self : goal.invariant_of-self
 invariant_of-self g c = record { some = c.args.self.now.some; few = c.args.self.now.few; memory = c.args.self.now.memory }

@@ -18,7 +18,8 @@ loop-r-preserved g c =
     let inside : r < n = omega (arith, len, c.len-r-end.ensures, c.loop-r-test.true) in
     elim c.if-is_upset.branch [
       | then-is_upset w ↦ rw (w.self-is, w.desk-is) (record {
-        row = λ x last new d. i.row x last new (next_port abandons_on c.args.whole c.args.q r n x inside (sym c.is_upset.ensures ∙ w.if-is_upset.true) (w.abandon.ensures.row x) d);
+        row = λ x last new d. i.row x last new (next_port abandons_on c.args.whole c.args.q r n x inside (sym c.is_upset.ensures ∙
+            w.if-is_upset.true) (w.abandon.ensures.row x) d);
         ports = w.abandon.ensures.ports ∙ i.ports;
         clock = w.abandon.ensures.clock ∙ i.clock;
         room = record { spare = omega (arith, i.room.spare, w.abandon.ensures.room.spare); few = omega (arith, i.room.few, w.abandon.ensures.room.few) };
@@ -37,7 +38,8 @@ returns-clause-row g c x =
     let len : vec_len old.ports ≡ length old.ports.items = search rules in
     let end = c.len-r-end.ensures in
     upset_all abandons_on c.args.whole c.args.q x (λ past h. h)
-    (c.loop-r.invariant.row x c.loop-r.self (g.D.Desk.acts c.loop-r.desk) (last_port abandons_on c.args.whole c.args.q c.loop-r.r (length old.ports.items) x (omega (arith, len, end, c.loop-r-test.false)) (λ past h. h)))
+    (c.loop-r.invariant.row x c.loop-r.self (g.D.Desk.acts c.loop-r.desk) (last_port abandons_on c.args.whole c.args.q c.loop-r.r (length old.ports.items) x
+    (omega (arith, len, end, c.loop-r-test.false)) (λ past h. h)))
 
 pub abandon-requires : goal.abandon-requires
 abandon-requires g c =

@@ -18,7 +18,8 @@ returns-then-is c past h =
     let len : vec_len c.args.self.now.ports ≡ length c.args.self.now.ports.items = search rules in
     let count = h.many in
     let end = c.len-r-end.ensures in
-    sym (other_some c.args.asked c.args.q past c.loop-r.r c.if-r-q.true (omega (arith, len, count, end, c.loop-r-test.true)) (sym (c.is.ensures past h) ∙ c.if-is.true))
+    sym (other_some c.args.asked c.args.q past c.loop-r.r c.if-r-q.true (omega (arith, len, count, end, c.loop-r-test.true)) (sym (c.is.ensures past h) ∙
+    c.if-is.true))
 
 pub returns : goal.returns
 returns c past h =

@@ -11,7 +11,8 @@ returns-clause-row g c =
     All_here c.begin.new.self (emits_built refl built_starts) there refl refl (rw c.port_at.ensures at (c.begin.ensures.row c.args.self.now.clock))
 
 pub returns-clause-ports : goal.returns-clause-ports
-returns-clause-ports g c = ports_set c.args.self.now.ports.items c.args.q c.index_mut.result.now c.begin.new.self (part_there c.args.self.now c.args.q c.index_mut.result.now c.requires.port c.index_mut.ensures.value) c.begin.ensures.peers
+returns-clause-ports g c = ports_set c.args.self.now.ports.items c.args.q c.index_mut.result.now c.begin.new.self
+    (part_there c.args.self.now c.args.q c.index_mut.result.now c.requires.port c.index_mut.ensures.value) c.begin.ensures.peers
 
 pub invariant_of-self : goal.invariant_of-self
 invariant_of-self g c = record { some = c.args.self.now.some; few = c.args.self.now.few; memory = c.args.self.now.memory }

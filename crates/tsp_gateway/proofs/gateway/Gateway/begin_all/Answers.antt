@@ -42,7 +42,8 @@ returns-clause-row g c =
     let end = c.len-q-end.ensures in
     All_same (reading_all all_ports (for_ports boots_on)) (λ past h. refl)
     (upset_all boots_on true 0 c.args.tick (λ past h. h)
-    (c.loop-q.invariant.row c.loop-q.self (g.D.Desk.acts c.loop-q.desk) (last_port boots_on true 0 c.loop-q.q (length old.ports.items) c.args.tick (omega (arith, len, end, c.loop-q-test.false)) (λ past h. h))))
+    (c.loop-q.invariant.row c.loop-q.self (g.D.Desk.acts c.loop-q.desk) (last_port boots_on true 0 c.loop-q.q (length old.ports.items) c.args.tick
+    (omega (arith, len, end, c.loop-q-test.false)) (λ past h. h))))
 
 pub returns-clause-room : goal.returns-clause-room
 returns-clause-room g c =

@@ -14,7 +14,8 @@ returns-clause-row g c =
 
 pub begin_all-requires-clause-room : goal.begin_all-requires-clause-room
 begin_all-requires-clause-room g c =
-    let many : length (ports_in c.in_ok-gateway.gateway) ≡ length c.args.config.now.ports = ap length c.in_ok-gateway.ensures.ok.2 ∙ length-map c.args.config.now.ports _ in
+    let many : length (ports_in c.in_ok-gateway.gateway) ≡ length c.args.config.now.ports = ap length c.in_ok-gateway.ensures.ok.2 ∙
+    length-map c.args.config.now.ports _ in
     omega (arith, many, c.put.ensures.spare, c.requires.room, c.requires.ports)
 
 pub returns-clause-ok : goal.returns-clause-ok
@@ -25,7 +26,8 @@ returns-clause-ok g c =
 
 pub returns-clause-room : goal.returns-clause-room
 returns-clause-room g c =
-    let many : length (ports_in c.in_ok-gateway.gateway) ≡ length c.args.config.now.ports = ap length c.in_ok-gateway.ensures.ok.2 ∙ length-map c.args.config.now.ports _ in
+    let many : length (ports_in c.in_ok-gateway.gateway) ≡ length c.args.config.now.ports = ap length c.in_ok-gateway.ensures.ok.2 ∙
+    length-map c.args.config.now.ports _ in
     let one = ap length c.put.ensures.acts ∙ length-append (g.D.Desk.acts c.args.desk.now) _ in
     let room = c.begin_all.ensures.room in
     record { spare = omega (arith, many, c.put.ensures.spare, room.spare, c.requires.ports); few = omega (arith, many, one, room.few, c.requires.ports) }

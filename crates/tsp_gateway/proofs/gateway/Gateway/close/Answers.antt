@@ -17,9 +17,12 @@ returns-then-ring g c = record {
       let there = part_there c.args.self.now q c.index_mut.result.now c.requires.port c.index_mut.ensures.value in
       let turn : IsInTurn CloseAlarm c.index_mut.result.now.station.alarms c.args.tick = λ e. c.requires.order c.index_mut.result.now there in
       All_reading (leads_clock (port_at q)) (closes_on (port_at q)) own (λ past h. sym (c.leads_clock-own.ensures c.args.tick past h.stands))
-      (All_upset c.ring.new.self (rings own false CloseAlarm) (emits_rings own false CloseAlarm) (λ past w. sym (c.ring.ensures.corrects turn (on_port (port_at q) past) (untaken_there _ q past c.args.self.now c.index_mut.result.now there w)) ∙ c.if-ring.true)
+      (All_upset c.ring.new.self (rings own false CloseAlarm) (emits_rings own false CloseAlarm)
+      (λ past w. sym (c.ring.ensures.corrects turn (on_port (port_at q) past) (untaken_there _ q past c.args.self.now c.index_mut.result.now there w)) ∙
+      c.if-ring.true)
       there refl refl (rw c.port_at.ensures at (c.ring.ensures.row turn)) (c.upset.ensures.row c.args.tick));
-  ports = c.upset.ensures.ports ∙ ports_set c.args.self.now.ports.items c.args.q c.index_mut.result.now c.ring.new.self (part_there c.args.self.now c.args.q c.index_mut.result.now c.requires.port c.index_mut.ensures.value) c.ring.ensures.peers;
+  ports = c.upset.ensures.ports ∙ ports_set c.args.self.now.ports.items c.args.q c.index_mut.result.now c.ring.new.self
+      (part_there c.args.self.now c.args.q c.index_mut.result.now c.requires.port c.index_mut.ensures.value) c.ring.ensures.peers;
   clock = omega (arith, c.upset.ensures.clock, c.ring.ensures.clock);
   room =
       let there = part_there c.args.self.now c.args.q c.index_mut.result.now c.requires.port c.index_mut.ensures.value in
@@ -44,7 +47,8 @@ returns-else-ring g c =
       row = All_reading (leads_clock (port_at q)) (closes_on (port_at q)) own (λ past h. sym (c.leads_clock-own.ensures c.args.tick past h.stands))
           (All_calm c.ring.new.self (rings own false CloseAlarm) (emits_rings own false CloseAlarm)
           (λ past w.
-          sym (c.ring.ensures.corrects turn (on_port (port_at q) past) (untaken_there _ q past c.args.self.now c.index_mut.result.now there w)) ∙ c.if-ring.false)
+          sym (c.ring.ensures.corrects turn (on_port (port_at q) past) (untaken_there _ q past c.args.self.now c.index_mut.result.now there w)) ∙
+          c.if-ring.false)
           there refl refl (rw c.port_at.ensures at (c.ring.ensures.row turn)));
       ports = ports_set c.args.self.now.ports.items q c.index_mut.result.now c.ring.new.self there c.ring.ensures.peers;
       clock = c.ring.ensures.clock;

@@ -9,7 +9,10 @@ use Rattle.tsp_gateway.proofs.gateway.Gateway.forward.Goals as goal
 use Rattle.tsp_gateway.proofs.gateway.Gateway.forward.Goals.{then-r-q, else-r-q}
 
 pub loop-r-init : goal.loop-r-init
-loop-r-init g c = let none = no_peers (ports_in c.args.self.now) in record { row = λ x last new d. d; room = record { spare = omega (arith, none); few = omega (arith, none) } }
+loop-r-init g c = let none = no_peers (ports_in c.args.self.now) in record {
+  row = λ x last new d. d;
+  room = record { spare = omega (arith, none); few = omega (arith, none) };
+}
 
 pub forward_on-requires : goal.forward_on-requires
 forward_on-requires g c =
@@ -33,11 +36,16 @@ loop-r-preserved g c =
     let more = peers_more r ps among in
     elim c.if-r-q.branch [
       | then-r-q w ↦ rw w.desk-is (record {
-        row = λ x last new d. i.row x last new (next_port (reposts_on c.args.m.now) false c.args.q r n x inside (let other = ne_eqb r c.args.q w.if-r-q.true in rw other refl) (w.forward_on.ensures.row x) d);
-        room = record { spare = omega (arith, more, i.room.spare, w.forward_on.ensures.room.spare); few = omega (arith, more, i.room.few, w.forward_on.ensures.room.few) };
+        row = λ x last new d. i.row x last new (next_port (reposts_on c.args.m.now) false c.args.q r n x inside (let other = ne_eqb r c.args.q w.if-r-q.true in
+            rw other refl) (w.forward_on.ensures.row x) d);
+        room = record {
+          spare = omega (arith, more, i.room.spare, w.forward_on.ensures.room.spare);
+          few = omega (arith, more, i.room.few, w.forward_on.ensures.room.few);
+        };
       })
       | else-r-q w ↦ rw w.desk-is (record {
-        row = λ x last new d. i.row x last new (no_port (reposts_on c.args.m.now) false c.args.q r n x inside (let same = eq-eqb r c.args.q w.if-r-q.false in rw same refl) d);
+        row = λ x last new d. i.row x last new (no_port (reposts_on c.args.m.now) false c.args.q r n x inside (let same = eq-eqb r c.args.q w.if-r-q.false in
+            rw same refl) d);
         room = record { spare = omega (arith, more, i.room.spare); few = omega (arith, more, i.room.few) };
       })
     ]
@@ -50,7 +58,8 @@ returns-clause-row g c x =
     let end = c.len-r-end.ensures in
     All_same (forwards (port_at c.args.q) c.args.m.now) (λ past h. refl)
     (upset_all (reposts_on c.args.m.now) false c.args.q x (λ past h. h)
-    (c.loop-r.invariant.row x self (g.D.Desk.acts c.loop-r.desk) (last_port (reposts_on c.args.m.now) false c.args.q c.loop-r.r (length self.ports.items) x (omega (arith, len, end, c.loop-r-test.false)) (λ past h. h))))
+    (c.loop-r.invariant.row x self (g.D.Desk.acts c.loop-r.desk) (last_port (reposts_on c.args.m.now) false c.args.q c.loop-r.r (length self.ports.items) x
+    (omega (arith, len, end, c.loop-r-test.false)) (λ past h. h))))
 
 pub returns-clause-room : goal.returns-clause-room
 returns-clause-room g c =

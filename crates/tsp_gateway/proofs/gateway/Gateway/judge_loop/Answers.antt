@@ -12,18 +12,22 @@ use Rattle.tsp_base.specs.Words.{MessageValue}
 -- what a node makes of a LOOP
 
 -- judged alike by equal names, numbers and ports
-judge_same : (own name : List ℕ) (many count : ℕ) (p q : Port) (m : MessageValue) (step : LoopStep) → own ≡ name → many ≡ count → p ≡ q → step ≡ judge own many p m → judge name count q m ≡ step
+judge_same : (own name : List ℕ) (many count : ℕ) (p q : Port) (m : MessageValue) (step : LoopStep) → own ≡ name → many ≡ count → p ≡ q → step ≡
+    judge own many p m → judge name count q m ≡ step
 judge_same own name many count p q m step e f g is = rw (sym e, sym f, sym g) (sym is)
 
 -- a LOOP that is passed on is of the same kind
 forward_kind : (own : List ℕ) (many : ℕ) (p : Port) (m next : MessageValue) → Forward next ≡ judge own many p m → next.kind ≡ m.kind
-forward_kind own many p m next is = by_case (nat_le 2 many) (same_name m.name own) (nat_lt m.number p.0) (nat_le 1 (hops_in m.body) && nat_le (hops_in m.body) HOPS) is where
-  by_case : (a b c d : Bool) → Forward next ≡ (if a then (if b then (if c then GiveUp else PassOver) else (if d then Forward (one_hop_less m) else PassOver)) else PassOver) → next.kind ≡ m.kind
-  by_case true true true d e = let bad : ⊥ = cc in absurd bad
-  by_case true true false d e = let bad : ⊥ = cc in absurd bad
-  by_case true false c true e = let same : next ≡ one_hop_less m = cc in ap (λ (n : MessageValue). n.kind) same
-  by_case true false c false e = let bad : ⊥ = cc in absurd bad
-  by_case false b c d e = let bad : ⊥ = cc in absurd bad
+forward_kind own many p m next is = by_case (nat_le 2 many) (same_name m.name own) (nat_lt m.number p.0) (nat_le 1 (hops_in m.body) && nat_le (hops_in m.body)
+    HOPS) is where
+      by_case : (a b c d : Bool) → Forward next ≡ (if a then (if b then (if c then GiveUp else PassOver) else
+          (if d then Forward (one_hop_less m) else PassOver))
+          else PassOver) → next.kind ≡ m.kind
+      by_case true true true d e = let bad : ⊥ = cc in absurd bad
+      by_case true true false d e = let bad : ⊥ = cc in absurd bad
+      by_case true false c true e = let same : next ≡ one_hop_less m = cc in ap (λ (n : MessageValue). n.kind) same
+      by_case true false c false e = let bad : ⊥ = cc in absurd bad
+      by_case false b c d e = let bad : ⊥ = cc in absurd bad
 
 -- a LOOP is judged by what the port's station and the node know
 All_judged : {x many q : ℕ} {g h : Gateway} {old new : List Placed} {part : Part} {station : Station} {p : Port} (m : MessageValue) (step : LoopStep) →

@@ -7,7 +7,8 @@ use Rattle.tsp_gateway.specs.{GatewayStands.GatewayStands, GatewayStands.port_at
 use Rattle.tsp_gateway.proofs.{AnyLemmas.lower_all, gateway.Gateway.leads_clock.Goals.After-any_lower}
 use Rattle.tsp_gateway.proofs.gateway.Gateway.leads_clock.Goals as goal
 
-none-follows : (c : After-any_lower) (past : NodePast) → GatewayStands past c.args.self.now → c.any_lower.result ≡ any_port (follows_on past) (ports_from 0 past.ports)
+none-follows : (c : After-any_lower) (past : NodePast) → GatewayStands past c.args.self.now → c.any_lower.result ≡
+    any_port (follows_on past) (ports_from 0 past.ports)
 none-follows c past h =
     let len : vec_len c.args.self.now.ports ≡ length c.args.self.now.ports.items = search rules in
     let all : c.len.result ≡ length past.ports = c.len.ensures ∙ len ∙ h.many in

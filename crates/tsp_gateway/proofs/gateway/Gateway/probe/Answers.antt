@@ -12,7 +12,8 @@ unfolding alarm_on
 returns-then-ends_probes-clause-row g c =
     let q = c.args.q in
     All_looped q (q + 1) c.ring.ensures.row
-    (All_turning q (q + 1) (q + 1) (emits_built refl (built_sends_loops (port_at q) tt)) (omega arith) (omega arith) (All_from {p = GatewayStands} (λ past w. w.stands) (c.send_loops.ensures.row c.args.tick)))
+    (All_turning q (q + 1) (q + 1) (emits_built refl (built_sends_loops (port_at q) tt)) (omega arith) (omega arith)
+    (All_from {p = GatewayStands} (λ past w. w.stands) (c.send_loops.ensures.row c.args.tick)))
     (λ past w. sym (c.probe_rings-rung.ensures past w.stands) ∙ c.if-rung.true) (λ past h. sym (c.ends_probes.ensures past h) ∙ c.if-ends_probes.true)
 
 pub returns-else-rung-clause-row : goal.returns-else-rung-clause-row
@@ -23,7 +24,8 @@ returns-else-rung-clause-row g c =
     All_loopless q (q + 1) c.ring.ensures.row (λ past w.
     let later = spread x past (on (port_at q) (rings true false Probe) x past) in
     elim c.else-rung.branch [
-      | else-rung-via-then-rung+else-ends_probes b ↦ not_last x q past later (sym (b.ends_probes.ensures later (c.ring.ensures.row.stands past w).stands) ∙ b.if-ends_probes.false)
+      | else-rung-via-then-rung+else-ends_probes b ↦ not_last x q past later (sym (b.ends_probes.ensures later (c.ring.ensures.row.stands past w).stands) ∙
+          b.if-ends_probes.false)
       | else-rung-via-else-rung b ↦ no_loops x q past later (sym (c.probe_rings-rung.ensures past w.stands) ∙ b.if-rung.false)
     ])
 

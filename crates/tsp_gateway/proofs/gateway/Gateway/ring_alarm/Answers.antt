@@ -44,7 +44,8 @@ pub ring-requires-clause-room : goal.ring-requires-clause-room
 ring-requires-clause-room g c = let few = little_room c.args.alarm (peers_at c.args.q (ports_in c.args.self.now)) in omega (arith, few, c.requires.room)
 
 pub ring-requires-in_default-clause-room : goal.ring-requires-in_default-clause-room
-ring-requires-in_default-clause-room g c = let few = little_room c.args.alarm (peers_at c.args.q (ports_in c.args.self.now)) in omega (arith, few, c.requires.room)
+ring-requires-in_default-clause-room g c = let few = little_room c.args.alarm (peers_at c.args.q (ports_in c.args.self.now)) in
+    omega (arith, few, c.requires.room)
 
 pub returns-in-Round-clause-row : goal.returns-in-Round-clause-row
 unfolding alarm_on begins_round_on

@@ -21,7 +21,9 @@ ring_alarm-requires-clause-room g c =
     let inv = c.loop-alarm.invariant in
     let peers = peers_at c.args.q (ports_in c.args.self.now) in
     let alarm = slice_index_or ALL c.loop-alarm.alarm-index Quiet in
-    let same : alarm_room (slice_index_or ALL c.loop-alarm.alarm-index Quiet) (peers_at c.args.q (ports_in c.loop-alarm.self)) ≡ alarm_room (slice_index_or ALL c.loop-alarm.alarm-index Quiet) (peers_at c.args.q (ports_in c.args.self.now)) = ap (λ ps. alarm_room alarm (peers_at c.args.q ps)) inv.ports in
+    let same : alarm_room (slice_index_or ALL c.loop-alarm.alarm-index Quiet) (peers_at c.args.q (ports_in c.loop-alarm.self)) ≡
+    alarm_room (slice_index_or ALL c.loop-alarm.alarm-index Quiet) (peers_at c.args.q (ports_in c.args.self.now)) =
+    ap (λ ps. alarm_room alarm (peers_at c.args.q ps)) inv.ports in
     let front = alarms_room-front ALL (c.loop-alarm.alarm-index + 1) (peers_at c.args.q (ports_in c.args.self.now)) in
     let more = alarms_room-next c.loop-alarm.alarm-index (peers_at c.args.q (ports_in c.args.self.now)) c.loop-alarm-test.true in
     omega (arith, same, front, more, inv.room.spare, c.requires.room)
@@ -36,7 +38,9 @@ loop-alarm-preserved g c =
     let ring = c.ring_alarm.ensures in
     let peers = peers_at c.args.q (ports_in c.args.self.now) in
     let alarm = slice_index_or ALL i Quiet in
-    let same : alarm_room (slice_index_or ALL c.loop-alarm.alarm-index Quiet) (peers_at c.args.q (ports_in c.loop-alarm.self)) ≡ alarm_room (slice_index_or ALL c.loop-alarm.alarm-index Quiet) (peers_at c.args.q (ports_in c.args.self.now)) = ap (λ ps. alarm_room alarm (peers_at c.args.q ps)) inv.ports in
+    let same : alarm_room (slice_index_or ALL c.loop-alarm.alarm-index Quiet) (peers_at c.args.q (ports_in c.loop-alarm.self)) ≡
+    alarm_room (slice_index_or ALL c.loop-alarm.alarm-index Quiet) (peers_at c.args.q (ports_in c.args.self.now)) =
+    ap (λ ps. alarm_room alarm (peers_at c.args.q ps)) inv.ports in
     let more = alarms_room-next c.loop-alarm.alarm-index (peers_at c.args.q (ports_in c.args.self.now)) c.loop-alarm-test.true in
     record {
       row = λ last new d. inv.row last new (rw (drop_next ALL i Quiet c.loop-alarm-test.true) (All_then ring.row d));
@@ -56,5 +60,6 @@ pub returns-clause-room : goal.returns-clause-room
 returns-clause-room g c =
     let inv = c.loop-alarm.invariant in
     let peers = peers_at c.args.q (ports_in c.args.self.now) in
-    let front : alarms_room (take c.loop-alarm.alarm-index ALL) (peers_at c.args.q (ports_in c.args.self.now)) ≤ alarms_room ALL (peers_at c.args.q (ports_in c.args.self.now)) = alarms_room-front ALL c.loop-alarm.alarm-index (peers_at c.args.q (ports_in c.args.self.now)) in
+    let front : alarms_room (take c.loop-alarm.alarm-index ALL) (peers_at c.args.q (ports_in c.args.self.now)) ≤ alarms_room ALL
+    (peers_at c.args.q (ports_in c.args.self.now)) = alarms_room-front ALL c.loop-alarm.alarm-index (peers_at c.args.q (ports_in c.args.self.now)) in
     record { spare = omega (arith, front, inv.room.spare); few = omega (arith, front, inv.room.few) }

@@ -19,7 +19,8 @@ returns g c =
     }
 
 pub sends-requires-clause-room : goal.sends-requires-clause-room
-sends-requires-clause-room g c = let many = peers_there c.args.self.now.ports.items c.args.q c.index_mut.result.now (part_there c.args.self.now c.args.q c.index_mut.result.now c.requires.port c.index_mut.ensures.value) in omega (arith, many, c.requires.room)
+sends-requires-clause-room g c = let many = peers_there c.args.self.now.ports.items c.args.q c.index_mut.result.now
+    (part_there c.args.self.now c.args.q c.index_mut.result.now c.requires.port c.index_mut.ensures.value) in omega (arith, many, c.requires.room)
 
 pub invariant_of-self : goal.invariant_of-self
 invariant_of-self g c = record { some = c.args.self.now.some; few = c.args.self.now.few; memory = c.args.self.now.memory }

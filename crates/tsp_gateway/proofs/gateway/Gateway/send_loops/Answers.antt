@@ -18,18 +18,23 @@ returns-clause-row g c x =
     let there = part_there c.args.self.now q c.index.result.now c.requires.port c.index.ensures in
     let kind : c.new-message.result.kind ≡ LoopKind = ap (λ (m : MessageValue). m.kind) c.new-message.ensures in
     let name = c.copy-name.ensures in
-    All_posted q (sends_loops (port_at q)) c.new-message.result kind (emits_built refl (built_sends_loops (port_at q) tt)) there (rw (c.port_at.ensures, c.station-station.ensures) at c.repost.ensures.acts)
+    All_posted q (sends_loops (port_at q)) c.new-message.result kind (emits_built refl (built_sends_loops (port_at q) tt)) there (rw (
+      c.port_at.ensures,
+      c.station-station.ensures,
+    ) at c.repost.ensures.acts)
     (λ past h.
     let s = h.port.station in
     let one : c.copy-name.result ≡ past.name = name ∙ ap (λ (st : Station). st.me.name) c.station-station.ensures ∙ s.name in
     rw (c.new-message.ensures, one, s.own, s.peers) (loops_are (port_at q) past.name (others past.own past.peers)))
 
 pub repost-requires : goal.repost-requires
-repost-requires g c = let many = station_peers c.args.self.now c.args.q c.index.result.now c.station-station.result.now c.requires.port c.index.ensures c.station-station.ensures in omega (arith, many, c.requires.room)
+repost-requires g c = let many = station_peers c.args.self.now c.args.q c.index.result.now c.station-station.result.now c.requires.port c.index.ensures
+    c.station-station.ensures in omega (arith, many, c.requires.room)
 
 pub returns-clause-room : goal.returns-clause-room
 returns-clause-room g c =
-    let many = station_peers c.args.self.now c.args.q c.index.result.now c.station-station.result.now c.requires.port c.index.ensures c.station-station.ensures in
+    let many = station_peers c.args.self.now c.args.q c.index.result.now c.station-station.result.now c.requires.port c.index.ensures c.station-station.ensures
+    in
     let room = c.repost.ensures.room in
     record { spare = omega (arith, many, room.spare); few = omega (arith, many, room.few) }
 

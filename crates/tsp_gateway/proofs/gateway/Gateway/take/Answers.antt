@@ -11,7 +11,12 @@ take_in-requires g c =
     let same = c.turn_ports.ensures.ports in
     record {
       port = subst (λ ps. q < length ps) (sym same) c.requires.port;
-      room = subst (λ ps. 2 * peers_at q ps + peers_sum ps + 24 ≤ g.D.Desk.spare c.turn_ports.new.desk) (sym same) (omega (arith, room, c.requires.room, c.turn_ports.ensures.room.spare));
+      room = subst (λ ps. 2 * peers_at q ps + peers_sum ps + 24 ≤ g.D.Desk.spare c.turn_ports.new.desk) (sym same) (omega (
+        arith,
+        room,
+        c.requires.room,
+        c.turn_ports.ensures.room.spare,
+      ));
       tick = (c.requires.tick, c.turn_ports.ensures.clock);
     }
 
@@ -24,4 +29,7 @@ returns-clause-room g c =
     let q = c.args.port.0 in
     let room = take_room q (ports_in c.args.self.now) c.requires.port in
     let took = ap (λ ps. 2 * peers_at q ps + peers_sum ps + 24) c.turn_ports.ensures.ports in
-    record { spare = omega (arith, room, took, c.turn_ports.ensures.room.spare, c.take_in.ensures.room.spare); few = omega (arith, room, took, c.turn_ports.ensures.room.few, c.take_in.ensures.room.few) }
+    record {
+      spare = omega (arith, room, took, c.turn_ports.ensures.room.spare, c.take_in.ensures.room.spare);
+      few = omega (arith, room, took, c.turn_ports.ensures.room.few, c.take_in.ensures.room.few);
+    }

@@ -16,14 +16,16 @@ returns-else-hears-clause-row g c =
     let is : c.args.taken.now ≡ Good (Message m) = search rules in
     let kind : m.kind ≡ LoopKind = sym c.kind.ensures ∙ c.in-Loop.is in
     All_row (loop_on q c.args.from m ∙ ap (takes_kind q c.args.from m) (sym kind) ∙ message_taken_on q c.args.from m ∙ ap (takes_on q c.args.from) (sym is))
-    (All_then (rw is at c.note.ensures.row) (All_reading (hears_on c.args.from q) (heeds_loop q m) false (λ past h. sym (c.hears.ensures c.args.tick past h) ∙ c.if-hears.false) All_nothing))
+    (All_then (rw is at c.note.ensures.row) (All_reading (hears_on c.args.from q) (heeds_loop q m) false (λ past h. sym (c.hears.ensures c.args.tick past h) ∙
+    c.if-hears.false) All_nothing))
 
 pub returns-in_default-kind-clause-row : goal.returns-in_default-kind-clause-row
 returns-in_default-kind-clause-row g c =
     let q = port_at c.args.q in
     let m = c.in-Good-Message.m in
     let is : c.args.taken.now ≡ Good (Message m) = search rules in
-    All_row (message_on q c.args.from m m.kind (λ e. c.in_default-kind.not-Loop (c.kind.ensures ∙ e)) ∙ message_taken_on q c.args.from m ∙ ap (takes_on q c.args.from) (sym is)) c.take_message.ensures.row
+    All_row (message_on q c.args.from m m.kind (λ e. c.in_default-kind.not-Loop (c.kind.ensures ∙ e)) ∙ message_taken_on q c.args.from m ∙
+    ap (takes_on q c.args.from) (sym is)) c.take_message.ensures.row
 
 pub returns-in_default-clause-row : goal.returns-in_default-clause-row
 returns-in_default-clause-row g c = All_row (other_on (port_at c.args.q) c.args.from c.args.taken.now (search rules)) c.take_other.ensures.row

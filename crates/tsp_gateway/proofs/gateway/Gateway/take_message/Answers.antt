@@ -10,14 +10,20 @@ returns-then-corrected g c = record {
       let q = c.args.q in
       let x = c.args.tick in
       let there = part_there c.args.self.now q c.index_mut.result.now c.requires.port c.index_mut.ensures.value in
-      All_taken c.take-corrected.new.self q c.steers-steer.result c.in_charge-charge.result c.args.from c.args.m.now (λ past w. (sym (c.steers-steer.ensures x past w), sym (c.in_charge-charge.ensures x past w))) there refl
-      (λ past t. sym (rw c.requires.is at (c.take-corrected.ensures.corrects past t)) ∙ c.if-corrected.true) (rw (c.port_at-port.ensures, c.requires.is) at c.take-corrected.ensures.row) (rw (c.sets_date.ensures, c.kind.ensures) at (c.upset.ensures.row x));
-  ports = c.upset.ensures.ports ∙ ports_set c.args.self.now.ports.items c.args.q c.index_mut.result.now c.take-corrected.new.self (part_there c.args.self.now c.args.q c.index_mut.result.now c.requires.port c.index_mut.ensures.value) c.take-corrected.ensures.peers;
+      All_taken c.take-corrected.new.self q c.steers-steer.result c.in_charge-charge.result c.args.from c.args.m.now
+      (λ past w. (sym (c.steers-steer.ensures x past w), sym (c.in_charge-charge.ensures x past w))) there refl
+      (λ past t. sym (rw c.requires.is at (c.take-corrected.ensures.corrects past t)) ∙ c.if-corrected.true) (rw (
+        c.port_at-port.ensures,
+        c.requires.is,
+      ) at c.take-corrected.ensures.row) (rw (c.sets_date.ensures, c.kind.ensures) at (c.upset.ensures.row x));
+  ports = c.upset.ensures.ports ∙ ports_set c.args.self.now.ports.items c.args.q c.index_mut.result.now c.take-corrected.new.self
+      (part_there c.args.self.now c.args.q c.index_mut.result.now c.requires.port c.index_mut.ensures.value) c.take-corrected.ensures.peers;
   clock = omega (arith, c.upset.ensures.clock, c.take-corrected.ensures.clock);
   room =
       let there = part_there c.args.self.now c.args.q c.index_mut.result.now c.requires.port c.index_mut.ensures.value in
       let many = peers_there c.args.self.now.ports.items c.args.q c.index_mut.result.now there in
-      let same = ap length (ports_set c.args.self.now.ports.items c.args.q c.index_mut.result.now c.take-corrected.new.self there c.take-corrected.ensures.peers) in
+      let same = ap length (ports_set c.args.self.now.ports.items c.args.q c.index_mut.result.now c.take-corrected.new.self there
+      c.take-corrected.ensures.peers) in
       let few = ports_few c.args.self.now in
       let first = c.take-corrected.ensures.room in
       let more = c.upset.ensures.room in
@@ -51,7 +57,8 @@ pub upset-requires : goal.upset-requires
 upset-requires g c =
     let there = part_there c.args.self.now c.args.q c.index_mut.result.now c.requires.port c.index_mut.ensures.value in
     let many = peers_there c.args.self.now.ports.items c.args.q c.index_mut.result.now there in
-    let same = ap length (ports_set c.args.self.now.ports.items c.args.q c.index_mut.result.now c.take-corrected.new.self there c.take-corrected.ensures.peers) in
+    let same = ap length (ports_set c.args.self.now.ports.items c.args.q c.index_mut.result.now c.take-corrected.new.self there c.take-corrected.ensures.peers)
+    in
     record { room = omega (arith, many, same, ports_few c.args.self.now, c.take-corrected.ensures.room.spare, c.requires.room) }
 
 pub steers-steer-requires : goal.steers-steer-requires

@@ -31,7 +31,8 @@ loop-r-preserved c =
           let there = part_there now r w.index_mut.result.now inside w.index_mut.ensures.value in
           let m = w.moved.ensures in
           subst (λ (h : Gateway). IsTelling c.args.q c.args.tick (r + 1) old h) (sym w.self-is) (record {
-            telling = telling_more c.args.q c.args.tick r old.ports.items now.ports.items w.index_mut.result.now w.moved.new.self w.if-r-q.true there m.station m.last m.master m.resolve m.dates i.telling;
+            telling = telling_more c.args.q c.args.tick r old.ports.items now.ports.items w.index_mut.result.now w.moved.new.self w.if-r-q.true there m.station
+                m.last m.master m.resolve m.dates i.telling;
             ports = set_peers now.ports.items r w.moved.new.self w.index_mut.result.now there (ap (λ (s : Station). s.peers) m.station) ∙ i.ports;
             clock = i.clock;
             tracing = i.tracing;
@@ -54,4 +55,5 @@ returns-clause-stands c past u =
     let end = c.len-r-end.ensures in
     let same = i.telling.many in
     all_told c.args.q c.args.tick past old now
-    (λ k n part is. i.telling.told k (let inside = slice_get_within now.ports.items k part is in omega (arith, inside, len, end, same, c.loop-r-test.false)) n part is) i.telling.own i.telling.many i.clock i.tracing u
+    (λ k n part is. i.telling.told k (let inside = slice_get_within now.ports.items k part is in omega (arith, inside, len, end, same, c.loop-r-test.false)) n
+    part is) i.telling.own i.telling.many i.clock i.tracing u

@@ -9,7 +9,12 @@ use Rattle.tsp_gateway.proofs.gateway.Gateway.turn_ports.Goals as goal
 use Rattle.tsp_gateway.proofs.gateway.Gateway.turn_ports.Goals.{then-not-is_idle, else-not-is_idle}
 
 pub loop-q-init : goal.loop-q-init
-loop-q-init g c = let none = no_turns (ports_in c.args.self.now) in record { row = λ last new d. d; ports = refl; clock = c.requires.later; room = record { spare = omega (arith, none); few = omega (arith, none) } }
+loop-q-init g c = let none = no_turns (ports_in c.args.self.now) in record {
+  row = λ last new d. d;
+  ports = refl;
+  clock = c.requires.later;
+  room = record { spare = omega (arith, none); few = omega (arith, none) };
+}
 
 pub turn_port-requires : goal.turn_port-requires
 turn_port-requires g c =
@@ -58,7 +63,8 @@ loop-q-preserved g c =
           })
       | else-not-is_idle w ↦
           rw (w.self-is, w.desk-is) (record {
-            row = λ last new d. i.row last new (next_port turns_on true 0 q n c.args.tick inside refl (idle_waits c.args.tick q c.loop-q.self c.is_idle.result there w.if-not-is_idle.false c.is_idle.ensures) d);
+            row = λ last new d. i.row last new (next_port turns_on true 0 q n c.args.tick inside refl (idle_waits c.args.tick q c.loop-q.self c.is_idle.result
+                there w.if-not-is_idle.false c.is_idle.ensures) d);
             ports = i.ports;
             clock = i.clock;
             room = record { spare = omega (arith, more, i.room.spare); few = omega (arith, more, i.room.few) };
@@ -74,7 +80,8 @@ returns-clause-row g c =
     All_same (reading_all all_ports (for_ports turns_on)) (λ past h. refl)
     (upset_all turns_on true 0 c.args.tick (λ past h. h.stands)
     (c.loop-q.invariant.row c.loop-q.self (g.D.Desk.acts c.loop-q.desk)
-    (last_port {P = GatewayTurning c.loop-q.q} turns_on true 0 c.loop-q.q (length old.ports.items) c.args.tick (omega (arith, len, end, c.loop-q-test.false)) (λ past h. h.stands))))
+    (last_port {P = GatewayTurning c.loop-q.q} turns_on true 0 c.loop-q.q (length old.ports.items) c.args.tick (omega (arith, len, end, c.loop-q-test.false))
+    (λ past h. h.stands))))
 
 pub returns-clause-room : goal.returns-clause-room
 returns-clause-room g c =

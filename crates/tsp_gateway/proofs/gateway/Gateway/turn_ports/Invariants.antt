@@ -8,9 +8,12 @@ use Rattle.tsp_gateway.proofs.gateway.Gateway.turn_ports.Given as goal
 
 abbrev pub invariant-loop-q : goal.invariant-loop-q
 invariant-loop-q g l = record {
-  row : (last : Gateway) (new : List Placed) → PerformsAll (GatewayTurning l.q) GatewayStands (for_ports turns_on (left true 0 l.q (length l.initial.self.ports.items))) l.tick l.self last (g.D.Desk.acts l.desk) new →
-      PerformsAll GatewayBegun GatewayStands (for_ports turns_on (left true 0 0 (length l.initial.self.ports.items))) l.tick l.initial.self last (g.D.Desk.acts l.initial.desk) new;
+  row : (last : Gateway) (new : List Placed) → PerformsAll (GatewayTurning l.q) GatewayStands
+      (for_ports turns_on (left true 0 l.q (length l.initial.self.ports.items))) l.tick l.self last (g.D.Desk.acts l.desk) new →
+      PerformsAll GatewayBegun GatewayStands (for_ports turns_on (left true 0 0 (length l.initial.self.ports.items))) l.tick l.initial.self last
+      (g.D.Desk.acts l.initial.desk) new;
   ports : ports_in l.self ≡ ports_in l.initial.self;
   clock : clock_at l.self ≤ l.tick;
-  room : PutsAtMost (turns_below l.q (ports_in l.initial.self)) (g.D.Desk.spare l.initial.desk) (g.D.Desk.spare l.desk) (g.D.Desk.acts l.initial.desk) (g.D.Desk.acts l.desk);
+  room : PutsAtMost (turns_below l.q (ports_in l.initial.self)) (g.D.Desk.spare l.initial.desk) (g.D.Desk.spare l.desk) (g.D.Desk.acts l.initial.desk)
+      (g.D.Desk.acts l.desk);
 }

@@ -17,51 +17,68 @@ pub leave-requires-clause-fits : goal.leave-requires-clause-fits
 leave-requires-clause-fits c =
     let read : FitsSigned w64 c.look-value.result = search rules in
     let taken = rw (to_z-of_z w64 c.look-value.result read) at c.admit.ensures in
-    let more : IsWindow c.args.values.now.items c.admit.new.self = subst (λ (w : Window). IsWindow c.args.values.now.items w) (sym taken) (window_more c.args.values.now.items c.args.self.now c.look-value.result c.requires.window c.requires.some c.look-value.ensures.value) in
+    let more : IsWindow c.args.values.now.items c.admit.new.self = subst (λ (w : Window). IsWindow c.args.values.now.items w) (sym taken)
+    (window_more c.args.values.now.items c.args.self.now c.look-value.result c.requires.window c.requires.some c.look-value.ensures.value) in
     window_small c.args.values.now.items c.admit.new.self c.requires.near c.requires.small more
 
 pub leave-requires-clause-lo : goal.leave-requires-clause-lo
 leave-requires-clause-lo c =
     let read : FitsSigned w64 c.look-value.result = search rules in
     let taken = rw (to_z-of_z w64 c.look-value.result read) at c.admit.ensures in
-    let more : IsWindow c.args.values.now.items c.admit.new.self = subst (λ (w : Window). IsWindow c.args.values.now.items w) (sym taken) (window_more c.args.values.now.items c.args.self.now c.look-value.result c.requires.window c.requires.some c.look-value.ensures.value) in
+    let more : IsWindow c.args.values.now.items c.admit.new.self = subst (λ (w : Window). IsWindow c.args.values.now.items w) (sym taken)
+    (window_more c.args.values.now.items c.args.self.now c.look-value.result c.requires.window c.requires.some c.look-value.ensures.value) in
     window_near c.args.values.now.items c.admit.new.self c.requires.near more
 
 pub returns-then-not-reached-clause-window : goal.returns-then-not-reached-clause-window
 returns-then-not-reached-clause-window c =
     let read : FitsSigned w64 c.look-value.result = search rules in
     let taken = rw (to_z-of_z w64 c.look-value.result read) at c.admit.ensures in
-    let more : IsWindow c.args.values.now.items c.admit.new.self = subst (λ (w : Window). IsWindow c.args.values.now.items w) (sym taken) (window_more c.args.values.now.items c.args.self.now c.look-value.result c.requires.window c.requires.some c.look-value.ensures.value) in
-    let here : IsWindow c.look-value.new.self.items c.admit.new.self = subst (λ (xs : List ℤ). IsWindow xs c.admit.new.self) (sym c.look-value.ensures.items) more in
+    let more : IsWindow c.args.values.now.items c.admit.new.self = subst (λ (w : Window). IsWindow c.args.values.now.items w) (sym taken)
+    (window_more c.args.values.now.items c.args.self.now c.look-value.result c.requires.window c.requires.some c.look-value.ensures.value) in
+    let here : IsWindow c.look-value.new.self.items c.admit.new.self = subst (λ (xs : List ℤ). IsWindow xs c.admit.new.self) (sym c.look-value.ensures.items)
+    more in
     let out : (c.args.self.now.lo +ℤ pos c.args.span) <ℤ c.look-value.result = search rules in
-    let far = beyond_first c.args.span c.args.values.now.items c.args.self.now c.look-value.result c.requires.window c.look-value.ensures.value out (cases_lt 0 c.args.self.now.end) in
+    let far = beyond_first c.args.span c.args.values.now.items c.args.self.now c.look-value.result c.requires.window c.look-value.ensures.value out
+    (cases_lt 0 c.args.self.now.end) in
     let lt : c.admit.new.self.first + 1 < c.admit.new.self.end = rw taken far in
-    let final : IsWindow c.leave.new.values.items c.leave.new.self = rw (c.leave.ensures.items, c.leave.ensures.window) (window_less c.look-value.new.self.items c.admit.new.self here lt) in
+    let final : IsWindow c.leave.new.values.items c.leave.new.self = rw (
+      c.leave.ensures.items,
+      c.leave.ensures.window,
+    ) (window_less c.look-value.new.self.items c.admit.new.self here lt) in
     final
 
 pub returns-then-not-reached-clause-near : goal.returns-then-not-reached-clause-near
 returns-then-not-reached-clause-near c =
     let read : FitsSigned w64 c.look-value.result = search rules in
     let taken = rw (to_z-of_z w64 c.look-value.result read) at c.admit.ensures in
-    let more : IsWindow c.args.values.now.items c.admit.new.self = subst (λ (w : Window). IsWindow c.args.values.now.items w) (sym taken) (window_more c.args.values.now.items c.args.self.now c.look-value.result c.requires.window c.requires.some c.look-value.ensures.value) in
-    let here : IsWindow c.look-value.new.self.items c.admit.new.self = subst (λ (xs : List ℤ). IsWindow xs c.admit.new.self) (sym c.look-value.ensures.items) more in
+    let more : IsWindow c.args.values.now.items c.admit.new.self = subst (λ (w : Window). IsWindow c.args.values.now.items w) (sym taken)
+    (window_more c.args.values.now.items c.args.self.now c.look-value.result c.requires.window c.requires.some c.look-value.ensures.value) in
+    let here : IsWindow c.look-value.new.self.items c.admit.new.self = subst (λ (xs : List ℤ). IsWindow xs c.admit.new.self) (sym c.look-value.ensures.items)
+    more in
     let out : (c.args.self.now.lo +ℤ pos c.args.span) <ℤ c.look-value.result = search rules in
-    let far = beyond_first c.args.span c.args.values.now.items c.args.self.now c.look-value.result c.requires.window c.look-value.ensures.value out (cases_lt 0 c.args.self.now.end) in
+    let far = beyond_first c.args.span c.args.values.now.items c.args.self.now c.look-value.result c.requires.window c.look-value.ensures.value out
+    (cases_lt 0 c.args.self.now.end) in
     let lt : c.admit.new.self.first + 1 < c.admit.new.self.end = rw taken far in
-    let final : IsWindow c.leave.new.values.items c.leave.new.self = rw (c.leave.ensures.items, c.leave.ensures.window) (window_less c.look-value.new.self.items c.admit.new.self here lt) in
-    let near : All IsNear c.leave.new.values.items = subst (λ (xs : List ℤ). All IsNear xs) (sym (c.leave.ensures.items ∙ c.look-value.ensures.items)) c.requires.near in
+    let final : IsWindow c.leave.new.values.items c.leave.new.self = rw (
+      c.leave.ensures.items,
+      c.leave.ensures.window,
+    ) (window_less c.look-value.new.self.items c.admit.new.self here lt) in
+    let near : All IsNear c.leave.new.values.items = subst (λ (xs : List ℤ). All IsNear xs) (sym (c.leave.ensures.items ∙ c.look-value.ensures.items))
+    c.requires.near in
     (rw (to_z-of_z w64 c.look-value.result read) c.look-value.ensures.near, window_near c.leave.new.values.items c.leave.new.self near final)
 
 pub returns-else-not-reached-clause-window : goal.returns-else-not-reached-clause-window
 returns-else-not-reached-clause-window c =
     let read : FitsSigned w64 c.look-value.result = search rules in
     let taken = rw (to_z-of_z w64 c.look-value.result read) at c.admit.ensures in
-    let more : IsWindow c.args.values.now.items c.admit.new.self = subst (λ (w : Window). IsWindow c.args.values.now.items w) (sym taken) (window_more c.args.values.now.items c.args.self.now c.look-value.result c.requires.window c.requires.some c.look-value.ensures.value) in
+    let more : IsWindow c.args.values.now.items c.admit.new.self = subst (λ (w : Window). IsWindow c.args.values.now.items w) (sym taken)
+    (window_more c.args.values.now.items c.args.self.now c.look-value.result c.requires.window c.requires.some c.look-value.ensures.value) in
     subst (λ (xs : List ℤ). IsWindow xs c.admit.new.self) (sym c.look-value.ensures.items) more
 
 pub returns-else-not-reached-clause-near : goal.returns-else-not-reached-clause-near
 returns-else-not-reached-clause-near c =
     let read : FitsSigned w64 c.look-value.result = search rules in
     let taken = rw (to_z-of_z w64 c.look-value.result read) at c.admit.ensures in
-    let more : IsWindow c.args.values.now.items c.admit.new.self = subst (λ (w : Window). IsWindow c.args.values.now.items w) (sym taken) (window_more c.args.values.now.items c.args.self.now c.look-value.result c.requires.window c.requires.some c.look-value.ensures.value) in
+    let more : IsWindow c.args.values.now.items c.admit.new.self = subst (λ (w : Window). IsWindow c.args.values.now.items w) (sym taken)
+    (window_more c.args.values.now.items c.args.self.now c.look-value.result c.requires.window c.requires.some c.look-value.ensures.value) in
     (rw (to_z-of_z w64 c.look-value.result read) c.look-value.ensures.near, window_near c.args.values.now.items c.admit.new.self c.requires.near more)

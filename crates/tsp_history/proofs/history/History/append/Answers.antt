@@ -16,7 +16,8 @@ loop-line-preserved c =
     let gone = c.in-Some.ensures.steps.1 in
     let short = ap length steps in
     record {
-      history = ap (λ h. noted_after h (into_iter_items c.next.new.self)) c.push.ensures.history ∙ sym (ap (λ ns. noted_after (history_of at.self.lines) ns) steps) ∙ at.invariant.history;
+      history = ap (λ h. noted_after h (into_iter_items c.next.new.self)) c.push.ensures.history ∙
+          sym (ap (λ ns. noted_after (history_of at.self.lines) ns) steps) ∙ at.invariant.history;
       many = omega arith;
       room = omega arith;
       used = omega arith;

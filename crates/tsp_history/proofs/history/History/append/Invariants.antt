@@ -6,7 +6,8 @@ use Rattle.tsp_history.proofs.history.History.append.Given as goal
 
 abbrev pub invariant-loop-line : goal.invariant-loop-line
 invariant-loop-line l = record {
-  history : noted_after (history_of l.self.lines) (into_iter_items l.line-iterator) ≡ noted_after (history_of l.initial.self.lines) (into_iter_items l.initial.line-iterator);
+  history : noted_after (history_of l.self.lines) (into_iter_items l.line-iterator) ≡
+      noted_after (history_of l.initial.self.lines) (into_iter_items l.initial.line-iterator);
   many : length l.self.lines + into_iter_len l.line-iterator ≡ length l.initial.self.lines + into_iter_len l.initial.line-iterator;
   room : into_iter_len l.line-iterator ≤ l.self.room;
   used : l.initial.self.room + into_iter_len l.line-iterator ≡ l.self.room + into_iter_len l.initial.line-iterator;

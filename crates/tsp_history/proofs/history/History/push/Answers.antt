@@ -6,7 +6,8 @@ use Rattle.tsp_history.proofs.history.History.push.Goals as goal
 pub invariant_of-self : goal.invariant_of-self
 invariant_of-self c =
     subst (λ ns. Told ns) (sym c.push_reserved.ensures.items)
-    (told_push c.self.inside.lines.items _ c.self.invariant (subst (λ ns. NoteIs (line_of c.args.line) (history_of ns) c.note_behind-note.result) c.as_slice.ensures.value c.note_behind-note.ensures))
+    (told_push c.self.inside.lines.items _ c.self.invariant (subst (λ ns. NoteIs (line_of c.args.line) (history_of ns) c.note_behind-note.result)
+    c.as_slice.ensures.value c.note_behind-note.ensures))
 
 pub returns-clause-history : goal.returns-clause-history
 returns-clause-history c =

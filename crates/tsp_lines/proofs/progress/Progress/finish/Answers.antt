@@ -13,22 +13,29 @@ returns-in-Err-clause-ends g c = λ lines text stands accepts.
 
 pub returns-in-Err-clause-writes : goal.returns-in-Err-clause-writes
 returns-in-Err-clause-writes g c =
-    Counts-stopped _ _ _ c.in-Err.stop c.stop.result c.in-Err.ensures.later (λ e. (c.in-Err.ensures.cause (ap Err e)).0) (λ n. c.in-Err.ensures.still (λ e. n (cc))) (λ e. (rw e at c.stop.ensures.stops).0) c.stop.ensures.writes
+    Counts-stopped _ _ _ c.in-Err.stop c.stop.result c.in-Err.ensures.later (λ e. (c.in-Err.ensures.cause (ap Err e)).0)
+    (λ n. c.in-Err.ensures.still (λ e. n (cc))) (λ e. (rw e at c.stop.ensures.stops).0) c.stop.ensures.writes
 
 pub returns-in-Err-flush-clause-ends : goal.returns-in-Err-flush-clause-ends
 returns-in-Err-flush-clause-ends g c = λ lines text stands accepts.
     rw c.outcome_of.ensures (Ends-broken (end_sayings g.T.Treatment.meaning lines c.args.self.now.number) _ _ _ c.flush.new.self c.in-Err-flush.fault
-    (Breaks-closed g.T.Treatment.meaning lines c.args.self.now.number _ _ _ c.args.self.now.output c.end.new.output c.flush.new.self (c.in_default.ensures.ends lines text stands accepts) c.flush.ensures.hands)
+    (Breaks-closed g.T.Treatment.meaning lines c.args.self.now.number _ _ _ c.args.self.now.output c.end.new.output c.flush.new.self
+    (c.in_default.ensures.ends lines text stands accepts) c.flush.ensures.hands)
     (λ e. (c.flush.ensures.cause (c.in-Err-flush.is ∙ ap Err e)).1))
 
 pub returns-in-Err-flush-clause-writes : goal.returns-in-Err-flush-clause-writes
 returns-in-Err-flush-clause-writes g c =
     Counts-fault _ _ c.flush.result c.in-Err-flush.fault c.outcome_of.result c.outcome_of.ensures c.in-Err-flush.is
-    (Counts-from _ _ _ _ _ (c.in_default.ensures.still (Ok-no_error _ _)) (λ e. e) (λ e. e) (record { later = c.flush.ensures.later; cause = λ e. (c.flush.ensures.cause e).0; still = c.flush.ensures.still }))
+    (Counts-from _ _ _ _ _ (c.in_default.ensures.still (Ok-no_error _ _)) (λ e. e) (λ e. e) (record {
+      later = c.flush.ensures.later;
+      cause = λ e. (c.flush.ensures.cause e).0;
+      still = c.flush.ensures.still;
+    }))
 
 pub returns-in-Err-flush-clause-kind : goal.returns-in-Err-flush-clause-kind
 returns-in-Err-flush-clause-kind g c = (not_others c.in-Err-flush.fault c.outcome_of.result c.outcome_of.ensures).0
 
 pub returns-in-Ok-clause-ends : goal.returns-in-Ok-clause-ends
 returns-in-Ok-clause-ends g c = λ lines text stands accepts.
-    Ends-closed g.T.Treatment.meaning lines c.args.self.now.number _ _ _ c.args.self.now.output c.end.new.output c.flush.new.self (c.in_default.ensures.ends lines text stands accepts) c.flush.ensures.hands c.in-Ok.ensures.ok
+    Ends-closed g.T.Treatment.meaning lines c.args.self.now.number _ _ _ c.args.self.now.output c.end.new.output c.flush.new.self
+    (c.in_default.ensures.ends lines text stands accepts) c.flush.ensures.hands c.in-Ok.ensures.ok

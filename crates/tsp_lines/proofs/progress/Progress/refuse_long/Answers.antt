@@ -5,7 +5,8 @@ use Rattle.tsp_lines.proofs.progress.Progress.refuse_long.Goals as goal
 
 pub returns-clause-ends : goal.returns-clause-ends
 returns-clause-ends g c = λ lines text line stands accepts room feedless long start.
-    Ends-only_bad (line_sayings g.T.Treatment.meaning lines text c.args.self.now.number line) _ _ _ _ c.args.self.now.output c.args.self.now.output c.stop.result
+    Ends-only_bad (line_sayings g.T.Treatment.meaning lines text c.args.self.now.number line) _ _ _ _ c.args.self.now.output c.args.self.now.output
+    c.stop.result
     (c.refuse_long-cause.result, c.refuse_long-cause.ensures lines text line stands accepts room feedless long (c.start.ensures ∙ start), refl)
     (Hands-nil _ c.args.self.now.output)
     c.stop.ensures.stops

@@ -10,7 +10,8 @@ returns-in-Got-eq0-clause-fills g c =
     let none : length r.0 ≡ 0 = omega (arith, r.2, c.in-Got-eq0.field-0-test) in (
       r.0,
       r.1,
-      filled _ _ _ c.self.inside.at c.self.inside.end _ _ _ _ r.0 (omega (arith, c.refill.auto.buf, c.deref_mut.ensures.len)) c.deref_mut.ensures.value held (omega arith) r.3,
+      filled _ _ _ c.self.inside.at c.self.inside.end _ _ _ _ r.0 (omega (arith, c.refill.auto.buf, c.deref_mut.ensures.len)) c.deref_mut.ensures.value held
+          (omega arith) r.3,
       omega (arith, got, none),
       no_octets r.0 none,
     )
@@ -22,7 +23,8 @@ returns-in-Got-clause-fills g c =
     let got : c.self.inside.got ≡ c.args.self.now.got = ap (λ v. v.got) c.self.view_is in (
       r.0,
       r.1,
-      filled _ _ _ c.self.inside.at c.self.inside.end _ _ _ _ r.0 (omega (arith, c.refill.auto.buf, c.deref_mut.ensures.len)) c.deref_mut.ensures.value held (omega arith) r.3,
+      filled _ _ _ c.self.inside.at c.self.inside.end _ _ _ _ r.0 (omega (arith, c.refill.auto.buf, c.deref_mut.ensures.len)) c.deref_mut.ensures.value held
+          (omega arith) r.3,
       omega (arith, got, r.2),
       omega (arith, r.2, c.in-Got.count-test.1),
     )
@@ -34,7 +36,8 @@ returns-in-Failed-clause-fills g c =
     let got : c.self.inside.got ≡ c.args.self.now.got = ap (λ v. v.got) c.self.view_is in (
       r.0,
       r.1,
-      filled _ _ 0 c.self.inside.at c.self.inside.end _ _ _ _ r.0 (omega (arith, c.refill.auto.buf, c.deref_mut.ensures.len)) c.deref_mut.ensures.value held (omega arith) r.3,
+      filled _ _ 0 c.self.inside.at c.self.inside.end _ _ _ _ r.0 (omega (arith, c.refill.auto.buf, c.deref_mut.ensures.len)) c.deref_mut.ensures.value held
+          (omega arith) r.3,
       omega (arith, got, r.2),
       no_octets r.0 r.2,
     )

@@ -55,8 +55,14 @@ returns-in-Over g c =
     let e = c.in-Over.ensures in
     let f = e.fills in
     let l = c.last.ensures in
-    let held : c.fill.new.self.held ≡ c.args.self.now.held ++ (i.0.0 ++ f.0) = f.2 ∙ ap (λ (held : List ℕ). held ++ f.0) (n.next.1 ∙ i.0.3) ∙ append_assoc _ i.0.0 f.0 in record {
-      next = (i.0.0 ++ f.0, Gives-trans _ _ _ i.0.0 f.0 i.0.1 f.1, omega (arith, i.0.2, n.same.0, f.3, l.same.0, length-append i.0.0 f.0), subst (λ held. IsNext c.last.new.self held c.last.result) held l.next);
+    let held : c.fill.new.self.held ≡ c.args.self.now.held ++ (i.0.0 ++ f.0) = f.2 ∙ ap (λ (held : List ℕ). held ++ f.0) (n.next.1 ∙ i.0.3) ∙
+    append_assoc _ i.0.0 f.0 in record {
+      next = (
+        i.0.0 ++ f.0,
+        Gives-trans _ _ _ i.0.0 f.0 i.0.1 f.1,
+        omega (arith, i.0.2, n.same.0, f.3, l.same.0, length-append i.0.0 f.0),
+        subst (λ held. IsNext c.last.new.self held c.last.result) held l.next,
+      );
       limit = (l.same.1 ∙ e.limit.0 ∙ n.same.1 ∙ i.1, omega (arith, l.same.0, l.same.1, e.limit.1));
       faults = Counts-same _ _ _ (e.faults.still Over-NotRead ∙ i.3) (over_not_failed _ l.same.2);
       over = λ o. e.over refl;
@@ -70,7 +76,16 @@ returns-in-NotRead g c =
     let e = c.in-NotRead.ensures in
     let f = e.fills in
     let none : f.0 ≡ [] = f.4 in record {
-      next = (i.0.0 ++ f.0, Gives-trans _ _ _ i.0.0 f.0 i.0.1 f.1, omega (arith, i.0.2, n.same.0, f.3, length-append i.0.0 f.0), (subst NoFeed (i.0.3 ∙ ap (λ (octets : List ℕ). c.args.self.now.held ++ octets) (sym (append-nil i.0.0) ∙ ap (λ (octets : List ℕ). i.0.0 ++ octets) (sym none))) n.next.0, omega (arith, n.next.2, f.3, e.limit.0, ap length none)));
+      next = (
+        i.0.0 ++ f.0,
+        Gives-trans _ _ _ i.0.0 f.0 i.0.1 f.1,
+        omega (arith, i.0.2, n.same.0, f.3, length-append i.0.0 f.0),
+        (
+          subst NoFeed (i.0.3 ∙ ap (λ (octets : List ℕ). c.args.self.now.held ++ octets) (sym (append-nil i.0.0) ∙
+              ap (λ (octets : List ℕ). i.0.0 ++ octets) (sym none))) n.next.0,
+          omega (arith, n.next.2, f.3, e.limit.0, ap length none),
+        ),
+      );
       limit = (e.limit.0 ∙ n.same.1 ∙ i.1, e.limit.1);
       faults = Counts-from _ _ _ _ _ i.3 (λ f. refl) (λ f. refl) e.faults;
       over = λ o. absurd (over_not_failed _ o refl);

@@ -11,7 +11,8 @@ returns-in_default-clause-next c =
     let held : slice_range c.self.inside.buf.items c.self.inside.at c.self.inside.end ≡ c.args.self.now.held = ap (λ v. v.held) c.self.view_is in
     elim c.if-self.branch [
       | then-self w ↦
-          let some : 0 < length c.args.self.now.held = rw (sym held) (some_held c.self.inside.buf.items c.self.inside.at c.self.inside.end (c.self.invariant.6 w.if-self.true) (omega (arith, c.self.invariant.0, c.self.invariant.4, c.self.inside.buf.ok.0))) in
+          let some : 0 < length c.args.self.now.held = rw (sym held) (some_held c.self.inside.buf.items c.self.inside.at c.self.inside.end
+          (c.self.invariant.6 w.if-self.true) (omega (arith, c.self.invariant.0, c.self.invariant.4, c.self.inside.buf.ok.0))) in
           rw w.result-is ((omega (arith, got, limit, w.if-self.true, c.self.invariant.5), NoFeed-end _ some none), refl, Limit-Failed)
       | else-self w ↦ rw w.result-is (none, refl, omega (arith, got, limit, w.if-self.false))
     ]
@@ -22,8 +23,21 @@ returns-then-self-place-clause-next c =
     let got : c.self.inside.got ≡ c.args.self.now.got = ap (λ v. v.got) c.self.view_is in
     let limit : c.self.inside.limit ≡ c.args.self.now.limit = ap (λ v. v.limit) c.self.view_is in
     let held : slice_range c.self.inside.buf.items c.self.inside.at c.self.inside.end ≡ c.args.self.now.held = ap (λ v. v.held) c.self.view_is in
-    let most : length c.args.self.now.held ≤ c.in-Some.place + 1 = omega (arith, ap length held, held_length c.self.inside.buf.items c.self.inside.at c.self.inside.end, c.if-self-place.true) in (
-      (omega (arith, got, limit, c.if-self-2.true, c.self.invariant.5), (take c.in-Some.place c.args.self.now.held, 10, e.first.0, last_feed c.args.self.now.held c.in-Some.place most e.first.1)),
+    let most : length c.args.self.now.held ≤ c.in-Some.place + 1 = omega (
+      arith,
+      ap length held,
+      held_length c.self.inside.buf.items c.self.inside.at c.self.inside.end,
+      c.if-self-place.true,
+    ) in (
+      (
+        omega (arith, got, limit, c.if-self-2.true, c.self.invariant.5),
+        (
+          take c.in-Some.place c.args.self.now.held,
+          10,
+          e.first.0,
+          last_feed c.args.self.now.held c.in-Some.place most e.first.1,
+        ),
+      ),
       refl,
       Limit-Failed,
     )
@@ -42,5 +56,12 @@ pub give-requires-clause-most : goal.give-requires-clause-most
 give-requires-clause-most c =
     let got : c.self.inside.got ≡ c.args.self.now.got = ap (λ v. v.got) c.self.view_is in
     let limit : c.self.inside.limit ≡ c.args.self.now.limit = ap (λ v. v.limit) c.self.view_is in
-    let held : slice_range c.self.inside.buf.items c.self.inside.at c.self.inside.end ≡ c.args.self.now.held = ap (λ v. v.held) c.self.view_is in
-    (omega (arith, got, limit, c.self.invariant.5), omega (arith, ap length held, held_length c.self.inside.buf.items c.self.inside.at c.self.inside.end, c.self.invariant.4))
+    let held : slice_range c.self.inside.buf.items c.self.inside.at c.self.inside.end ≡ c.args.self.now.held = ap (λ v. v.held) c.self.view_is in (
+      omega (arith, got, limit, c.self.invariant.5),
+      omega (
+        arith,
+        ap length held,
+        held_length c.self.inside.buf.items c.self.inside.at c.self.inside.end,
+        c.self.invariant.4,
+      ),
+    )

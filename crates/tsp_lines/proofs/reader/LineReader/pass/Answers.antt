@@ -11,7 +11,8 @@ returns-in-NotRead-clause-faults g c = Counts-from _ _ _ _ _ refl (λ f. refl) (
 
 pub returns-in-Some-clause-faults : goal.returns-in-Some-clause-faults
 returns-in-Some-clause-faults g c =
-    Counts-same _ _ _ (c.in-More.ensures.faults.still More-NotRead) (λ f. let q : c.long_of.result ≡ Failed = cc in long_not_failed c.in-Some.next (sym c.long_of.ensures ∙ q))
+    Counts-same _ _ _ (c.in-More.ensures.faults.still More-NotRead) (λ f. let q : c.long_of.result ≡ Failed = cc in
+    long_not_failed c.in-Some.next (sym c.long_of.ensures ∙ q))
 
 pub returns-in-None-clause-faults : goal.returns-in-None-clause-faults
 returns-in-None-clause-faults g c = Counts-same _ _ _ (c.in-More.ensures.faults.still More-NotRead) (λ f. cc)

@@ -28,4 +28,10 @@ loop-next-preserved g c =
     )
 
 pub loop-next-init : goal.loop-next-init
-loop-next-init g c = (([], Gives-nil _, omega arith, rw (append-nil c.args.self.now.held) c.requires.line), refl, c.requires.within, c.requires.open, omega arith)
+loop-next-init g c = (
+  ([], Gives-nil _, omega arith, rw (append-nil c.args.self.now.held) c.requires.line),
+  refl,
+  c.requires.within,
+  c.requires.open,
+  omega arith,
+)

@@ -5,8 +5,10 @@ use Rattle.tsp_lines.proofs.reader.LineReader.pass_over.Given as goal
 
 abbrev pub invariant-loop-next : goal.invariant-loop-next
 invariant-loop-next g l =
-    ((octets : List ℕ) × Gives (g.S.Source.left l.fn.source) (g.S.Source.left l.source) octets × (l.self.got ≡ l.fn.self.got + length octets) × NoFeed (l.fn.self.held ++ octets))
-    × (l.self.limit ≡ l.fn.self.limit) × (l.self.got ≤ l.self.limit) × (g.S.Source.ended l.source ≡ false) × (g.S.Source.faults l.source ≡ g.S.Source.faults l.fn.source)
+    ((octets : List ℕ) × Gives (g.S.Source.left l.fn.source) (g.S.Source.left l.source) octets × (l.self.got ≡ l.fn.self.got + length octets) ×
+    NoFeed (l.fn.self.held ++ octets))
+    × (l.self.limit ≡ l.fn.self.limit) × (l.self.got ≤ l.self.limit) × (g.S.Source.ended l.source ≡ false) ×
+    (g.S.Source.faults l.source ≡ g.S.Source.faults l.fn.source)
 
 abbrev pub decreases-loop-next : goal.decreases-loop-next
 decreases-loop-next g l = l.self.limit + 1 - l.self.got

@@ -10,7 +10,8 @@ use Rattle.tsp_rules.proofs.Parts.{Performs_part}
 pub returns-clause-row : goal.returns-clause-row
 returns-clause-row g c x =
     let st = c.args.station.now in
-    let corrects : c.is_correction-corrects.result ≡ is_of is_correction (kind_of (sending_to st.sends c.args.from)) = c.is_correction-corrects.ensures ∙ ap (is_of is_correction) c.kind.ensures in
+    let corrects : c.is_correction-corrects.result ≡ is_of is_correction (kind_of (sending_to st.sends c.args.from)) = c.is_correction-corrects.ensures ∙
+    ap (is_of is_correction) c.kind.ensures in
     Performs_part (c.acknowledge-ended.ensures.row x) (λ past h. h.station) (λ past h s. record {
       master = MasterStands_acknowledges c.args.from c.args.number x past _ _ st c.acknowledge-ended.result h.station
           (c.acknowledge-ended.ensures.test x past h.station)

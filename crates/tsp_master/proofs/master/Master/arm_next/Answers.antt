@@ -12,15 +12,22 @@ use Rattle.tsp_master.proofs.master.Master.arm_next.Goals as goal
 pub returns-then-probes-lt-PROBES-clause-row : goal.returns-then-probes-lt-PROBES-clause-row
 unfolding arms_next
 returns-then-probes-lt-PROBES-clause-row g c clock =
-    Performs_then_part has_more nothing (λ past h. let r = h.stands.master.going h.goes in lt-ltb _ 3 (omega (arith, r.probes_is, c.probes.ensures, c.if-probes-lt-PROBES.true)))
+    Performs_then_part has_more nothing (λ past h. let r = h.stands.master.going h.goes in
+    lt-ltb _ 3 (omega (arith, r.probes_is, c.probes.ensures, c.if-probes-lt-PROBES.true)))
     (Performs_lead_by {P = ProbesStands c.args.tick} {Q = LeadStands} _ _ clock (Emits_arms Probe PROBE refl) (λ past h. h.stands)
-    (λ past h. let r = h.stands.master.going h.goes in MasterStands_arms_probe c.args.tick past _ h.goes (omega (arith, r.probes_is, c.probes.ensures, c.if-probes-lt-PROBES.true)) h.early h.stands.master)
+    (λ past h. let r = h.stands.master.going h.goes in MasterStands_arms_probe c.args.tick past _ h.goes (omega (
+      arith,
+      r.probes_is,
+      c.probes.ensures,
+      c.if-probes-lt-PROBES.true,
+    )) h.early h.stands.master)
     (λ past h k. k) (Performs_acting c.arm.ensures.row))
 
 pub returns-else-probes-lt-PROBES-clause-row : goal.returns-else-probes-lt-PROBES-clause-row
 unfolding arms_next
 returns-else-probes-lt-PROBES-clause-row g c clock =
-    Performs_else_part has_more (arms Probe PROBE) (λ past h. let r = h.stands.master.going h.goes in no_more _ (omega (arith, r.probes_is, c.probes.ensures, c.if-probes-lt-PROBES.false)))
+    Performs_else_part has_more (arms Probe PROBE) (λ past h. let r = h.stands.master.going h.goes in
+    no_more _ (omega (arith, r.probes_is, c.probes.ensures, c.if-probes-lt-PROBES.false)))
     (Performs_to (λ past h. h.stands) (Performs_nothing {p = ProbesStands c.args.tick}))
 
 pub returns-then-probes-lt-PROBES-clause-room : goal.returns-then-probes-lt-PROBES-clause-room

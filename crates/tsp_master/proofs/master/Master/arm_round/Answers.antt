@@ -10,8 +10,10 @@ use Rattle.tsp_master.proofs.master.Master.arm_round.Goals as goal
 pub returns-clause-row : goal.returns-clause-row
 unfolding arms ◌followed_by◌
 returns-clause-row g c clock =
-    Performs_lead_by _ _ clock (Emits_then (arms Probe PROBE) (arms CloseAlarm CLOSE) (Emits_arms Probe PROBE refl) (Emits_arms CloseAlarm CLOSE refl)) (λ past h. h)
-    (λ past h. MasterStands_begins_round c.args.tick past _ _ c.unmeasure_all.ensures.entries c.unmeasure_all.ensures.peers c.begin.ensures.nothing c.begin.ensures.asked c.begin.ensures.probes h.master)
+    Performs_lead_by _ _ clock (Emits_then (arms Probe PROBE) (arms CloseAlarm CLOSE) (Emits_arms Probe PROBE refl) (Emits_arms CloseAlarm CLOSE refl))
+    (λ past h. h)
+    (λ past h. MasterStands_begins_round c.args.tick past _ _ c.unmeasure_all.ensures.entries c.unmeasure_all.ensures.peers c.begin.ensures.nothing
+    c.begin.ensures.asked c.begin.ensures.probes h.master)
     (λ past h k. record { stands = k; goes = refl; starts = refl })
     (Performs_then (Performs_acting c.arm.ensures.row) (Performs_acting c.arm-2.ensures.row))
 

@@ -42,13 +42,18 @@ loop-place-preserved g c =
           let same : peers_of w.ask.new.self.slaves ≡ peers_of c.loop-place.self.slaves = ap peers_of w.ask.ensures.slaves ∙ w.change.ensures.peers in
           record {
             row = rw (w.self-is, w.desk-is, more, filter-more (λ (q : PeerId). (entry_of es q).joined) (take n ps) p joined)
-                (Performs_each_more asks (joined_of es (take n ps)) p inv.row (Performs_starts p _ _ c.args.station.now c.args.clock.now now slaves same w.ask.ensures.starts w.ask.ensures.acts));
+                (Performs_each_more asks (joined_of es (take n ps)) p inv.row (Performs_starts p _ _ c.args.station.now c.args.clock.now now slaves same
+                w.ask.ensures.starts w.ask.ensures.acts));
             peers = rw w.self-is (same ∙ inv.peers);
             joined = rw w.self-is (λ q. joined-kept p _ _ slaves q ∙ inv.joined q);
             probes = rw w.self-is (w.ask.ensures.starts.probes ∙ inv.probes);
             few = rw w.self-is (later-few ps n c.args.self.now.rounds.probes p _ _ _ _ up.ascending here w.ask.ensures.starts inv.few);
-            counted = rw w.self-is (IsCounted-more _ (1000 * c.args.self.now.rounds.probes + n + 1) _ (omega arith) (w.ask.ensures.counted (1000 * c.args.self.now.rounds.probes + n) (omega (arith, c.requires.asks.three, up.few, inside)) inv.counted));
-            room = rw w.desk-is (record { spare = omega (arith, inv.room.spare, w.ask.ensures.room.spare); few = omega (arith, inv.room.few, w.ask.ensures.room.few) });
+            counted = rw w.self-is (IsCounted-more _ (1000 * c.args.self.now.rounds.probes + n + 1) _ (omega arith)
+                (w.ask.ensures.counted (1000 * c.args.self.now.rounds.probes + n) (omega (arith, c.requires.asks.three, up.few, inside)) inv.counted));
+            room = rw w.desk-is (record {
+              spare = omega (arith, inv.room.spare, w.ask.ensures.room.spare);
+              few = omega (arith, inv.room.few, w.ask.ensures.room.few);
+            });
           }
       | else-entry w ↦
           let away : (entry_of es p).joined ≡ false = sym (inv.joined p) ∙ ap (λ (e : Entry). e.joined) c.at-entry.ensures.entry ∙ w.if-entry.false in
@@ -74,4 +79,5 @@ returns-clause-row g c =
     (rw all at c.loop-place.invariant.row)
 
 pub returns-clause-room : goal.returns-clause-room
-returns-clause-room g c = PutsAtMost_up c.loop-place.place (length (peers_of c.args.self.now.slaves)) (subst (λ l. c.loop-place.place ≤ l) c.len-place-end.ensures.value c.loop-place.auto.place-end) c.loop-place.invariant.room
+returns-clause-room g c = PutsAtMost_up c.loop-place.place (length (peers_of c.args.self.now.slaves))
+    (subst (λ l. c.loop-place.place ≤ l) c.len-place-end.ensures.value c.loop-place.auto.place-end) c.loop-place.invariant.room

@@ -8,12 +8,14 @@ use Rattle.tsp_master.proofs.master.Master.ask_slaves.Given as goal
 
 abbrev pub invariant-loop-place : goal.invariant-loop-place
 invariant-loop-place g l = record {
-  row : Performs StartsStands StartsStands (for_each asks (joined_of l.initial.self.slaves (take l.place (peers_of l.initial.self.slaves)))) l.at.tick l.at.port (record { master = l.initial.self; station = l.station; clock = l.clock }) (record { master = l.self; station = l.station; clock = l.clock })
+  row : Performs StartsStands StartsStands (for_each asks (joined_of l.initial.self.slaves (take l.place (peers_of l.initial.self.slaves)))) l.at.tick l.at.port
+      (record { master = l.initial.self; station = l.station; clock = l.clock }) (record { master = l.self; station = l.station; clock = l.clock })
       (g.D.Desk.acts l.initial.desk) (g.D.Desk.acts l.desk);
   peers : peers_of l.self.slaves ≡ peers_of l.initial.self.slaves;
   joined : (q : PeerId) → (entry_of l.self.slaves q).joined ≡ (entry_of l.initial.self.slaves q).joined;
   probes : l.self.rounds.probes ≡ l.initial.self.rounds.probes;
-  few : (k : ℕ) (d : PeerId) → l.place ≤ k → k < length (peers_of l.initial.self.slaves) → begun (measured_with l.self.rounds (get_or (peers_of l.initial.self.slaves) k d)) ≤ l.initial.self.rounds.probes;
+  few : (k : ℕ) (d : PeerId) → l.place ≤ k → k < length (peers_of l.initial.self.slaves) →
+      begun (measured_with l.self.rounds (get_or (peers_of l.initial.self.slaves) k d)) ≤ l.initial.self.rounds.probes;
   counted : IsCounted l.self.rounds (1000 * l.initial.self.rounds.probes + l.place);
   room : PutsAtMost l.place (g.D.Desk.spare l.initial.desk) (g.D.Desk.spare l.desk) (g.D.Desk.acts l.initial.desk) (g.D.Desk.acts l.desk);
 }

@@ -9,15 +9,19 @@ use Rattle.tsp_master.proofs.master.Master.begin_adjtime.Goals as goal
 pub returns-then-may_correct-clause-row : goal.returns-then-may_correct-clause-row
 unfolding begins_adjtime posts_time
 returns-then-may_correct-clause-row g c clock =
-    Performs_then_part (may_correct c.args.peer c.args.number) nothing (λ past h. may_correct-is c.args.peer c.args.number c.args.at.tick past _ _ h.master c.of.ensures ∙ sym c.may_correct.ensures ∙ c.if-may_correct.true)
+    Performs_then_part (may_correct c.args.peer c.args.number) nothing (λ past h. may_correct-is c.args.peer c.args.number c.args.at.tick past _ _ h.master
+    c.of.ensures ∙ sym c.may_correct.ensures ∙ c.if-may_correct.true)
     (Performs_lead _ _ clock (Emits_posts_time c.args.peer AdjTime c.args.number c.args.amount refl)
-    (λ past h. MasterStands_begins c.args.peer (timed AdjTime c.args.number c.args.amount past.name) c.args.at.tick past _ _ refl h.acted c.change.ensures.entries c.change.ensures.peers refl h.master)
+    (λ past h. MasterStands_begins c.args.peer (timed AdjTime c.args.number c.args.amount past.name) c.args.at.tick past _ _ refl h.acted
+    c.change.ensures.entries c.change.ensures.peers refl h.master)
     c.begin_correction.ensures.row)
 
 pub returns-else-may_correct-clause-row : goal.returns-else-may_correct-clause-row
 unfolding begins_adjtime
 returns-else-may_correct-clause-row g c clock =
-    Performs_else_part (may_correct c.args.peer c.args.number) (posts_time c.args.peer AdjTime c.args.number c.args.amount) (λ past h. may_correct-is c.args.peer c.args.number c.args.at.tick past _ _ h.master c.of.ensures ∙ sym c.may_correct.ensures ∙ c.if-may_correct.false) Performs_nothing
+    Performs_else_part (may_correct c.args.peer c.args.number) (posts_time c.args.peer AdjTime c.args.number c.args.amount)
+    (λ past h. may_correct-is c.args.peer c.args.number c.args.at.tick past _ _ h.master c.of.ensures ∙ sym c.may_correct.ensures ∙
+    c.if-may_correct.false) Performs_nothing
 
 pub returns-then-may_correct-clause-room : goal.returns-then-may_correct-clause-room
 returns-then-may_correct-clause-room g c = once 0 0 c.begin_correction.ensures.room

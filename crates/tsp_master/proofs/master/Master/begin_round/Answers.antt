@@ -21,7 +21,8 @@ returns-clause-row g c =
     (λ past h. then_assoc (arms Probe PROBE) (arms CloseAlarm CLOSE) (says followed_by asks_slaves) x past)
     (Performs_then (c.arm_round.ensures.row c.args.clock.now)
     (Performs_then
-    (Performs_lead_by {P = StartsStands} {Q = StartsStands} c.arm_round.new.self c.arm_round.new.self c.args.clock.now (Emits_posts_to_others MasterUp 0 refl) (λ past h. h.stands)
+    (Performs_lead_by {P = StartsStands} {Q = StartsStands} c.arm_round.new.self c.arm_round.new.self c.args.clock.now (Emits_posts_to_others MasterUp 0 refl)
+    (λ past h. h.stands)
     (λ past h. Keeps_by quiet_sorts MasterStands says MasterStands_quiet (Emits_posts_to_others MasterUp 0 refl) x past _ h.stands.master)
     (λ past h k. record {
       stands = k;

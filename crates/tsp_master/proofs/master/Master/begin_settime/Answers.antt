@@ -12,17 +12,21 @@ pub returns-then-may_correct-clause-row : goal.returns-then-may_correct-clause-r
 unfolding begins_settime posts_time
 returns-then-may_correct-clause-row g c =
     Performs_then_part (may_set c.args.peer c.args.number) nothing
-    (λ past h. may_set-is c.args.peer c.args.number c.args.at.tick past _ _ c.args.clock.now true true h.master h.clock (c.of.ensures) (sym c.may_correct.ensures ∙ c.if-may_correct.true) (sym c.in-Some.ensures.range))
-    (Performs_reading target_at (posts_time c.args.peer SetTime c.args.number) c.in-Some.value (λ past h. target-is c.args.at.tick past c.args.clock.now h.clock ∙ sym c.in-Some.ensures.value)
+    (λ past h. may_set-is c.args.peer c.args.number c.args.at.tick past _ _ c.args.clock.now true true h.master h.clock (c.of.ensures)
+    (sym c.may_correct.ensures ∙ c.if-may_correct.true) (sym c.in-Some.ensures.range))
+    (Performs_reading target_at (posts_time c.args.peer SetTime c.args.number) c.in-Some.value (λ past h. target-is c.args.at.tick past c.args.clock.now h.clock
+    ∙ sym c.in-Some.ensures.value)
     (Performs_lead _ _ c.args.clock.now (Emits_posts_time c.args.peer SetTime c.args.number c.in-Some.value refl)
-    (λ past h. MasterStands_begins c.args.peer (timed SetTime c.args.number c.in-Some.value past.name) c.args.at.tick past _ _ refl h.acted c.change.ensures.entries c.change.ensures.peers refl h.master)
+    (λ past h. MasterStands_begins c.args.peer (timed SetTime c.args.number c.in-Some.value past.name) c.args.at.tick past _ _ refl h.acted
+    c.change.ensures.entries c.change.ensures.peers refl h.master)
     c.begin_correction.ensures.row))
 
 pub returns-else-may_correct-clause-row : goal.returns-else-may_correct-clause-row
 unfolding begins_settime
 returns-else-may_correct-clause-row g c =
     Performs_else_part (may_set c.args.peer c.args.number) (reading target_at (posts_time c.args.peer SetTime c.args.number))
-    (λ past h. may_set-is c.args.peer c.args.number c.args.at.tick past _ _ c.args.clock.now false true h.master h.clock (c.of.ensures) (sym c.may_correct.ensures ∙ c.if-may_correct.false) (sym c.in-Some.ensures.range)) Performs_nothing
+    (λ past h. may_set-is c.args.peer c.args.number c.args.at.tick past _ _ c.args.clock.now false true h.master h.clock (c.of.ensures)
+    (sym c.may_correct.ensures ∙ c.if-may_correct.false) (sym c.in-Some.ensures.range)) Performs_nothing
 
 pub returns-in-None-clause-row : goal.returns-in-None-clause-row
 unfolding begins_settime

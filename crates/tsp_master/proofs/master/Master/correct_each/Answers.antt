@@ -1,5 +1,6 @@
 -- One measured peer after the other is corrected.
-use Rattle.std.proofs.Common.{get_or, refl, sym, ◌∙◌, ap, arith, w64, to_z, of_z, to_z-of_z, subst, ◌≤◌, ◌≡◌, ◌+◌, ◌<◌, ◌∷◌, [], ◌++◌, length, take, true, false}
+use Rattle.std.proofs.Common.{get_or, refl, sym, ◌∙◌, ap, arith, w64, to_z, of_z, to_z-of_z, subst, ◌≤◌, ◌≡◌, ◌+◌, ◌<◌, ◌∷◌, [], ◌++◌, length, take, true}
+use Rattle.std.proofs.Common.{false}
 use Rattle.std.proofs.lemmas.List.{take_all}
 use Rattle.tsp_base.specs.Words.{for_each, IsPeers}
 use Rattle.tsp_base.proofs.{FrameLemmas.PutsAtMost_up, PerformsLemmas.Performs_each_more, PerformsLemmas.Performs_nothing}
@@ -35,18 +36,24 @@ loop-place-preserved g c =
     let peer = rw inv.peers at c.at-entry.ensures.peer in
     let here : get_or ps n p ≡ p = peer p in
     let kept = inv.later n p (omega arith) inside in
-    let entry : entry_of es p ≡ c.at-entry.result = ap (entry_of es) (sym here) ∙ sym kept ∙ ap (entry_of c.loop-place.self.slaves) here ∙ c.at-entry.ensures.entry in
+    let entry : entry_of es p ≡ c.at-entry.result = ap (entry_of es) (sym here) ∙ sym kept ∙ ap (entry_of c.loop-place.self.slaves) here ∙
+    c.at-entry.ensures.entry in
     let more : take (n + 1) ps ≡ take n ps ++ p ∷ [] = take-more ps n p inside here in
     elim c.if-entry.branch [
       | then-entry w ↦
           let marked : (entry_of es p).measured ≡ true = ap (λ (e : Entry). e.measured) entry ∙ w.if-entry.true in
           record {
-            row = rw (w.self-is, w.station-is, w.desk-is, more, standings-more es v (take n ps) p marked) (Performs_each_more (corrects_peer mean) (standings_of es v (take n ps)) (standing_with v p) inv.row (corrects_with mean p inv.rounds w.correct_peer.ensures.row));
+            row = rw (w.self-is, w.station-is, w.desk-is, more, standings-more es v (take n ps) p marked)
+                (Performs_each_more (corrects_peer mean) (standings_of es v (take n ps)) (standing_with v p) inv.row
+                (corrects_with mean p inv.rounds w.correct_peer.ensures.row));
             peers = rw w.self-is (w.correct_peer.ensures.only.peers ∙ inv.peers);
             rounds = rw w.self-is (w.correct_peer.ensures.only.rounds ∙ inv.rounds);
             later = rw w.self-is (later-same ps n p es _ _ up.ascending here w.correct_peer.ensures.only.others inv.later);
             port = rw w.station-is (record { me = w.correct_peer.ensures.port.me ∙ inv.port.me; peers = w.correct_peer.ensures.port.peers ∙ inv.port.peers });
-            room = rw w.desk-is (record { spare = omega (arith, inv.room.spare, w.correct_peer.ensures.room.spare); few = omega (arith, inv.room.few, w.correct_peer.ensures.room.few) });
+            room = rw w.desk-is (record {
+              spare = omega (arith, inv.room.spare, w.correct_peer.ensures.room.spare);
+              few = omega (arith, inv.room.few, w.correct_peer.ensures.room.few);
+            });
           }
       | else-entry w ↦
           let unmarked : (entry_of es p).measured ≡ false = ap (λ (e : Entry). e.measured) entry ∙ w.if-entry.false in
@@ -69,4 +76,5 @@ returns-clause-row g c =
     rw (all, back) at c.loop-place.invariant.row
 
 pub returns-clause-room : goal.returns-clause-room
-returns-clause-room g c = PutsAtMost_up c.loop-place.place (length (peers_of c.args.self.now.slaves)) (subst (λ l. c.loop-place.place ≤ l) c.len-place-end.ensures.value c.loop-place.auto.place-end) c.loop-place.invariant.room
+returns-clause-room g c = PutsAtMost_up c.loop-place.place (length (peers_of c.args.self.now.slaves))
+    (subst (λ l. c.loop-place.place ≤ l) c.len-place-end.ensures.value c.loop-place.auto.place-end) c.loop-place.invariant.room

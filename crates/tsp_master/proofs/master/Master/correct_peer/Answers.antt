@@ -12,14 +12,17 @@ use Rattle.tsp_master.proofs.master.Master.correct_peer.Goals as goal
 pub returns-in-None-clause-row : goal.returns-in-None-clause-row
 unfolding corrects_peer corrects_by puts
 returns-in-None-clause-row g c =
-    let is : estimate_with c.args.self.now.rounds c.args.peer ≡ None = estimate-sample (best_of (measured_with c.args.self.now.rounds c.args.peer).samples) ∙ ap (option_map estimate_in) (sym c.in-None.ensures) in
-    rw is (Performs_lead _ _ c.args.clock.now (Emits_puts (Leave c.args.peer) refl) (λ past h. MasterStands_leaves c.args.peer c.args.at.tick past _ _ c.leave.ensures.entries c.leave.ensures.peers refl h.master)
+    let is : estimate_with c.args.self.now.rounds c.args.peer ≡ None = estimate-sample (best_of (measured_with c.args.self.now.rounds c.args.peer).samples) ∙
+    ap (option_map estimate_in) (sym c.in-None.ensures) in
+    rw is (Performs_lead _ _ c.args.clock.now (Emits_puts (Leave c.args.peer) refl) (λ past h. MasterStands_leaves c.args.peer c.args.at.tick past _ _
+    c.leave.ensures.entries c.leave.ensures.peers refl h.master)
     (Performs_idle (Leave c.args.peer) refl c.put.ensures.acts))
 
 pub returns-then-is_near-clause-row : goal.returns-then-is_near-clause-row
 unfolding corrects_peer corrects_by
 returns-then-is_near-clause-row g c =
-    let is : estimate_with c.args.self.now.rounds c.args.peer ≡ Some (estimate_in c.in-Some.best) = estimate-sample (best_of (measured_with c.args.self.now.rounds c.args.peer).samples) ∙ ap (option_map estimate_in) (sym c.in-Some.ensures) in
+    let is : estimate_with c.args.self.now.rounds c.args.peer ≡ Some (estimate_in c.in-Some.best) =
+    estimate-sample (best_of (measured_with c.args.self.now.rounds c.args.peer).samples) ∙ ap (option_map estimate_in) (sym c.in-Some.ensures) in
     let diff = c.in-Some.best.diff in
     let fits : SFits w64 diff = search rules in
     let back : to_z w64 (of_z w64 diff) ≡ diff = to_z-of_z fits in
@@ -32,7 +35,8 @@ returns-then-is_near-clause-row g c =
 pub returns-else-is_near-clause-row : goal.returns-else-is_near-clause-row
 unfolding corrects_peer corrects_by
 returns-else-is_near-clause-row g c =
-    let is : estimate_with c.args.self.now.rounds c.args.peer ≡ Some (estimate_in c.in-Some.best) = estimate-sample (best_of (measured_with c.args.self.now.rounds c.args.peer).samples) ∙ ap (option_map estimate_in) (sym c.in-Some.ensures) in
+    let is : estimate_with c.args.self.now.rounds c.args.peer ≡ Some (estimate_in c.in-Some.best) =
+    estimate-sample (best_of (measured_with c.args.self.now.rounds c.args.peer).samples) ∙ ap (option_map estimate_in) (sym c.in-Some.ensures) in
     let diff = c.in-Some.best.diff in
     let fits : SFits w64 diff = search rules in
     let back : to_z w64 (of_z w64 diff) ≡ diff = to_z-of_z fits in

@@ -23,10 +23,18 @@ loop-place-preserved c =
     elim c.if-entry.branch [
       | then-entry w ↦
           let marked : (entry_of es p).measured ≡ true = ap (λ (e : Entry). e.measured) entry ∙ w.if-entry.true in
-          let added : w.add_estimate.new.self.values.items ≡ c.loop-place.self.values.items ++ diff_before (estimate_with v p) [] = w.add_estimate.ensures.items ∙ ap (λ r. c.loop-place.self.values.items ++ diff_before (estimate_with r p) []) inv.rounds in
+          let added : w.add_estimate.new.self.values.items ≡ c.loop-place.self.values.items ++ diff_before (estimate_with v p) [] =
+          w.add_estimate.ensures.items ∙ ap (λ r. c.loop-place.self.values.items ++ diff_before (estimate_with r p) []) inv.rounds in
           record {
-            items = rw (w.self-is, more) (added ∙ ap (λ zs. zs ++ diff_before (estimate_with v p) []) inv.items ∙ sym (estimates-more es v (take n ps) p marked));
-            few = rw w.self-is (omega (arith, ap length added, length-append c.loop-place.self.values.items (diff_before (estimate_with v p) []), one-estimate (estimate_with v p), inv.few));
+            items = rw (w.self-is, more) (added ∙ ap (λ zs. zs ++ diff_before (estimate_with v p) []) inv.items ∙
+                sym (estimates-more es v (take n ps) p marked));
+            few = rw w.self-is (omega (
+              arith,
+              ap length added,
+              length-append c.loop-place.self.values.items (diff_before (estimate_with v p) []),
+              one-estimate (estimate_with v p),
+              inv.few,
+            ));
             room = rw w.self-is (w.add_estimate.ensures.room ∙ inv.room);
             slaves = rw w.self-is (w.add_estimate.ensures.slaves ∙ inv.slaves);
             rounds = rw w.self-is (w.add_estimate.ensures.rounds ∙ inv.rounds);

@@ -13,7 +13,11 @@ returns-then-is_some-clause-row g c =
     let fits : SFits w64 target = search rules in
     let back : to_z w64 (of_z w64 target) ≡ target = to_z-of_z fits in
     rw c.in-Reply.is (Performs_from
-    (λ past h. record { stands = h; goes = ap (λ (d : Deadlines). is_some d.close) (sym h.station.alarms) ∙ ap is_some (sym c.at.ensures) ∙ sym c.is_some.ensures ∙ c.if-is_some.true })
+    (λ past h. record {
+      stands = h;
+      goes = ap (λ (d : Deadlines). is_some d.close) (sym h.station.alarms) ∙ ap is_some (sym c.at.ensures) ∙
+          sym c.is_some.ensures ∙ c.if-is_some.true;
+    })
     (c.sample.ensures.row c.args.station.now c.args.clock.now c.args.tick (back ∙ c.target.ensures.value)))
 
 pub returns-else-is_some-clause-row : goal.returns-else-is_some-clause-row

@@ -33,14 +33,17 @@ unfolding master_rings
 returns-in-Round-clause-corrects g c turn past h = rw c.in-Round.is (sym (round-corrects c.args.tick past))
 
 pub returns-in_default-clause-row : goal.returns-in_default-clause-row
-returns-in_default-clause-row g c turn = rw (master_rings-other c.args.group_mean _ c.in_default.not-Probe c.in_default.not-Close c.in_default.not-Round) Performs_nothing
+returns-in_default-clause-row g c turn = rw (master_rings-other c.args.group_mean _ c.in_default.not-Probe c.in_default.not-Close c.in_default.not-Round)
+    Performs_nothing
 
 pub returns-in_default-clause-corrects : goal.returns-in_default-clause-corrects
-returns-in_default-clause-corrects g c turn past h = rw (master_rings-other c.args.group_mean _ c.in_default.not-Probe c.in_default.not-Close c.in_default.not-Round) (nothing-corrects c.args.tick past)
+returns-in_default-clause-corrects g c turn past h = rw (master_rings-other c.args.group_mean _ c.in_default.not-Probe c.in_default.not-Close
+    c.in_default.not-Round) (nothing-corrects c.args.tick past)
 
 pub returns-in-Close-clause-recent : goal.returns-in-Close-clause-recent
 returns-in-Close-clause-recent g c e past h alone p s b =
-    since_correct past c.args.self.now p s h.master (goes_where c.args.tick past (ap (λ (d : Deadlines). is_over d.close c.args.tick) (sym h.station.alarms) ∙ rw e at c.requires.due)) alone b
+    since_correct past c.args.self.now p s h.master (goes_where c.args.tick past (ap (λ (d : Deadlines). is_over d.close c.args.tick) (sym h.station.alarms) ∙
+    rw e at c.requires.due)) alone b
 
 pub returns-in-Probe-clause-room : goal.returns-in-Probe-clause-room
 returns-in-Probe-clause-room g c = doubled (length (peers_of c.args.self.now.slaves)) 2 4 2 refl c.ring_probe.ensures.room

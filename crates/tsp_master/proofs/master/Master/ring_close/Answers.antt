@@ -14,10 +14,12 @@ use Rattle.tsp_master.proofs.master.Master.ring_close.Goals as goal
 pub returns-then-not-is_in_time-clause-row : goal.returns-then-not-is_in_time-clause-row
 unfolding abandons
 returns-then-not-is_in_time-clause-row g c order =
-    Performs_late_close c.args.own _ c.args.clock.now (order, c.requires.due) (sym c.is_in_time.ensures ∙ c.if-not-is_in_time.true) (c.late.ensures.row c.args.at.tick) (c.abandon.ensures.row c.args.at.tick)
+    Performs_late_close c.args.own _ c.args.clock.now (order, c.requires.due) (sym c.is_in_time.ensures ∙
+    c.if-not-is_in_time.true) (c.late.ensures.row c.args.at.tick) (c.abandon.ensures.row c.args.at.tick)
 
 pub returns-then-not-is_in_time-clause-corrects : goal.returns-then-not-is_in_time-clause-corrects
-returns-then-not-is_in_time-clause-corrects g c order past h = sym (corrects-late c.args.own c.args.at.tick past c.args.station.now h.station (sym c.is_in_time.ensures ∙ c.if-not-is_in_time.true))
+returns-then-not-is_in_time-clause-corrects g c order past h = sym (corrects-late c.args.own c.args.at.tick past c.args.station.now h.station
+    (sym c.is_in_time.ensures ∙ c.if-not-is_in_time.true))
 
 pub returns-then-not-can_adjust-clause-row : goal.returns-then-not-can_adjust-clause-row
 unfolding closes_with abandons
@@ -31,9 +33,11 @@ returns-then-not-can_adjust-clause-row g c order =
     let back : to_z w64 (of_z w64 mean) ≡ mean = to_z-of_z fits in
     let is : mean ≡ mean_by own k = c.mean_by-mean.ensures.value in
     let test = rw back at c.can_adjust.ensures in
-    Performs_timely_close own m c.group-group.new.self k c.args.clock.now (order, c.requires.due) (sym c.is_in_time.ensures ∙ c.if-not-is_in_time.false) c.group-group.ensures.group c.group-group.ensures.slaves c.group-group.ensures.rounds
+    Performs_timely_close own m c.group-group.new.self k c.args.clock.now (order, c.requires.due) (sym c.is_in_time.ensures ∙
+    c.if-not-is_in_time.false) c.group-group.ensures.group c.group-group.ensures.slaves c.group-group.ensures.rounds
     (c.ring.ensures.row x)
-    (Performs_else_part (can_adjust (mean_by own k)) (puts (close_act own k) followed_by (moves own (mean_by own k) followed_by for_each (corrects_peer (mean_by own k)) (round_of m.slaves m.rounds)))
+    (Performs_else_part (can_adjust (mean_by own k)) (puts (close_act own k) followed_by
+    (moves own (mean_by own k) followed_by for_each (corrects_peer (mean_by own k)) (round_of m.slaves m.rounds)))
     (λ past h. ap (λ z. can_adjust z x past) (sym is) ∙ can_adjust-is mean x past c.args.clock.now h.clock (sym test ∙ c.if-not-can_adjust.true))
     (Performs_abandons c.group-group.new.self c.args.clock.now (c.abandon-then-not-can_adjust.ensures.row x)))
 
@@ -44,7 +48,10 @@ returns-then-not-can_adjust-clause-corrects g c order past h =
     let fits : SFits w64 mean = search rules in
     let back : to_z w64 (of_z w64 mean) ≡ mean = to_z-of_z fits in
     let test = rw back at c.can_adjust.ensures in
-    sym (corrects-timely c.args.own c.args.at.tick past c.args.self.now c.args.station.now clock c.group-group.result h (order, c.requires.due) (sym c.is_in_time.ensures ∙ c.if-not-is_in_time.false) c.group-group.ensures.group
+    sym (corrects-timely c.args.own c.args.at.tick past c.args.self.now c.args.station.now clock c.group-group.result h (
+      order,
+      c.requires.due,
+    ) (sym c.is_in_time.ensures ∙ c.if-not-is_in_time.false) c.group-group.ensures.group
     (ap (λ z. is_clock_value (target_of clock c.args.at.tick +ℤ z)) (sym c.mean_by-mean.ensures.value) ∙ sym test ∙ c.if-not-can_adjust.true))
 
 pub returns-clause-row : goal.returns-clause-row
@@ -66,11 +73,13 @@ returns-clause-row g c order =
     let put = rw (back, back_lo, back_width) at c.put.ensures.acts in
     let moved = rw back at c.move_own.ensures.row in
     let each = rw back at c.correct_each.ensures.row in
-    Performs_timely_close own m c.group-group.new.self k c.args.clock.now (order, c.requires.due) (sym c.is_in_time.ensures ∙ c.if-not-is_in_time.false) c.group-group.ensures.group c.group-group.ensures.slaves c.group-group.ensures.rounds
+    Performs_timely_close own m c.group-group.new.self k c.args.clock.now (order, c.requires.due) (sym c.is_in_time.ensures ∙
+    c.if-not-is_in_time.false) c.group-group.ensures.group c.group-group.ensures.slaves c.group-group.ensures.rounds
     (c.ring.ensures.row x)
     (Performs_then_part (can_adjust (mean_by own k)) abandons
     (λ past h. ap (λ z. can_adjust z x past) (sym is) ∙ can_adjust-is mean x past c.args.clock.now h.clock (sym test ∙ c.if-not-can_adjust.false))
-    (rw (← is) (Performs_then (Performs_quiet _ c.args.clock.now (Emits_puts (Close k.count k.lo k.width mean) refl) (Performs_idle (Close k.count k.lo k.width mean) refl put))
+    (rw (← is) (Performs_then (Performs_quiet _ c.args.clock.now (Emits_puts (Close k.count k.lo k.width mean) refl)
+    (Performs_idle (Close k.count k.lo k.width mean) refl put))
     (Performs_then (moved c.group-group.new.self c.ring.new.self) (each_same mean c.group-group.ensures.slaves c.group-group.ensures.rounds each)))))
 
 pub returns-clause-corrects : goal.returns-clause-corrects
@@ -80,7 +89,10 @@ returns-clause-corrects g c order past h =
     let fits : SFits w64 mean = search rules in
     let back : to_z w64 (of_z w64 mean) ≡ mean = to_z-of_z fits in
     let test = rw back at c.can_adjust.ensures in
-    sym (corrects-timely c.args.own c.args.at.tick past c.args.self.now c.args.station.now clock c.group-group.result h (order, c.requires.due) (sym c.is_in_time.ensures ∙ c.if-not-is_in_time.false) c.group-group.ensures.group
+    sym (corrects-timely c.args.own c.args.at.tick past c.args.self.now c.args.station.now clock c.group-group.result h (
+      order,
+      c.requires.due,
+    ) (sym c.is_in_time.ensures ∙ c.if-not-is_in_time.false) c.group-group.ensures.group
     (ap (λ z. is_clock_value (target_of clock c.args.at.tick +ℤ z)) (sym c.mean_by-mean.ensures.value) ∙ sym test ∙ c.if-not-can_adjust.false))
 
 pub returns-then-not-is_in_time-clause-room : goal.returns-then-not-is_in_time-clause-room
@@ -92,4 +104,5 @@ returns-then-not-can_adjust-clause-room g c = twice (length (peers_of c.args.sel
 pub returns-clause-room : goal.returns-clause-room
 returns-clause-room g c =
     let each = rw (ap peers_of c.group-group.ensures.slaves) at c.correct_each.ensures.room in
-    once_then (length (peers_of c.args.self.now.slaves)) 2 c.ring.ensures.room (put_then (length (peers_of c.args.self.now.slaves)) (PutsExactly_put _ c.put.ensures.spare c.put.ensures.acts) c.move_own.ensures.room each)
+    once_then (length (peers_of c.args.self.now.slaves)) 2 c.ring.ensures.room (put_then (length (peers_of c.args.self.now.slaves))
+    (PutsExactly_put _ c.put.ensures.spare c.put.ensures.acts) c.move_own.ensures.room each)

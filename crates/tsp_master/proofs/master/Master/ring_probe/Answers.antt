@@ -14,9 +14,11 @@ use Rattle.tsp_master.proofs.master.Master.ring_probe.Goals as goal
 pub returns-then-not-is_in_time-clause-row : goal.returns-then-not-is_in_time-clause-row
 unfolding probe_rings puts
 returns-then-not-is_in_time-clause-row g c =
-    Performs_else_part (is_in_time Probe) (puts (Ring Probe) followed_by (asks_measured followed_by arms_next)) (λ past h. in_time-is Probe c.args.at.tick past c.args.station.now h.station (sym c.is_in_time.ensures ∙ c.if-not-is_in_time.true))
+    Performs_else_part (is_in_time Probe) (puts (Ring Probe) followed_by (asks_measured followed_by arms_next))
+    (λ past h. in_time-is Probe c.args.at.tick past c.args.station.now h.station (sym c.is_in_time.ensures ∙ c.if-not-is_in_time.true))
     (Performs_then
-    (Performs_rung (Late Probe) _ _ c.args.clock.now refl (λ past. refl) (λ past h. MasterStands_late_probe c.args.at.tick past _ h.master) (λ past h k. k) (c.late.ensures.row c.args.at.tick))
+    (Performs_rung (Late Probe) _ _ c.args.clock.now refl (λ past. refl) (λ past h. MasterStands_late_probe c.args.at.tick past _ h.master) (λ past h k. k)
+    (c.late.ensures.row c.args.at.tick))
     (Performs_abandons c.args.self.now c.args.clock.now (c.abandon.ensures.row c.args.at.tick)))
 
 pub returns-then-count_probe-clause-row : goal.returns-then-count_probe-clause-row
@@ -25,7 +27,8 @@ returns-then-count_probe-clause-row g c =
     let x = c.args.at.tick in
     let due = over-some c.args.station.now.alarms.probe x c.requires.due in
     let low = met-some c.args.station.now.alarms.probe x due.0 (sym c.is_in_time.ensures ∙ c.if-not-is_in_time.false) due.1 in
-    Performs_then_part (is_in_time Probe) (puts (Late Probe) followed_by abandons) (λ past h. in_time-is Probe x past c.args.station.now h.station (sym c.is_in_time.ensures ∙ c.if-not-is_in_time.false))
+    Performs_then_part (is_in_time Probe) (puts (Late Probe) followed_by abandons) (λ past h. in_time-is Probe x past c.args.station.now h.station
+    (sym c.is_in_time.ensures ∙ c.if-not-is_in_time.false))
     (Performs_then
     (Performs_rung {Q = ProbesStands x} (Ring Probe) _ _ c.args.clock.now refl (λ past. refl)
     (λ past h. MasterStands_ring_probe x past _ _ refl c.if-count_probe.ensures.counts h.master)
@@ -39,7 +42,8 @@ pub returns-then-not-is_in_time-clause-room : goal.returns-then-not-is_in_time-c
 returns-then-not-is_in_time-clause-room g c = twice (length (peers_of c.args.self.now.slaves)) 0 c.late.ensures.room c.abandon.ensures.room
 
 pub returns-then-count_probe-clause-room : goal.returns-then-count_probe-clause-room
-returns-then-count_probe-clause-room g c = then_put (length (peers_of c.args.self.now.slaves)) c.ring.ensures.room c.ask_measured.ensures.room c.arm_next.ensures.room
+returns-then-count_probe-clause-room g c = then_put (length (peers_of c.args.self.now.slaves)) c.ring.ensures.room c.ask_measured.ensures.room
+    c.arm_next.ensures.room
 
 pub returns-else-count_probe-clause-room : goal.returns-else-count_probe-clause-room
 returns-else-count_probe-clause-room g c = once (length (peers_of c.args.self.now.slaves)) 1 c.ring.ensures.room

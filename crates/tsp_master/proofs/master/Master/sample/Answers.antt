@@ -7,7 +7,8 @@ pub returns-in-NotStarted-clause-row : goal.returns-in-NotStarted-clause-row
 returns-in-NotStarted-clause-row g c station clock x is =
     let r = c.in-NotStarted.ensures in
     let none = r.replies in
-    Performs_missed c.args.peer c.args.reply.now _ _ station clock none.0 refl r.asked r.probes (all_stay c.args.peer c.args.self.now.rounds c.reply.new.self none.1 r.others)
+    Performs_missed c.args.peer c.args.reply.now _ _ station clock none.0 refl r.asked r.probes (all_stay c.args.peer c.args.self.now.rounds c.reply.new.self
+    none.1 r.others)
 
 pub returns-in-Sample-clause-row : goal.returns-in-Sample-clause-row
 returns-in-Sample-clause-row g c station clock x is =

@@ -12,7 +12,8 @@ pub returns-in-MasterReq-clause-row : goal.returns-in-MasterReq-clause-row
 unfolding master_takes_here
 returns-in-MasterReq-clause-row g c role =
     let m = c.args.m.now in
-    let k : master_takes_kind_here c.args.from m m.kind ≡ posts c.args.from MasterAck m.number = ap (master_takes_kind_here c.args.from m) (sym c.kind.ensures) ∙ master_takes_kind_here-ask c.args.from m c.kind.result c.in-MasterReq.is in
+    let k : master_takes_kind_here c.args.from m m.kind ≡ posts c.args.from MasterAck m.number =
+    ap (master_takes_kind_here c.args.from m) (sym c.kind.ensures) ∙ master_takes_kind_here-ask c.args.from m c.kind.result c.in-MasterReq.is in
     rw k (Performs_quiet _ c.args.clock.now (Emits_posts c.args.from MasterAck m.number refl)
     (Performs_acting (rw c.number.ensures at (c.post.ensures.row c.args.tick))))
 
@@ -34,7 +35,8 @@ returns-in_default-clause-row g c role =
     let m = c.args.m.now in
     let o = c.in_default in
     let k : master_takes_kind_here c.args.from m m.kind ≡ nothing =
-    ap (master_takes_kind_here c.args.from m) (sym c.kind.ensures) ∙ master_takes_kind_here-other c.args.from m c.kind.result o.not-MasterReq o.not-Resolve o.not-SlaveUp o.not-Election in
+    ap (master_takes_kind_here c.args.from m) (sym c.kind.ensures) ∙ master_takes_kind_here-other c.args.from m c.kind.result o.not-MasterReq o.not-Resolve
+    o.not-SlaveUp o.not-Election in
     rw k Performs_nothing
 
 pub returns-in-MasterReq-clause-room : goal.returns-in-MasterReq-clause-room

@@ -7,7 +7,8 @@ use Rattle.tsp_measure.proofs.exchanges.Exchanges.new.Goals as goal
 
 pub invariant_of-result : goal.invariant_of-result
 invariant_of-result c =
-    let many : length (boxed_slice_items c.in_ok-numbers.numbers) ≡ length c.args.peers.now = ap length c.in_ok-numbers.ensures ∙ length-map c.args.peers.now (λ (p : PeerId). p.0) in (
+    let many : length (boxed_slice_items c.in_ok-numbers.numbers) ≡ length c.args.peers.now = ap length c.in_ok-numbers.ensures ∙
+    length-map c.args.peers.now (λ (p : PeerId). p.0) in (
       subst IsStrictlyIncreasing (sym c.in_ok-numbers.ensures) c.requires,
       (omega (arith, ap length c.in_ok-measured.ensures.items), omega (arith, many, c.in_ok-measured.ensures.exact)),
     )

@@ -10,15 +10,21 @@ returns-in-Some-clause-replies c =
     let found = rw (← c.self.view_is) at c.in-Some.ensures in
     let here : with_peer c.args.self.now c.args.peer.0 ≡ c.index_mut.result.now =
     ap (λ (x : MeasuredPeers). with_peer x c.args.peer.0) (sym c.self.view_is)
-    ∙ at_peer-found (boxed_slice_items c.self.inside.peers) c.self.inside.measured.items c.args.peer.0 c.in-Some.place c.index_mut.result.now (Rise-numbers _ c.self.invariant.0) c.self.invariant.1.0 found.0 found.1
+    ∙ at_peer-found (boxed_slice_items c.self.inside.peers) c.self.inside.measured.items c.args.peer.0 c.in-Some.place c.index_mut.result.now
+    (Rise-numbers _ c.self.invariant.0) c.self.invariant.1.0 found.0 found.1
     ∙ sym c.index_mut.ensures.value in
-    let there = at_peer-put (boxed_slice_items c.self.inside.peers) c.self.inside.measured.items c.args.peer.0 c.in-Some.place c.reply.new.self (Rise-numbers _ c.self.invariant.0) c.self.invariant.1.0 found.0 found.1 in
+    let there = at_peer-put (boxed_slice_items c.self.inside.peers) c.self.inside.measured.items c.args.peer.0 c.in-Some.place c.reply.new.self
+    (Rise-numbers _ c.self.invariant.0) c.self.invariant.1.0 found.0 found.1 in
     rw (here, there) (rw (to_z-of_z w64 c.args.s c.ranges.s, to_z-of_z w64 c.args.d c.ranges.d) at c.reply.ensures)
 
 pub returns-in-Some-clause-others : goal.returns-in-Some-clause-others
 returns-in-Some-clause-others c q ne =
     let found = rw (← c.self.view_is) at c.in-Some.ensures in
-    at_peer-others (boxed_slice_items c.self.inside.peers) c.self.inside.measured.items c.args.peer.0 q c.in-Some.place c.reply.new.self (omega (arith, found.0, c.self.invariant.1.0)) found.1 ne
+    at_peer-others (boxed_slice_items c.self.inside.peers) c.self.inside.measured.items c.args.peer.0 q c.in-Some.place c.reply.new.self (omega (
+      arith,
+      found.0,
+      c.self.invariant.1.0,
+    )) found.1 ne
     ∙ ap (λ (x : MeasuredPeers). with_peer x q) c.self.view_is
 
 pub returns-in-None-clause-replies : goal.returns-in-None-clause-replies

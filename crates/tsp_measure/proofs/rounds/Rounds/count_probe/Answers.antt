@@ -4,7 +4,8 @@ use Rattle.tsp_measure.{proofs.Counters.IsCounted-probed, proofs.Counters.IsRoun
 use Rattle.tsp_measure.proofs.rounds.Rounds.count_probe.Goals as goal
 
 pub invariant_of-self : goal.invariant_of-self
-invariant_of-self c = IsRounds-probed (record { exchanges = c.self.inside.exchanges; asked = c.self.inside.asked; probes = c.self.inside.probes }) c.if-more.true c.self.invariant
+invariant_of-self c = IsRounds-probed (record { exchanges = c.self.inside.exchanges; asked = c.self.inside.asked; probes = c.self.inside.probes })
+    c.if-more.true c.self.invariant
 
 pub returns-then-more-clause-few : goal.returns-then-more-clause-few
 returns-then-more-clause-few c more = c.self.invariant.few

@@ -14,8 +14,12 @@ put-requires-clause-same c d =
 pub returns-in-Ok-clause-entries : goal.returns-in-Ok-clause-entries
 returns-in-Ok-clause-entries c =
     let place = rw (c.deref.ensures.value, c.self.view_is) at c.in-Ok.ensures in
-    Changes-put (changed_by c.args.change) c.args.self.now c.put.new.self c.args.peer c.in-Ok.place c.index-entry.result.now (rw c.self.view_is at c.self.invariant) place (rw c.self.view_is at c.index-entry.ensures) (changed_by-peer c.args.change c.index-entry.result.now)
+    Changes-put (changed_by c.args.change) c.args.self.now c.put.new.self c.args.peer c.in-Ok.place c.index-entry.result.now
+    (rw c.self.view_is at c.self.invariant) place (rw c.self.view_is at c.index-entry.ensures) (changed_by-peer c.args.change c.index-entry.result.now)
     (rw c.changed.ensures at c.put.ensures.value)
 
 pub returns-in_default-clause-entries : goal.returns-in_default-clause-entries
-returns-in_default-clause-entries c = absurd (always_found c.args.self.now c.args.peer c.in_default.field-0 c.requires (rw (c.deref.ensures.value, c.self.view_is) at c.in_default.ensures))
+returns-in_default-clause-entries c = absurd (always_found c.args.self.now c.args.peer c.in_default.field-0 c.requires (rw (
+  c.deref.ensures.value,
+  c.self.view_is,
+) at c.in_default.ensures))

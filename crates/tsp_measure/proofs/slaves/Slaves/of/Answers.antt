@@ -7,7 +7,8 @@ pub returns-in-Ok : goal.returns-in-Ok
 returns-in-Ok c =
     let place = rw (c.deref.ensures.value, c.self.view_is) at c.in-Ok.ensures in
     let is = rw c.self.view_is at c.index.ensures in
-    is ∙ sym (entry_of-at c.args.self.now c.in-Ok.place c.index.result.now c.args.peer (Rising-peers c.args.self.now (rw c.self.view_is at c.self.invariant)) place.0 (place.1 c.index.result.now))
+    is ∙ sym (entry_of-at c.args.self.now c.in-Ok.place c.index.result.now c.args.peer (Rising-peers c.args.self.now (rw c.self.view_is at c.self.invariant))
+    place.0 (place.1 c.index.result.now))
 
 pub returns-in-Err : goal.returns-in-Err
 returns-in-Err c =

@@ -8,7 +8,8 @@ use Rattle.tsp_measure.proofs.slaves.Slaves.put.Goals as goal
 pub invariant_of-self : goal.invariant_of-self
 invariant_of-self c =
     let es = boxed_slice_items c.self.inside.entries in
-    let same : peers_of (set es c.args.place c.args.entry) ≡ peers_of es = peers_of-set es c.args.place c.args.entry c.args.entry (λ h. rw c.self.view_is (c.requires.same c.args.entry)) in
+    let same : peers_of (set es c.args.place c.args.entry) ≡ peers_of es = peers_of-set es c.args.place c.args.entry c.args.entry
+    (λ h. rw c.self.view_is (c.requires.same c.args.entry)) in
     subst IsPeers (sym same) c.self.invariant
 
 pub returns-clause-peers : goal.returns-clause-peers

@@ -7,15 +7,42 @@ use Rattle.tsp_measure.proofs.slaves.Slaves.unmeasure_all.Goals as goal
 
 pub invariant_of-self : goal.invariant_of-self
 invariant_of-self c =
-    let is : c.unmeasure_each.new.entries ≡ map unmeasures (boxed_slice_items c.self.inside.entries) = c.unmeasure_each.ensures ∙ ap (map unmeasures) c.as_mut_slice.ensures.value in
-    let many : boxed_slice_len c.self.inside.entries ≡ length c.unmeasure_each.new.entries = omega (arith, ap length is, length-map (boxed_slice_items c.self.inside.entries) unmeasures, c.as_mut_slice.ensures.len, ap length c.as_mut_slice.ensures.value) in
-    rw (written (boxed_slice_len c.self.inside.entries) c.unmeasure_each.new.entries (boxed_slice_items c.self.inside.entries) many, is) (subst IsPeers (sym (peers_of-map unmeasures (λ e. refl) (boxed_slice_items c.self.inside.entries))) c.self.invariant)
+    let is : c.unmeasure_each.new.entries ≡ map unmeasures (boxed_slice_items c.self.inside.entries) = c.unmeasure_each.ensures ∙
+    ap (map unmeasures) c.as_mut_slice.ensures.value in
+    let many : boxed_slice_len c.self.inside.entries ≡ length c.unmeasure_each.new.entries =
+    omega (
+      arith,
+      ap length is,
+      length-map (boxed_slice_items c.self.inside.entries) unmeasures,
+      c.as_mut_slice.ensures.len,
+      ap length c.as_mut_slice.ensures.value,
+    ) in
+    rw (
+      written (boxed_slice_len c.self.inside.entries) c.unmeasure_each.new.entries (boxed_slice_items c.self.inside.entries) many,
+      is,
+    ) (subst IsPeers (sym (peers_of-map unmeasures (λ e. refl) (boxed_slice_items c.self.inside.entries))) c.self.invariant)
 
 pub returns : goal.returns
 returns c =
-    let is : c.unmeasure_each.new.entries ≡ map unmeasures (boxed_slice_items c.self.inside.entries) = c.unmeasure_each.ensures ∙ ap (map unmeasures) c.as_mut_slice.ensures.value in
-    let many : boxed_slice_len c.self.inside.entries ≡ length c.unmeasure_each.new.entries = omega (arith, ap length is, length-map (boxed_slice_items c.self.inside.entries) unmeasures, c.as_mut_slice.ensures.len, ap length c.as_mut_slice.ensures.value) in
+    let is : c.unmeasure_each.new.entries ≡ map unmeasures (boxed_slice_items c.self.inside.entries) = c.unmeasure_each.ensures ∙
+    ap (map unmeasures) c.as_mut_slice.ensures.value in
+    let many : boxed_slice_len c.self.inside.entries ≡ length c.unmeasure_each.new.entries =
+    omega (
+      arith,
+      ap length is,
+      length-map (boxed_slice_items c.self.inside.entries) unmeasures,
+      c.as_mut_slice.ensures.len,
+      ap length c.as_mut_slice.ensures.value,
+    ) in
     record {
-      entries = rw (written (boxed_slice_len c.self.inside.entries) c.unmeasure_each.new.entries (boxed_slice_items c.self.inside.entries) many, is, ← c.self.view_is) (ChangesAll-map unmeasures (λ e. refl) (λ p. refl) (boxed_slice_items c.self.inside.entries));
-      peers = rw (written (boxed_slice_len c.self.inside.entries) c.unmeasure_each.new.entries (boxed_slice_items c.self.inside.entries) many, is, ← c.self.view_is) (peers_of-map unmeasures (λ e. refl) (boxed_slice_items c.self.inside.entries));
+      entries = rw (
+        written (boxed_slice_len c.self.inside.entries) c.unmeasure_each.new.entries (boxed_slice_items c.self.inside.entries) many,
+        is,
+        ← c.self.view_is,
+      ) (ChangesAll-map unmeasures (λ e. refl) (λ p. refl) (boxed_slice_items c.self.inside.entries));
+      peers = rw (
+        written (boxed_slice_len c.self.inside.entries) c.unmeasure_each.new.entries (boxed_slice_items c.self.inside.entries) many,
+        is,
+        ← c.self.view_is,
+      ) (peers_of-map unmeasures (λ e. refl) (boxed_slice_items c.self.inside.entries));
     }

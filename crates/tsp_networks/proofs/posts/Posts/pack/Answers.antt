@@ -9,5 +9,7 @@ pub returns : goal.returns
 returns c p is =
     let names = c.self.inside.names.items in
     let head = c.index.result.now in
-    let here = post-here names c.self.inside.heads.items c.args.self.now.items c.args.k head (ap (λ (v : PostsValue). v.items) c.self.view_is) c.requires c.index.ensures in
-    c.pack.ensures ∙ ap (λ (l : List ℕ). Good (datagram_in l head.held)) c.as_slice.ensures.value ∙ ap Good (datagram-here names head p (post_in names head) (sym is ∙ here) refl)
+    let here = post-here names c.self.inside.heads.items c.args.self.now.items c.args.k head (ap (λ (v : PostsValue). v.items) c.self.view_is) c.requires
+    c.index.ensures in
+    c.pack.ensures ∙ ap (λ (l : List ℕ). Good (datagram_in l head.held)) c.as_slice.ensures.value ∙
+    ap Good (datagram-here names head p (post_in names head) (sym is ∙ here) refl)

@@ -14,7 +14,8 @@ returns-in-Ok-clause-row g c =
     (node_by {before = c.in-Ok.node} refl (emits_built refl built_starts) (c.begin.ensures.row c.in-Ok.node.clock))
 
 pub returns-in-Ok-clause-ok : goal.returns-in-Ok-clause-ok
-returns-in-Ok-clause-ok g c = let ok = c.in-Ok.ensures.ok in let back : to_z w64 (of_z w64 c.args.wall) ≡ c.args.wall = to_z-of_z c.ranges.wall in (ok.0, rw (← back) ok.1, c.begin.ensures.peers ∙ ok.2, ok.3)
+returns-in-Ok-clause-ok g c = let ok = c.in-Ok.ensures.ok in let back : to_z w64 (of_z w64 c.args.wall) ≡ c.args.wall = to_z-of_z c.ranges.wall in
+    (ok.0, rw (← back) ok.1, c.begin.ensures.peers ∙ ok.2, ok.3)
 
 pub returns-in-Ok-clause-room : goal.returns-in-Ok-clause-room
 returns-in-Ok-clause-room g c =

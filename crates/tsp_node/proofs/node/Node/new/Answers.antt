@@ -12,7 +12,13 @@ returns-clause-stands c past h =
     let me = c.me.ensures in
     record {
       port = c.in-Ok-new.ensures.stands past c.args.wall _
-          (rw (c.me.ensures, c.peers.ensures) (record { own = sym h.of.own; name = sym h.of.name; may = sym h.of.may; strict = sym h.of.strict; peers_are = sym h.of.peers }))
+          (rw (c.me.ensures, c.peers.ensures) (record {
+            own = sym h.of.own;
+            name = sym h.of.name;
+            may = sym h.of.may;
+            strict = sym h.of.strict;
+            peers_are = sym h.of.peers;
+          }))
           (rw c.me.ensures h.cause) (c.in-Ok.ensures.stands past (rw back h.cause));
       trace = TraceStands_boot c.args.tick past;
     }

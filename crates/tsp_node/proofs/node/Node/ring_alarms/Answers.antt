@@ -27,7 +27,8 @@ loop-alarm-preserved g c =
     let inv = c.loop-alarm.invariant in
     let ring = c.ring.ensures in
     let same : length (peers_in c.loop-alarm.self) ≡ length (peers_in c.args.self.now) = ap length inv.peers in
-    let more : (c.loop-alarm.alarm-index + 1) * (2 * length (peers_in c.args.self.now) + 4) ≡ c.loop-alarm.alarm-index * (2 * length (peers_in c.args.self.now) + 4) + (2 * length (peers_in c.args.self.now) + 4) = grind arith in
+    let more : (c.loop-alarm.alarm-index + 1) * (2 * length (peers_in c.args.self.now) + 4) ≡
+    c.loop-alarm.alarm-index * (2 * length (peers_in c.args.self.now) + 4) + (2 * length (peers_in c.args.self.now) + 4) = grind arith in
     record {
       row = rw (take_one_more ALL i Quiet c.loop-alarm-test.true) (Performs_each_more rings_alone (take i ALL) (slice_index_or ALL i Quiet) inv.row ring.row);
       probe = λ e. ring.over (close_after_probe i e);

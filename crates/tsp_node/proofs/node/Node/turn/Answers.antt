@@ -7,4 +7,5 @@ use Rattle.tsp_node.proofs.node.Node.turn.Goals as goal
 
 pub returns-clause-row : goal.returns-clause-row
 unfolding answers input_row
-returns-clause-row g c = Performs_then (node_begun refl (emits_built refl built_due_sends) (c.sends.ensures.row c.args.self.now.clock)) (Performs_then c.ring_alarms.ensures.row node_rests)
+returns-clause-row g c = Performs_then (node_begun refl (emits_built refl built_due_sends) (c.sends.ensures.row c.args.self.now.clock))
+    (Performs_then c.ring_alarms.ensures.row node_rests)

@@ -9,28 +9,33 @@ use Rattle.tsp_node.proofs.part.Part.handle.Goals as goal
 
 pub returns-then-is_own-clause-row : goal.returns-then-is_own-clause-row
 returns-then-is_own-clause-row g c =
-    Performs_then_part (is_own c.args.from) (handles c.args.terms.steer c.args.terms.charge c.args.from c.args.taken.now) (λ past h. c.is_own.ensures c.args.terms.at.tick past h.port.stands.station.own ∙ c.if-is_own.true) took_pass
+    Performs_then_part (is_own c.args.from) (handles c.args.terms.steer c.args.terms.charge c.args.from c.args.taken.now)
+    (λ past h. c.is_own.ensures c.args.terms.at.tick past h.port.stands.station.own ∙ c.if-is_own.true) took_pass
 
 pub returns-in_default-clause-row : goal.returns-in_default-clause-row
 unfolding handles
 returns-in_default-clause-row g c =
-    rw c.in_default.is (Performs_else_part (is_own c.args.from) nothing (λ past h. c.is_own.ensures c.args.terms.at.tick past h.port.stands.station.own ∙ c.if-is_own.false) took_pass)
+    rw c.in_default.is (Performs_else_part (is_own c.args.from) nothing (λ past h. c.is_own.ensures c.args.terms.at.tick past h.port.stands.station.own ∙
+    c.if-is_own.false) took_pass)
 
 pub returns-in-Message-clause-row : goal.returns-in-Message-clause-row
 unfolding handles
 returns-in-Message-clause-row g c =
-    rw (c.in-Good.is, c.in-Message.is) (Performs_else_part (is_own c.args.from) nothing (λ past h. c.is_own.ensures c.args.terms.at.tick past h.port.stands.station.own ∙ c.if-is_own.false) c.hear.ensures.row)
+    rw (c.in-Good.is, c.in-Message.is) (Performs_else_part (is_own c.args.from) nothing (λ past h. c.is_own.ensures c.args.terms.at.tick past
+    h.port.stands.station.own ∙ c.if-is_own.false) c.hear.ensures.row)
 
 pub returns-in-Request-clause-row : goal.returns-in-Request-clause-row
 unfolding handles
 returns-in-Request-clause-row g c =
-    rw (c.in-Good.is, c.in-Stamp.is, c.in-Request.is) (Performs_else_part (is_own c.args.from) nothing (λ past h. c.is_own.ensures c.args.terms.at.tick past h.port.stands.station.own ∙ c.if-is_own.false)
+    rw (c.in-Good.is, c.in-Stamp.is, c.in-Request.is) (Performs_else_part (is_own c.args.from) nothing (λ past h. c.is_own.ensures c.args.terms.at.tick past
+    h.port.stands.station.own ∙ c.if-is_own.false)
     (took_beside c.args.tracing.now (Emits_more (Posting ∷ []) refl (emits_reply c.args.from _ _)) (Performs_took (c.reply.ensures.row c.args.self.now))))
 
 pub returns-in-Reply-clause-row : goal.returns-in-Reply-clause-row
 unfolding handles
 returns-in-Reply-clause-row g c =
-    rw (c.in-Good.is, c.in-Stamp.is, c.in-Reply.is) (Performs_else_part (is_own c.args.from) nothing (λ past h. c.is_own.ensures c.args.terms.at.tick past h.port.stands.station.own ∙ c.if-is_own.false)
+    rw (c.in-Good.is, c.in-Stamp.is, c.in-Reply.is) (Performs_else_part (is_own c.args.from) nothing (λ past h. c.is_own.ensures c.args.terms.at.tick past
+    h.port.stands.station.own ∙ c.if-is_own.false)
     (took_beside c.args.tracing.now (Emits_more (Sampling ∷ []) refl (emits_replies_in c.args.from _)) (c.hear_stamp.ensures.row _ _ c.in-Reply.is)))
 
 pub returns-then-is_own-clause-corrects : goal.returns-then-is_own-clause-corrects
@@ -43,10 +48,12 @@ pub returns-in-Message-clause-corrects : goal.returns-in-Message-clause-corrects
 returns-in-Message-clause-corrects g c = rw (c.in-Good.is, c.in-Message.is) c.hear.ensures.corrects
 
 pub returns-in-Request-clause-corrects : goal.returns-in-Request-clause-corrects
-returns-in-Request-clause-corrects g c past h = tells_still (Emits_more (Posting ∷ []) refl (emits_reply c.args.from _ _)) (c.reply.ensures.row c.args.self.now) past h.port.stands
+returns-in-Request-clause-corrects g c past h = tells_still (Emits_more (Posting ∷ []) refl (emits_reply c.args.from _ _)) (c.reply.ensures.row c.args.self.now)
+    past h.port.stands
 
 pub returns-in-Reply-clause-corrects : goal.returns-in-Reply-clause-corrects
-returns-in-Reply-clause-corrects g c past h = tells_still (Emits_more (Sampling ∷ []) refl (emits_replies_in c.args.from _)) (c.hear_stamp.ensures.row _ _ c.in-Reply.is) past h.port
+returns-in-Reply-clause-corrects g c past h = tells_still (Emits_more (Sampling ∷ []) refl (emits_replies_in c.args.from _))
+    (c.hear_stamp.ensures.row _ _ c.in-Reply.is) past h.port
 
 pub hear-requires : goal.hear-requires
 hear-requires g c = record { room = c.requires.room; tick = c.requires.tick; later = c.requires.later }

@@ -22,7 +22,8 @@ returns-in-Some-clause-row g c took x clock =
     let ack : m.kind ≡ Ack = audience_sends m.kind c.requires.audience in
     let row = rw c.number.ensures at (c.acknowledge.ensures.row x) in
     let heard = sym c.in-Some.ensures in
-    Performs_heard_by from p (peer_says m) heard (Performs_by_role (says_in p m) (rw (says_ack p m st.role ack (heard_role st from p heard)) (Performs_acknowledged refl refl refl refl (emits_built refl (built_acknowledges p m.number tt)) row)))
+    Performs_heard_by from p (peer_says m) heard (Performs_by_role (says_in p m) (rw (says_ack p m st.role ack (heard_role st from p heard))
+    (Performs_acknowledged refl refl refl refl (emits_built refl (built_acknowledges p m.number tt)) row)))
 
 pub invariant_of-self : goal.invariant_of-self
 invariant_of-self g c = still_alike c.args.self.now c.acknowledge.ensures.peers refl refl c.acknowledge.ensures.port.peers

@@ -21,7 +21,8 @@ returns-in-Quit-clause-row g c =
 pub returns-in-MasterUp-clause-row : goal.returns-in-MasterUp-clause-row
 returns-in-MasterUp-clause-row g c =
     let up : c.args.m.now.kind ≡ MasterUp = sym c.kind.ensures ∙ c.in-MasterUp.is in
-    rw (master_masterup c.args.p c.args.m.now up) (Performs_took (Performs_resolved refl refl refl refl (emits_built refl built_resolves) (emits_built refl built_resolves) (DatesStand_by resolves (emits_built refl built_resolves)) c.start.ensures.row))
+    rw (master_masterup c.args.p c.args.m.now up) (Performs_took (Performs_resolved refl refl refl refl (emits_built refl built_resolves)
+    (emits_built refl built_resolves) (DatesStand_by resolves (emits_built refl built_resolves)) c.start.ensures.row))
 
 pub returns-in-Conflict-clause-row : goal.returns-in-Conflict-clause-row
 returns-in-Conflict-clause-row g c =
@@ -30,14 +31,17 @@ returns-in-Conflict-clause-row g c =
     let conflict : m.kind ≡ Conflict = sym c.kind.ensures ∙ c.in-Conflict.is in
     let post = rw c.number.ensures at (c.post.ensures.row c.args.tick) in
     let emits : Emits question_sorts (posts p Ack m.number followed_by resolves) = emits_built refl (built_conflict p m.number tt tt) in
-    rw (master_conflict p m conflict) (Performs_took (Performs_resolved refl refl refl refl (Emits_more question_sorts refl emits) (Emits_more question_sorts refl emits) (DatesStand_by (posts p Ack m.number followed_by resolves) (Emits_more question_sorts refl emits))
+    rw (master_conflict p m conflict) (Performs_took (Performs_resolved refl refl refl refl (Emits_more question_sorts refl emits)
+    (Emits_more question_sorts refl emits) (DatesStand_by (posts p Ack m.number followed_by resolves) (Emits_more question_sorts refl emits))
     (Performs_then (Performs_resolving c.args.self.now.resolve (Emits_posts p Ack m.number refl) post) c.start-in-Conflict.ensures.row)))
 
 pub returns-in-MasterAck-clause-row : goal.returns-in-MasterAck-clause-row
 returns-in-MasterAck-clause-row g c =
     let p = c.args.p in
     let ack : c.args.m.now.kind ≡ MasterAck = sym c.kind.ensures ∙ c.in-MasterAck.is in
-    rw (master_masterack p c.args.m.now ack) (Performs_took (Performs_resolved refl refl refl refl (emits_built refl (built_finds_rival p tt)) (emits_built refl (built_finds_rival p tt)) (DatesStand_by (finds_rival p) (emits_built refl (built_finds_rival p tt))) (c.rival.ensures.row c.requires.role c.args.tick)))
+    rw (master_masterack p c.args.m.now ack) (Performs_took (Performs_resolved refl refl refl refl (emits_built refl (built_finds_rival p tt))
+    (emits_built refl (built_finds_rival p tt)) (DatesStand_by (finds_rival p) (emits_built refl (built_finds_rival p tt)))
+    (c.rival.ensures.row c.requires.role c.args.tick)))
 
 pub returns-in_default-clause-row : goal.returns-in_default-clause-row
 unfolding master_takes master_takes_here
@@ -46,11 +50,19 @@ returns-in_default-clause-row g c =
     let m = c.args.m.now in
     let other = c.in_default in
     let take = c.take.ensures.row c.requires.role in
-    rw (master_takes-other p m m.kind (roles_other m.kind c.requires.audience) (λ e. other.not-Quit (c.kind.ensures ∙ e)) (λ e. other.not-MasterUp (c.kind.ensures ∙ e)) (λ e. other.not-Conflict (c.kind.ensures ∙ e)) (λ e. other.not-MasterAck (c.kind.ensures ∙ e)))
-    (Performs_led refl refl refl (emits_built refl (built_master_takes_here p m tt tt)) (emits_built refl (built_master_takes_here p m tt tt)) (DatesStand_by (master_takes_here p m) (emits_built refl (built_master_takes_here p m tt tt))) take)
+    rw (master_takes-other p m m.kind (roles_other m.kind c.requires.audience) (λ e. other.not-Quit (c.kind.ensures ∙ e))
+    (λ e. other.not-MasterUp (c.kind.ensures ∙ e)) (λ e. other.not-Conflict (c.kind.ensures ∙ e)) (λ e. other.not-MasterAck (c.kind.ensures ∙ e)))
+    (Performs_led refl refl refl (emits_built refl (built_master_takes_here p m tt tt)) (emits_built refl (built_master_takes_here p m tt tt))
+    (DatesStand_by (master_takes_here p m) (emits_built refl (built_master_takes_here p m tt tt))) take)
 
 pub take_quit-requires : goal.take_quit-requires
-take_quit-requires g c = record { room = omega (arith, c.requires.room); tick = c.requires.tick; peer = c.requires.peer; role = c.requires.role; audience = c.requires.audience }
+take_quit-requires g c = record {
+  room = omega (arith, c.requires.room);
+  tick = c.requires.tick;
+  peer = c.requires.peer;
+  role = c.requires.role;
+  audience = c.requires.audience;
+}
 
 pub returns-in-Quit-clause-room : goal.returns-in-Quit-clause-room
 returns-in-Quit-clause-room g c = let room = c.take_quit.ensures.room in record { spare = omega (arith, room.spare); few = omega (arith, room.few) }
@@ -65,7 +77,8 @@ pub returns-in_default-clause-room : goal.returns-in_default-clause-room
 returns-in_default-clause-room g c = let room = c.take.ensures.room in record { spare = omega (arith, room.spare); few = omega (arith, room.few) }
 
 pub returns-in-Conflict-clause-room : goal.returns-in-Conflict-clause-room
-returns-in-Conflict-clause-room g c = let post = c.post.ensures.room in let room = c.start-in-Conflict.ensures.room in record { spare = omega (arith, post.spare, room.spare); few = omega (arith, post.count, room.few) }
+returns-in-Conflict-clause-room g c = let post = c.post.ensures.room in let room = c.start-in-Conflict.ensures.room in
+    record { spare = omega (arith, post.spare, room.spare); few = omega (arith, post.count, room.few) }
 
 pub invariant_of-self : goal.invariant_of-self
 invariant_of-self g c = still_alike c.args.self.now refl (as_many c.start.ensures.same) refl c.start.ensures.port.peers

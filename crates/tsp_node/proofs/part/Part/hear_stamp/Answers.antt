@@ -16,14 +16,17 @@ returns-then-leads-clause-row g c took r e =
     let p = c.in-Some.p in
     let reply = rw e at c.reply.ensures.row in
     let emits : Emits (Sampling ∷ []) (samples p r) = emits_built refl (built_samples p r tt tt) in
-    Performs_heard_by c.args.from p (peer_replies r) (sym c.in-Some.ensures) (Performs_by_role (replies_in p r) (rw (replies_master p r c.args.self.now.station.role (sym c.leads.ensures ∙ c.if-leads.true))
-    (Performs_led refl refl refl (Emits_more (Sampling ∷ []) refl emits) (Emits_more (Sampling ∷ []) refl emits) (DatesStand_by (samples p r) (Emits_more (Sampling ∷ []) refl emits)) reply)))
+    Performs_heard_by c.args.from p (peer_replies r) (sym c.in-Some.ensures) (Performs_by_role (replies_in p r)
+    (rw (replies_master p r c.args.self.now.station.role (sym c.leads.ensures ∙ c.if-leads.true))
+    (Performs_led refl refl refl (Emits_more (Sampling ∷ []) refl emits) (Emits_more (Sampling ∷ []) refl emits)
+    (DatesStand_by (samples p r) (Emits_more (Sampling ∷ []) refl emits)) reply)))
 
 pub returns-else-leads-clause-row : goal.returns-else-leads-clause-row
 unfolding peer_replies
 returns-else-leads-clause-row g c took r e =
     let p = c.in-Some.p in
-    Performs_heard_by c.args.from p (peer_replies r) (sym c.in-Some.ensures) (Performs_by_role (replies_in p r) (rw (replies_none p r c.args.self.now.station.role (sym c.leads.ensures ∙ c.if-leads.false)) Performs_pass))
+    Performs_heard_by c.args.from p (peer_replies r) (sym c.in-Some.ensures) (Performs_by_role (replies_in p r)
+    (rw (replies_none p r c.args.self.now.station.role (sym c.leads.ensures ∙ c.if-leads.false)) Performs_pass))
 
 pub invariant_of-self : goal.invariant_of-self
 invariant_of-self g c = still_alike c.args.self.now c.reply.ensures.peers refl refl refl

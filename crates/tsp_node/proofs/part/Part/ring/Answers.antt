@@ -24,7 +24,8 @@ returns-clause-row g c turn =
 pub returns-clause-corrects : goal.returns-clause-corrects
 returns-clause-corrects g c turn =
     let due : is_over (deadline c.args.self.now.station.alarms c.args.alarm) c.args.tick ≡ true = sym c.is_due.ensures ∙ c.if-not-is_due.false in
-    corrects_now_due c.args.tick c.args.group_mean c.args.wait c.args.alarm (port_with c.args.self.now c.args.clock.now) due _ (c.ring_due.ensures.corrects turn)
+    corrects_now_due c.args.tick c.args.group_mean c.args.wait c.args.alarm (port_with c.args.self.now c.args.clock.now) due _
+    (c.ring_due.ensures.corrects turn)
 
 pub ring_due-requires : goal.ring_due-requires
 ring_due-requires g c = record {

@@ -19,8 +19,10 @@ returns-in-Round-clause-row g c own clock =
     let late : is_of_master c.args.wait Round ≡ false = rw c.in-Round.is at c.requires.alarm in
     let wait : c.args.wait ≡ true = waits c.args.wait late in
     rw (c.in-Round.is, wait) (Performs_untaken (Emits_more (Alarming ∷ []) refl emits_wait)
-    (Performs_station refl refl refl (Emits_more (Alarming ∷ []) refl emits_wait) (DatesStand_by (round_rings true) (Emits_more (Alarming ∷ []) refl emits_wait))
-    (λ past h s. Keeps_by quiet_sorts MasterStands (round_rings true) MasterStands_quiet (Emits_more (Alarming ∷ []) refl emits_wait) x past c.args.self.now.master h.master)
+    (Performs_station refl refl refl (Emits_more (Alarming ∷ []) refl emits_wait)
+    (DatesStand_by (round_rings true) (Emits_more (Alarming ∷ []) refl emits_wait))
+    (λ past h s. Keeps_by quiet_sorts MasterStands (round_rings true) MasterStands_quiet (Emits_more (Alarming ∷ []) refl emits_wait) x past
+    c.args.self.now.master h.master)
     (λ past h s. ResolveStands_by (round_rings true) (Emits_more (Alarming ∷ []) refl emits_wait) x past c.args.self.now.resolve h.resolve)
     c.wait_round.ensures.row))
 
@@ -32,10 +34,12 @@ pub returns-in-Resolve-clause-row : goal.returns-in-Resolve-clause-row
 unfolding alarm_rings
 returns-in-Resolve-clause-row g c own clock =
     rw c.in-Resolve.is (Performs_untaken (emits_built refl built_resolve_rings)
-    (Performs_resolved refl refl refl refl (emits_built refl built_resolve_rings) (emits_built refl built_resolve_rings) (DatesStand_by resolve_rings (emits_built refl built_resolve_rings)) c.ring.ensures.row))
+    (Performs_resolved refl refl refl refl (emits_built refl built_resolve_rings) (emits_built refl built_resolve_rings)
+    (DatesStand_by resolve_rings (emits_built refl built_resolve_rings)) c.ring.ensures.row))
 
 pub ring_slave-requires-clause-alarm : goal.ring_slave-requires-clause-alarm
-ring_slave-requires-clause-alarm g c = of_slave c.args.wait c.args.alarm c.requires.alarm c.in_default.not-Round c.in_default.not-Window c.in_default.not-Resolve
+ring_slave-requires-clause-alarm g c = of_slave c.args.wait c.args.alarm c.requires.alarm c.in_default.not-Round c.in_default.not-Window
+    c.in_default.not-Resolve
 
 -- what the station does, and what the slaves and the rivals become
 pub returns-in_default-clause-row : goal.returns-in_default-clause-row
@@ -46,9 +50,12 @@ returns-in_default-clause-row g c own clock =
     let row = rw (← c.part_from.ensures.station) at (c.ring_slave.ensures.row own wait) in
     let emits : Emits role_sorts (alarm_rings own wait alarm) = Emits_more standing_sorts refl (slave_alarm own wait alarm is) in
     Performs_untaken (Emits_more role_sorts refl emits)
-    (Performs_station {after = port_with c.part_from.new.self clock} c.part_from.ensures.last refl c.part_from.ensures.dates (beside_alarm own wait alarm is) (DatesStand_by (alarm_rings own wait alarm) (Emits_more standing_sorts refl (slave_alarm own wait alarm is)))
-    (λ past h s. slaves_part (alarm_rings own wait alarm) emits c.args.tick past (port_with c.args.self.now clock) (port_with c.part_from.new.self clock) (rw (c.leads-led.ensures, ← c.part_from.ensures.station) at c.part_from.ensures.slaves) h s)
-    (λ past h s. rivals_part (alarm_rings own wait alarm) emits c.args.tick past (port_with c.args.self.now clock) (port_with c.part_from.new.self clock) (rw (c.leads-led.ensures, ← c.part_from.ensures.station) at c.part_from.ensures.rivals) h s)
+    (Performs_station {after = port_with c.part_from.new.self clock} c.part_from.ensures.last refl c.part_from.ensures.dates (beside_alarm own wait alarm is)
+    (DatesStand_by (alarm_rings own wait alarm) (Emits_more standing_sorts refl (slave_alarm own wait alarm is)))
+    (λ past h s. slaves_part (alarm_rings own wait alarm) emits c.args.tick past (port_with c.args.self.now clock) (port_with c.part_from.new.self clock)
+    (rw (c.leads-led.ensures, ← c.part_from.ensures.station) at c.part_from.ensures.slaves) h s)
+    (λ past h s. rivals_part (alarm_rings own wait alarm) emits c.args.tick past (port_with c.args.self.now clock) (port_with c.part_from.new.self clock)
+    (rw (c.leads-led.ensures, ← c.part_from.ensures.station) at c.part_from.ensures.rivals) h s)
     row)
 
 pub invariant_of-self : goal.invariant_of-self

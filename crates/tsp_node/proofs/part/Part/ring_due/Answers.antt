@@ -21,8 +21,13 @@ use Rattle.tsp_node.proofs.part.Part.ring_due.Goals as goal
 abbrev moved_at : ℕ → LastValue → LastValue
 moved_at x last = record { tick = Some x; taken = None; name = last.name }
 
-remembers-act : (a : Act) → is_in (sort_of a) round_sorts ≡ true → (x : ℕ) (past : Past) (last : LastValue) → taken past.seen ≡ None → Remembers past last → Remembers (grown x past (a ∷ [])) (if is_correct a then moved_at x last else last)
-remembers-act (Correct amount stepped shown) e x past last none h = record { tick_is = refl; taken_is = sym (ap (λ t. correcting_of (said t)) none); name_is = h.name_is }
+remembers-act : (a : Act) → is_in (sort_of a) round_sorts ≡ true → (x : ℕ) (past : Past) (last : LastValue) → taken past.seen ≡ None → Remembers past last →
+    Remembers (grown x past (a ∷ [])) (if is_correct a then moved_at x last else last)
+remembers-act (Correct amount stepped shown) e x past last none h = record {
+  tick_is = refl;
+  taken_is = sym (ap (λ t. correcting_of (said t)) none);
+  name_is = h.name_is;
+}
 remembers-act Boot e x past last none h = absurd (false≢true e)
 remembers-act (Took from t) e x past last none h = absurd (false≢true e)
 remembers-act (Become (Follow p)) e x past last none h = absurd (false≢true e)
@@ -32,17 +37,22 @@ untaken-act : (a : Act) → is_in (sort_of a) round_sorts ≡ true → (x : ℕ)
 untaken-act (Took from t) e x past none = absurd (false≢true e)
 untaken-act a e x past none = none
 
-remembers-acts : (acts : List Act) → AllOf round_sorts acts → (x : ℕ) (past : Past) (last : LastValue) → taken past.seen ≡ None → Remembers past last → Remembers (grown x past acts) (if corrects acts then moved_at x last else last)
+remembers-acts : (acts : List Act) → AllOf round_sorts acts → (x : ℕ) (past : Past) (last : LastValue) → taken past.seen ≡ None → Remembers past last →
+    Remembers (grown x past acts) (if corrects acts then moved_at x last else last)
 remembers-acts [] e x past last none h = h
-remembers-acts (a ∷ rest) e x past last none h = by_act (is_correct a) refl (remembers-act a e.0 x past last none h) (λ l k. remembers-acts rest e.1 x (grown x past (a ∷ [])) l (untaken-act a e.0 x past none) k) where
-  either : (b : Bool) → Remembers (grown x (grown x past (a ∷ [])) rest) (if b then moved_at x (moved_at x last) else moved_at x last) → Remembers (grown x past (a ∷ rest)) (moved_at x last)
-  either true k = k
-  either false k = k
+remembers-acts (a ∷ rest) e x past last none h = by_act (is_correct a) refl (remembers-act a e.0 x past last none h)
+    (λ l k. remembers-acts rest e.1 x (grown x past (a ∷ [])) l (untaken-act a e.0 x past none) k) where
+      either : (b : Bool) → Remembers (grown x (grown x past (a ∷ [])) rest) (if b then moved_at x (moved_at x last) else moved_at x last) →
+          Remembers (grown x past (a ∷ rest)) (moved_at x last)
+      either true k = k
+      either false k = k
 
-  by_act : (b : Bool) → is_correct a ≡ b → Remembers (grown x past (a ∷ [])) (if is_correct a then moved_at x last else last) →
-      ((l : LastValue) → Remembers (grown x past (a ∷ [])) l → Remembers (grown x (grown x past (a ∷ [])) rest) (if corrects rest then moved_at x l else l)) → Remembers (grown x past (a ∷ rest)) (if b || corrects rest then moved_at x last else last)
-  by_act true f k next = either (corrects rest) (next (moved_at x last) (rw f at k))
-  by_act false f k next = next last (rw f at k)
+      by_act : (b : Bool) → is_correct a ≡ b → Remembers (grown x past (a ∷ [])) (if is_correct a then moved_at x last else last) →
+          ((l : LastValue) → Remembers (grown x past (a ∷ [])) l → Remembers (grown x (grown x past (a ∷ [])) rest) (if corrects rest then moved_at x l else l))
+          →
+          Remembers (grown x past (a ∷ rest)) (if b || corrects rest then moved_at x last else last)
+      by_act true f k next = either (corrects rest) (next (moved_at x last) (rw f at k))
+      by_act false f k next = next last (rw f at k)
 
 -- the alarms of rounds
 emits_master : (own : Bool) (alarm : Alarm) → Emits round_sorts (master_rings own alarm)
@@ -53,22 +63,37 @@ emits_master own Round = emits_built refl (built_round_rings false)
 emits_master own _ = Emits_nothing
 
 -- rounds pass no date on
-dates_round : (own : Bool) (alarm : Alarm) (x : ℕ) (past : Past) (state : PortValue) → PortUntaken past state → DatesStand (grown x past (master_rings own alarm x past)) state.dates
+dates_round : (own : Bool) (alarm : Alarm) (x : ℕ) (past : Past) (state : PortValue) → PortUntaken past state →
+    DatesStand (grown x past (master_rings own alarm x past)) state.dates
 dates_round own alarm x past state h =
-    (DatesAside_by (master_rings own alarm) (Emits_more round_sorts refl (emits_master own alarm)) x past state.dates (record { stands = h.stands.dates; none = ap (λ t. passes_date (said t)) h.untaken })).stands
+    (DatesAside_by (master_rings own alarm) (Emits_more round_sorts refl (emits_master own alarm)) x past state.dates (record {
+      stands = h.stands.dates;
+      none = ap (λ t. passes_date (said t)) h.untaken;
+    })).stands
 
 -- a round's alarm, after which a correction is remembered
 Performs_round : {x : ℕ} {port : Port} {before after : PortValue} {old new : List Placed} (own : Bool) (alarm : Alarm) (corrected : Bool) →
-    Performs RingStands RingStands (master_rings own alarm) x port (record { master = before.master; station = before.station; clock = before.clock }) (record { master = after.master; station = after.station; clock = after.clock }) old new →
-    ((past : Past) → RingStands past (record { master = before.master; station = before.station; clock = before.clock }) → corrected ≡ corrects (master_rings own alarm x past)) →
-    after.last ≡ (if corrected then moved_at x before.last else before.last) → after.resolve ≡ before.resolve → after.dates ≡ before.dates → Performs PortUntaken PortUntaken (master_rings own alarm) x port before after old new
+    Performs RingStands RingStands (master_rings own alarm) x port (record { master = before.master; station = before.station; clock = before.clock })
+    (record { master = after.master; station = after.station; clock = after.clock }) old new →
+    ((past : Past) → RingStands past (record { master = before.master; station = before.station; clock = before.clock }) → corrected ≡
+    corrects (master_rings own alarm x past)) →
+    after.last ≡ (if corrected then moved_at x before.last else before.last) → after.resolve ≡ before.resolve → after.dates ≡ before.dates →
+    Performs PortUntaken PortUntaken (master_rings own alarm) x port before after old new
 Performs_round {x = x} {before = before} {after = after} own alarm corrected d c e f g = record {
   acts = λ past h. d.acts past (ring past h);
   stands = λ past h.
       let s = d.stands past (ring past h) in
       let r = remembers-acts (master_rings own alarm x past) ((emits_master own alarm).only x past) x past before.last h.untaken h.stands.last in
       record {
-        stands = record { station = s.station; last = rw e (rw (← c past (ring past h)) at r); master = s.master; resolve = rw f (ResolveStands_by (master_rings own alarm) (Emits_more round_sorts refl (emits_master own alarm)) x past before.resolve h.stands.resolve); dates = rw g (dates_round own alarm x past before h); clock = s.clock };
+        stands = record {
+          station = s.station;
+          last = rw e (rw (← c past (ring past h)) at r);
+          master = s.master;
+          resolve = rw f (ResolveStands_by (master_rings own alarm) (Emits_more round_sorts refl (emits_master own alarm)) x past before.resolve
+              h.stands.resolve);
+          dates = rw g (dates_round own alarm x past before h);
+          clock = s.clock;
+        };
         untaken = untaken_by (master_rings own alarm) (Emits_more round_sorts {all = untaking_sorts} refl (emits_master own alarm)) x past h.untaken;
       };
 } where
@@ -82,7 +107,8 @@ pub returns-then-not-is_of_master-clause-row : goal.returns-then-not-is_of_maste
 returns-then-not-is_of_master-clause-row g c turn = c.ring_beside.ensures.row c.args.terms.group_mean c.args.clock.now
 
 pub returns-then-not-is_of_master-clause-corrects : goal.returns-then-not-is_of_master-clause-corrects
-returns-then-not-is_of_master-clause-corrects g c turn past h = corrects_beside c.args.terms.group_mean c.args.terms.wait c.args.alarm (sym c.is_of_master.ensures ∙ c.if-not-is_of_master.true) c.args.terms.at.tick past
+returns-then-not-is_of_master-clause-corrects g c turn past h = corrects_beside c.args.terms.group_mean c.args.terms.wait c.args.alarm
+    (sym c.is_of_master.ensures ∙ c.if-not-is_of_master.true) c.args.terms.at.tick past
 
 pub returns-then-not-is_of_master-clause-over : goal.returns-then-not-is_of_master-clause-over
 returns-then-not-is_of_master-clause-over g c e = absurd (no_probe c.args.terms.wait c.args.alarm (sym c.is_of_master.ensures ∙ c.if-not-is_of_master.true) e)
@@ -91,13 +117,15 @@ pub returns-then-corrected-clause-row : goal.returns-then-corrected-clause-row
 returns-then-corrected-clause-row g c turn =
     let same : master_rings c.args.terms.group_mean c.args.alarm ≡ alarm_rings c.args.terms.group_mean c.args.terms.wait c.args.alarm =
     master_rings-is c.args.terms.group_mean c.args.terms.wait c.args.alarm (sym c.is_of_master.ensures ∙ c.if-not-is_of_master.false) in
-    rw (← same) (Performs_round c.args.terms.group_mean c.args.alarm true (c.ring-corrected.ensures.row turn) (λ past h. sym c.if-corrected.true ∙ c.ring-corrected.ensures.corrects turn past h) c.moved.ensures refl refl)
+    rw (← same) (Performs_round c.args.terms.group_mean c.args.alarm true (c.ring-corrected.ensures.row turn) (λ past h. sym c.if-corrected.true ∙
+    c.ring-corrected.ensures.corrects turn past h) c.moved.ensures refl refl)
 
 pub returns-else-corrected-clause-row : goal.returns-else-corrected-clause-row
 returns-else-corrected-clause-row g c turn =
     let same : master_rings c.args.terms.group_mean c.args.alarm ≡ alarm_rings c.args.terms.group_mean c.args.terms.wait c.args.alarm =
     master_rings-is c.args.terms.group_mean c.args.terms.wait c.args.alarm (sym c.is_of_master.ensures ∙ c.if-not-is_of_master.false) in
-    rw (← same) (Performs_round c.args.terms.group_mean c.args.alarm false (c.ring-corrected.ensures.row turn) (λ past h. sym c.if-corrected.false ∙ c.ring-corrected.ensures.corrects turn past h) refl refl refl)
+    rw (← same) (Performs_round c.args.terms.group_mean c.args.alarm false (c.ring-corrected.ensures.row turn) (λ past h. sym c.if-corrected.false ∙
+    c.ring-corrected.ensures.corrects turn past h) refl refl refl)
 
 pub returns-then-corrected-clause-corrects : goal.returns-then-corrected-clause-corrects
 returns-then-corrected-clause-corrects g c turn past h =

@@ -13,8 +13,12 @@ returns-clause-row g c clock =
     let x = c.args.tick in
     Performs_untaken (emits_built refl (built_window_rings tt))
     (Performs_station refl refl refl beside_window (DatesStand_by window_rings (emits_built refl (built_window_rings tt)))
-    (λ past h s. MasterStands_changing window_rings (emits_built {all = turning_sorts} refl (built_window_rings tt)) x past c.args.self.now.master c.clear.new.self (window_changes x past) (record { slaves = c.clear.ensures.slaves; peers = c.clear.ensures.peers; rounds = c.clear.ensures.rounds }) h.master)
-    (λ past h s. ResolveStands_changed x past (window_rings x past) c.args.self.now.resolve c.clear-2.new.self ((emits_built {all = rivalless} refl (built_window_rings tt)).only x past) (window_changes x past) c.clear-2.ensures.many c.clear-2.ensures.none h.resolve)
+    (λ past h s. MasterStands_changing window_rings (emits_built {all = turning_sorts} refl (built_window_rings tt)) x past c.args.self.now.master
+    c.clear.new.self (window_changes x past) (record { slaves = c.clear.ensures.slaves; peers = c.clear.ensures.peers; rounds = c.clear.ensures.rounds })
+    h.master)
+    (λ past h s. ResolveStands_changed x past (window_rings x past) c.args.self.now.resolve c.clear-2.new.self
+    ((emits_built {all = rivalless} refl (built_window_rings tt)).only x past) (window_changes x past) c.clear-2.ensures.many c.clear-2.ensures.none
+    h.resolve)
     c.candidate_ring.ensures.row)
 
 pub invariant_of-self : goal.invariant_of-self

@@ -12,7 +12,12 @@ use Rattle.tsp_node.proofs.part.Part.sends.Goals as goal
 pub loop-init : goal.loop-init
 loop-init g c =
     let all : beyond None c.args.self.now.station.peers ≡ c.args.self.now.station.peers = beyond-none c.args.self.now.station.peers in
-    record { row = λ clock last new d. rw all at d; left = omega (arith, ap length all); peers = refl; room = record { spare = omega arith; few = omega arith } }
+    record {
+      row = λ clock last new d. rw all at d;
+      left = omega (arith, ap length all);
+      peers = refl;
+      room = record { spare = omega arith; few = omega arith };
+    }
 
 pub loop-preserved : goal.loop-preserved
 loop-preserved g c =
@@ -24,14 +29,20 @@ loop-preserved g c =
     let same = c.repeat_next.ensures.peers in
     let after : Part = c.repeat_next.new.self in
     record {
-      row = λ clock last new d. c.loop.invariant.row clock last new (for_each-beyond PortBegun PortBegun PortBegun due_send c.args.tick c.args.port (port_with c.loop.self clock) (port_with after clock) (port_with last clock) (g.D.Desk.acts c.loop.desk) (g.D.Desk.acts c.repeat_next.new.desk) new
+      row = λ clock last new d. c.loop.invariant.row clock last new (for_each-beyond PortBegun PortBegun PortBegun due_send c.args.tick c.args.port
+          (port_with c.loop.self clock) (port_with after clock) (port_with last clock) (g.D.Desk.acts c.loop.desk) (g.D.Desk.acts c.repeat_next.new.desk) new
           c.loop.after p st.peers s
-          (λ q later below. Performs_waits q (none_before c.loop.after c.args.tick st.sends after.station.sends c.in-Some.due c.in-Some.ensures.sends q later below))
+          (λ q later below. Performs_waits q (none_before c.loop.after c.args.tick st.sends after.station.sends c.in-Some.due c.in-Some.ensures.sends q later
+          below))
           (c.in-Some.ensures.row clock)
-          (subst (λ qs. Performs PortBegun PortBegun (for_each due_send (beyond (Some p) qs)) c.args.tick c.args.port (port_with after clock) (port_with last clock) (g.D.Desk.acts c.repeat_next.new.desk) new) same (rw c.peer.ensures at d)));
+          (subst (λ qs. Performs PortBegun PortBegun (for_each due_send (beyond (Some p) qs)) c.args.tick c.args.port (port_with after clock)
+          (port_with last clock) (g.D.Desk.acts c.repeat_next.new.desk) new) same (rw c.peer.ensures at d)));
       left = rw (c.peer.ensures, same) (omega (arith, Splits-fewer c.loop.after p st.peers s, c.loop.invariant.left));
       peers = same ∙ c.loop.invariant.peers;
-      room = record { spare = omega (arith, c.loop.invariant.room.spare, c.repeat_next.ensures.room.spare); few = omega (arith, c.loop.invariant.room.few, c.repeat_next.ensures.room.few) };
+      room = record {
+        spare = omega (arith, c.loop.invariant.room.spare, c.repeat_next.ensures.room.spare);
+        few = omega (arith, c.loop.invariant.room.few, c.repeat_next.ensures.room.few);
+      };
     }
 
 pub returns-in_default-clause-row : goal.returns-in_default-clause-row
@@ -47,6 +58,12 @@ pub returns-clause-row : goal.returns-clause-row
 unfolding due_sends
 returns-clause-row g c clock =
     let st = c.loop.self.station in
-    let none : length (beyond c.loop.after st.peers) ≡ zero = omega (arith, c.loop.invariant.left, ap length c.loop.invariant.peers, ap length c.peers-end.ensures.value) in
+    let none : length (beyond c.loop.after st.peers) ≡ zero = omega (
+      arith,
+      c.loop.invariant.left,
+      ap length c.loop.invariant.peers,
+      ap length c.peers-end.ensures.value,
+    ) in
     Performs_reading peers_at (for_each due_send) c.args.self.now.station.peers (λ past h. sym h.stands.station.peers)
-    (c.loop.invariant.row clock c.loop.self (g.D.Desk.acts c.loop.desk) (for_each-none PortBegun due_send c.args.tick c.args.port (port_with c.loop.self clock) (g.D.Desk.acts c.loop.desk) (beyond c.loop.after st.peers) none))
+    (c.loop.invariant.row clock c.loop.self (g.D.Desk.acts c.loop.desk) (for_each-none PortBegun due_send c.args.tick c.args.port (port_with c.loop.self clock)
+    (g.D.Desk.acts c.loop.desk) (beyond c.loop.after st.peers) none))

@@ -16,12 +16,16 @@ returns-clause-row g c =
     let new = c.part_from.new.self in
     let emits : Emits quit_sorts (quits p m.number) = emits_built refl (built_quits p m.number tt tt) in
     let led : is_master c.args.self.now.station.role ≡ true = rw c.requires.role refl in
-    let clears : Clears (is_master c.args.self.now.station.role && not (is_master new.station.role)) c.args.self.now.master new.master = rw (led, c.part_from.ensures.station) c.part_from.ensures.slaves in
-    let unmarks : Unmarks (is_master c.args.self.now.station.role && not (is_master new.station.role)) c.args.self.now.resolve new.resolve = rw (led, c.part_from.ensures.station) c.part_from.ensures.rivals in
+    let clears : Clears (is_master c.args.self.now.station.role && not (is_master new.station.role)) c.args.self.now.master new.master =
+    rw (led, c.part_from.ensures.station) c.part_from.ensures.slaves in
+    let unmarks : Unmarks (is_master c.args.self.now.station.role && not (is_master new.station.role)) c.args.self.now.resolve new.resolve =
+    rw (led, c.part_from.ensures.station) c.part_from.ensures.rivals in
     let row = rw (← c.part_from.ensures.station, ← c.part_from.ensures.last) at c.take_quit.ensures.row in
     Performs_heard c.part_from.ensures.dates (DatesAside_by (quits p m.number) (Emits_more quit_sorts refl emits)) (roles_date m.kind c.requires.audience)
-    (λ past h s. slaves_part (quits p m.number) (Emits_more quit_sorts refl emits) x past (port_with c.args.self.now c.args.clock.now) (port_with new c.args.clock.now) clears h s)
-    (λ past h s. rivals_part (quits p m.number) (Emits_more quit_sorts refl emits) x past (port_with c.args.self.now c.args.clock.now) (port_with new c.args.clock.now) unmarks h s)
+    (λ past h s. slaves_part (quits p m.number) (Emits_more quit_sorts refl emits) x past (port_with c.args.self.now c.args.clock.now)
+    (port_with new c.args.clock.now) clears h s)
+    (λ past h s. rivals_part (quits p m.number) (Emits_more quit_sorts refl emits) x past (port_with c.args.self.now c.args.clock.now)
+    (port_with new c.args.clock.now) unmarks h s)
     (λ took is. row took (rw is refl))
 
 pub invariant_of-self : goal.invariant_of-self

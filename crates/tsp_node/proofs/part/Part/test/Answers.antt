@@ -13,9 +13,12 @@ returns-clause-row g c r clock =
     let number = c.args.number in
     let row = rw (← c.part_from.ensures.station) at c.take_test.ensures.row in
     let emits : Emits standing_sorts (tests from number) = emits_built refl (built_tests from number (place_unchanged from) tt tt) in
-    Performs_acting_by {after = port_with c.part_from.new.self clock} c.part_from.ensures.last refl c.part_from.ensures.dates (Emits_more standing_sorts refl emits) (DatesStand_by (tests from number) (Emits_more standing_sorts refl emits))
-    (λ past h s. slaves_part (tests from number) (Emits_more standing_sorts refl emits) c.args.tick past (port_with c.args.self.now clock) (port_with c.part_from.new.self clock) (rw (c.leads-led.ensures, ← c.part_from.ensures.station) at c.part_from.ensures.slaves) h s)
-    (λ past h s. rivals_part (tests from number) (Emits_more standing_sorts refl emits) c.args.tick past (port_with c.args.self.now clock) (port_with c.part_from.new.self clock) (rw (c.leads-led.ensures, ← c.part_from.ensures.station) at c.part_from.ensures.rivals) h s)
+    Performs_acting_by {after = port_with c.part_from.new.self clock} c.part_from.ensures.last refl c.part_from.ensures.dates
+    (Emits_more standing_sorts refl emits) (DatesStand_by (tests from number) (Emits_more standing_sorts refl emits))
+    (λ past h s. slaves_part (tests from number) (Emits_more standing_sorts refl emits) c.args.tick past (port_with c.args.self.now clock)
+    (port_with c.part_from.new.self clock) (rw (c.leads-led.ensures, ← c.part_from.ensures.station) at c.part_from.ensures.slaves) h s)
+    (λ past h s. rivals_part (tests from number) (Emits_more standing_sorts refl emits) c.args.tick past (port_with c.args.self.now clock)
+    (port_with c.part_from.new.self clock) (rw (c.leads-led.ensures, ← c.part_from.ensures.station) at c.part_from.ensures.rivals) h s)
     row
 
 pub invariant_of-self : goal.invariant_of-self

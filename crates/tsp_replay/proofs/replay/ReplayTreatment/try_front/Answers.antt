@@ -19,8 +19,13 @@ pub returns-in-Err-clause-tries : goal.returns-in-Err-clause-tries
 returns-in-Err-clause-tries g c lines text stands accepts room =
     let line = line_ahead c.args.octets.now c.in-Some.count in
     let next = c.try_front.new.self in
-    let advances : Advances accepts.0 line next = (c.in-Some.ensures.tries accepts.0 (stands accepts.0 accepts.1)).4 in
-    (line, c.in-Some.count, c.in-Some.ensures.front, StopsAt-untold lines text line accepts.0 next _ _ _ _ WriteFault accepts.1 accepts.2 advances (rw c.told.ensures at c.in-Err.ensures.err))
+    let advances : Advances accepts.0 line next = (c.in-Some.ensures.tries accepts.0 (stands accepts.0 accepts.1)).4 in (
+      line,
+      c.in-Some.count,
+      c.in-Some.ensures.front,
+      StopsAt-untold lines text line accepts.0 next _ _ _ _ WriteFault accepts.1 accepts.2 advances
+          (rw c.told.ensures at c.in-Err.ensures.err),
+    )
 
 pub returns-in-Ok-clause-within : goal.returns-in-Ok-clause-within
 returns-in-Ok-clause-within g c = ahead_within c.args.octets.now c.in-Some.count c.in-Some.ensures.front

@@ -9,9 +9,11 @@ pub returns-clause-found : goal.returns-clause-found
 returns-clause-found c =
     let at = c.in-Some.ensures in
     let p = c.args.p in
-    ap not (c.at-was.ensures ∙ sym (marked-at c.args.peers.now c.args.self.now.marks c.in-Some.place p p (Rise-peers c.args.peers.now c.requires.peers.ascending) c.requires.many at.0 (ap (λ (q : PeerId). q.0) (at.1 p))))
+    ap not (c.at-was.ensures ∙ sym (marked-at c.args.peers.now c.args.self.now.marks c.in-Some.place p p
+    (Rise-peers c.args.peers.now c.requires.peers.ascending) c.requires.many at.0 (ap (λ (q : PeerId). q.0) (at.1 p))))
 
 pub returns-clause-marks : goal.returns-clause-marks
 returns-clause-marks c q =
     let at = c.in-Some.ensures in
-    ap (λ marks. is_among q (marked c.args.peers.now marks)) c.set.ensures ∙ marked-set c.args.peers.now c.args.self.now.marks c.in-Some.place c.args.p q c.requires.many at.0 (at.1 c.args.p)
+    ap (λ marks. is_among q (marked c.args.peers.now marks)) c.set.ensures ∙ marked-set c.args.peers.now c.args.self.now.marks c.in-Some.place c.args.p q
+    c.requires.many at.0 (at.1 c.args.p)

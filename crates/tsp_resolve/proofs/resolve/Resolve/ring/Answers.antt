@@ -10,12 +10,15 @@ use Rattle.tsp_resolve.proofs.resolve.Resolve.ring.Goals as goal
 pub returns-then-is_in_time-clause-row : goal.returns-then-is_in_time-clause-row
 unfolding resolve_rings
 returns-then-is_in_time-clause-row g c =
-    Performs_then_part (is_in_time ResolveAlarm) (puts (Late ResolveAlarm)) (λ past h. ap (λ a. is_met (deadline a ResolveAlarm) c.args.tick) (sym h.station.alarms) ∙ (sym c.is_in_time.ensures ∙ c.if-is_in_time.true))
+    Performs_then_part (is_in_time ResolveAlarm) (puts (Late ResolveAlarm)) (λ past h. ap (λ a. is_met (deadline a ResolveAlarm) c.args.tick)
+    (sym h.station.alarms) ∙ (sym c.is_in_time.ensures ∙ c.if-is_in_time.true))
     (Performs_to {q = ResolvingActs} (λ past h. record { resolve = h.resolve; station = h.station })
-    (Performs_then (Performs_rung ResolveAlarm c.args.self.now (Emits_puts (Ring ResolveAlarm) refl) (c.ring.ensures.row c.args.tick)) c.quit_rivals.ensures.row))
+    (Performs_then (Performs_rung ResolveAlarm c.args.self.now (Emits_puts (Ring ResolveAlarm) refl) (c.ring.ensures.row c.args.tick))
+    c.quit_rivals.ensures.row))
 
 pub returns-else-is_in_time-clause-row : goal.returns-else-is_in_time-clause-row
 unfolding resolve_rings
 returns-else-is_in_time-clause-row g c =
-    Performs_else_part (is_in_time ResolveAlarm) (puts (Ring ResolveAlarm) followed_by quits_rivals) (λ past h. ap (λ a. is_met (deadline a ResolveAlarm) c.args.tick) (sym h.station.alarms) ∙ (sym c.is_in_time.ensures ∙ c.if-is_in_time.false))
+    Performs_else_part (is_in_time ResolveAlarm) (puts (Ring ResolveAlarm) followed_by quits_rivals)
+    (λ past h. ap (λ a. is_met (deadline a ResolveAlarm) c.args.tick) (sym h.station.alarms) ∙ (sym c.is_in_time.ensures ∙ c.if-is_in_time.false))
     (Performs_resolving c.args.self.now (Emits_puts (Late ResolveAlarm) refl) (c.late.ensures.row c.args.tick))

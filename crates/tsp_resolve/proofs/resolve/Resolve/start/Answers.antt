@@ -16,5 +16,7 @@ returns-in-Some-clause-row g c =
 pub returns-in-None-clause-row : goal.returns-in-None-clause-row
 unfolding resolves
 returns-in-None-clause-row g c =
-    Performs_else_part (is_armed ResolveAlarm) nothing (λ past h. ap (λ a. is_some (deadline a ResolveAlarm)) (sym h.station.alarms) ∙ ap is_some (sym c.at.ensures ∙ c.in-None.is))
-    (Performs_then (Performs_resolving c.args.self.now (Emits_arms ResolveAlarm WINDOW refl) c.arm.ensures.row) (Performs_resolving c.args.self.now (Emits_posts_to_others ResolveKind 0 refl) (c.post_to_others.ensures.row c.args.tick)))
+    Performs_else_part (is_armed ResolveAlarm) nothing (λ past h. ap (λ a. is_some (deadline a ResolveAlarm)) (sym h.station.alarms) ∙
+    ap is_some (sym c.at.ensures ∙ c.in-None.is))
+    (Performs_then (Performs_resolving c.args.self.now (Emits_arms ResolveAlarm WINDOW refl) c.arm.ensures.row)
+    (Performs_resolving c.args.self.now (Emits_posts_to_others ResolveKind 0 refl) (c.post_to_others.ensures.row c.args.tick)))

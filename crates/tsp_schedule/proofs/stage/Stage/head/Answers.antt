@@ -11,7 +11,8 @@ returns-in-Ok-Node-clause-next g c =
     let read = rw c.next_place.ensures at c.head_line.ensures in
     let spells = rw c.next_place.ensures at (subst (λ i. SpellsHead c.next_place.result line i) c.in-Ok-Node.field-0-is c.in-Ok-Node.ensures.reads) in
     MatchResult-map c.node.result c.node.ensures.next
-    (λ next h. Advances-node g.C.EventHandler.refused g.C.EventHandler.stands c.args.header c.in-Ok-Node.node line next c.head_line.result is read.one spells h.0 h.1)
+    (λ next h. Advances-node g.C.EventHandler.refused g.C.EventHandler.stands c.args.header c.in-Ok-Node.node line next c.head_line.result is read.one spells
+    h.0 h.1)
     (λ stop h. Halts-node g.C.EventHandler.refused g.C.EventHandler.stands c.args.header c.in-Ok-Node.node line stop spells h)
 
 pub returns-in-Ok-Net-clause-next : goal.returns-in-Ok-Net-clause-next
@@ -21,7 +22,8 @@ returns-in-Ok-Net-clause-next g c =
     let read = rw c.next_place.ensures at c.head_line.ensures in
     let spells = rw c.next_place.ensures at (subst (λ i. SpellsHead c.next_place.result line i) c.in-Ok-Net.field-0-is c.in-Ok-Net.ensures.reads) in
     MatchResult-map c.net.result c.net.ensures.next
-    (λ next h. Advances-net g.C.EventHandler.refused g.C.EventHandler.stands c.args.header c.in-Ok-Net.members line next c.head_line.result is read.one spells h.0 h.1)
+    (λ next h. Advances-net g.C.EventHandler.refused g.C.EventHandler.stands c.args.header c.in-Ok-Net.members line next c.head_line.result is read.one spells
+    h.0 h.1)
     (λ stop h. Halts-net g.C.EventHandler.refused g.C.EventHandler.stands c.args.header c.in-Ok-Net.members line stop spells h)
 
 pub returns-in-Ok-NotHead-clause-next : goal.returns-in-Ok-NotHead-clause-next

@@ -11,17 +11,23 @@ returns-then-self-clause-next c =
 pub returns-then-c-lt4-clause-next : goal.returns-then-c-lt4-clause-next
 returns-then-c-lt4-clause-next c =
     let booted : c.args.self.now.nodes ≤ c.args.self.now.given = subst (λ (v : StormValue). v.nodes ≤ v.given) c.self.view_is c.if-self.false in
-    c.turn.ensures.next ∙ chosen-turn c.draw-c.result _ c.args.posted c.draw-c.new.self c.if-c-lt4.true ∙ drawn-chosen c.args.posted _ c.draw.result c.draw-c.result c.args.self.now c.draw.new.self
-    c.draw-c.new.self booted c.draw.ensures.moves c.draw-c.ensures.moves (ap (λ (v : StormValue). v.at + c.draw.result) c.self.view_is) c.draw.ensures.value c.draw-c.ensures.value
+    c.turn.ensures.next ∙ chosen-turn c.draw-c.result _ c.args.posted c.draw-c.new.self c.if-c-lt4.true ∙
+    drawn-chosen c.args.posted _ c.draw.result c.draw-c.result c.args.self.now c.draw.new.self
+    c.draw-c.new.self booted c.draw.ensures.moves c.draw-c.ensures.moves (ap (λ (v : StormValue). v.at + c.draw.result) c.self.view_is) c.draw.ensures.value
+    c.draw-c.ensures.value
 
 pub returns-then-c-lt7-clause-next : goal.returns-then-c-lt7-clause-next
 returns-then-c-lt7-clause-next c =
     let booted : c.args.self.now.nodes ≤ c.args.self.now.given = subst (λ (v : StormValue). v.nodes ≤ v.given) c.self.view_is c.if-self.false in
-    c.ask.ensures.next ∙ chosen-ask c.draw-c.result _ c.args.posted c.draw-c.new.self c.if-c-lt4.false c.if-c-lt7.true ∙ drawn-chosen c.args.posted _ c.draw.result c.draw-c.result c.args.self.now c.draw.new.self
-    c.draw-c.new.self booted c.draw.ensures.moves c.draw-c.ensures.moves (ap (λ (v : StormValue). v.at + c.draw.result) c.self.view_is) c.draw.ensures.value c.draw-c.ensures.value
+    c.ask.ensures.next ∙ chosen-ask c.draw-c.result _ c.args.posted c.draw-c.new.self c.if-c-lt4.false c.if-c-lt7.true ∙
+    drawn-chosen c.args.posted _ c.draw.result c.draw-c.result c.args.self.now c.draw.new.self
+    c.draw-c.new.self booted c.draw.ensures.moves c.draw-c.ensures.moves (ap (λ (v : StormValue). v.at + c.draw.result) c.self.view_is) c.draw.ensures.value
+    c.draw-c.ensures.value
 
 pub returns-else-c-lt7-clause-next : goal.returns-else-c-lt7-clause-next
 returns-else-c-lt7-clause-next c =
     let booted : c.args.self.now.nodes ≤ c.args.self.now.given = subst (λ (v : StormValue). v.nodes ≤ v.given) c.self.view_is c.if-self.false in
-    c.request.ensures.next ∙ chosen-request c.draw-c.result _ c.args.posted c.draw-c.new.self c.if-c-lt7.false ∙ drawn-chosen c.args.posted _ c.draw.result c.draw-c.result c.args.self.now c.draw.new.self
-    c.draw-c.new.self booted c.draw.ensures.moves c.draw-c.ensures.moves (ap (λ (v : StormValue). v.at + c.draw.result) c.self.view_is) c.draw.ensures.value c.draw-c.ensures.value
+    c.request.ensures.next ∙ chosen-request c.draw-c.result _ c.args.posted c.draw-c.new.self c.if-c-lt7.false ∙
+    drawn-chosen c.args.posted _ c.draw.result c.draw-c.result c.args.self.now c.draw.new.self
+    c.draw-c.new.self booted c.draw.ensures.moves c.draw-c.ensures.moves (ap (λ (v : StormValue). v.at + c.draw.result) c.self.view_is) c.draw.ensures.value
+    c.draw-c.ensures.value

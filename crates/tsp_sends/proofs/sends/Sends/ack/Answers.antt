@@ -20,4 +20,5 @@ returns-then-ends c =
 
 pub returns-else-ends-clause-ends : goal.returns-else-ends-clause-ends
 returns-else-ends-clause-ends c =
-    rw (← c.self.view_is) (c.has_number-ends.ensures (empty_slot c.args.peer) ∙ ap (has_number c.args.number) (sym (sending_found c.self.inside.slots c.args.peer c.in-Ok.place (empty_slot c.args.peer) c.self.invariant.ascending c.in-Ok.ensures)))
+    rw (← c.self.view_is) (c.has_number-ends.ensures (empty_slot c.args.peer) ∙ ap (has_number c.args.number)
+    (sym (sending_found c.self.inside.slots c.args.peer c.in-Ok.place (empty_slot c.args.peer) c.self.invariant.ascending c.in-Ok.ensures)))

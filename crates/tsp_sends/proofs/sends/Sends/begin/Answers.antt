@@ -5,7 +5,8 @@ use Rattle.tsp_sends.proofs.sends.Sends.begin.Goals as goal
 pub returns-in-Ok-clause-sends : goal.returns-in-Ok-clause-sends
 returns-in-Ok-clause-sends c =
     let place = rw c.self.view_is at c.in-Ok.ensures in
-    SetsOnly-fill c.args.self.now c.fill.new.self c.args.peer c.in-Ok.place _ (rw c.self.view_is at c.self.invariant.ascending) place (rw c.begin.ensures at c.fill.ensures)
+    SetsOnly-fill c.args.self.now c.fill.new.self c.args.peer c.in-Ok.place _ (rw c.self.view_is at c.self.invariant.ascending) place
+    (rw c.begin.ensures at c.fill.ensures)
 
 pub returns-in-Ok-clause-peers : goal.returns-in-Ok-clause-peers
 returns-in-Ok-clause-peers c = peers_of-fill c.args.self.now c.fill.new.self c.in-Ok.place (Some c.begin.result) c.fill.ensures

@@ -4,7 +4,13 @@ use Rattle.tsp_sends.proofs.sends.Sends.clear.Goals as goal
 
 pub loop-place-preserved : goal.loop-place-preserved
 loop-place-preserved c =
-    let inside : c.loop-place.place < length c.loop-place.self = omega (arith, c.loop-place-test.true, c.len-place-end.ensures, ap length c.self.view_is, c.loop-place.invariant.many) in
+    let inside : c.loop-place.place < length c.loop-place.self = omega (
+      arith,
+      c.loop-place-test.true,
+      c.len-place-end.ensures,
+      ap length c.self.view_is,
+      c.loop-place.invariant.many,
+    ) in
     record {
       peers = peers_of-fill c.loop-place.self c.end.new.self c.loop-place.place None c.end.ensures ∙ c.loop-place.invariant.peers;
       many = length-fill c.loop-place.self c.end.new.self c.loop-place.place None c.end.ensures ∙ c.loop-place.invariant.many;
@@ -12,4 +18,10 @@ loop-place-preserved c =
     }
 
 pub returns-clause-sends : goal.returns-clause-sends
-returns-clause-sends c = λ p. none_in_empty c.loop-place.self p (λ k d h. c.loop-place.invariant.empty k d (omega (arith, c.loop-place-test.false, c.len-place-end.ensures, ap length c.self.view_is, c.loop-place.invariant.many)) h)
+returns-clause-sends c = λ p. none_in_empty c.loop-place.self p (λ k d h. c.loop-place.invariant.empty k d (omega (
+  arith,
+  c.loop-place-test.false,
+  c.len-place-end.ensures,
+  ap length c.self.view_is,
+  c.loop-place.invariant.many,
+)) h)

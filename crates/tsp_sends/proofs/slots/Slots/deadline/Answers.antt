@@ -8,4 +8,5 @@ use Rattle.tsp_sends.proofs.slots.Slots.deadline.Goals as goal
 pub returns-else-place-len : goal.returns-else-place-len
 returns-else-place-len c d =
     let past : length c.self.inside.held.items ≤ c.args.place = search rules in
-    sym (ap (option_map deadline_of) (none_past (boxed_slice_items c.self.inside.peers) c.self.inside.held.items c.args.self.now _ c.args.place d c.self.invariant c.self.view_is past c.requires))
+    sym (ap (option_map deadline_of) (none_past (boxed_slice_items c.self.inside.peers) c.self.inside.held.items c.args.self.now _ c.args.place d
+    c.self.invariant c.self.view_is past c.requires))

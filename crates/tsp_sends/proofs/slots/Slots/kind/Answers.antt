@@ -7,4 +7,5 @@ use Rattle.tsp_sends.proofs.slots.Slots.kind.Goals as goal
 pub returns-else-place-len : goal.returns-else-place-len
 returns-else-place-len c d =
     let past : length c.self.inside.held.items ≤ c.args.place = search rules in
-    sym (ap kind_of (none_past (boxed_slice_items c.self.inside.peers) c.self.inside.held.items c.args.self.now _ c.args.place d c.self.invariant c.self.view_is past c.requires))
+    sym (ap kind_of (none_past (boxed_slice_items c.self.inside.peers) c.self.inside.held.items c.args.self.now _ c.args.place d c.self.invariant c.self.view_is
+    past c.requires))

@@ -24,7 +24,8 @@ invariant_of-self c =
     let inside : c.args.i < length c.args.self.now.deadlines = c.requires in
     let same : length c.args.self.now.deadlines ≡ c.self.inside.places = ap length (ap (λ (t : TreeValue). t.deadlines) (sym c.self.view_is)) ∙ many in
     let leaves = rw (leaves_fit c.self.inside.levels c.self.invariant.small) at c.set_leaf.ensures.leaves in
-    IsTree-set c.self.inside.store.nodes c.set_leaf.new.store.nodes _ _ c.args.i c.args.at (omega arith) c.self.invariant c.set_leaf.ensures.earlier c.set_leaf.ensures.size leaves
+    IsTree-set c.self.inside.store.nodes c.set_leaf.new.store.nodes _ _ c.args.i c.args.at (omega arith) c.self.invariant c.set_leaf.ensures.earlier
+    c.set_leaf.ensures.size leaves
 
 pub returns-clause-deadlines : goal.returns-clause-deadlines
 returns-clause-deadlines c =

@@ -23,7 +23,8 @@ unfolding rest_of
 returns-in-Some c octets =
     let s = scene_of c.args.self.now in
     let e : Event = Bytes c.args.at c.args.node c.args.port c.args.from octets in
-    let found = ap (λ n. absent_of n s c.args.node c.args.port c.args.from) (sym c.count.ensures.count) ∙ sym (c.absent.ensures s (sym c.count.ensures.count) (sym c.networks.ensures.networks)) ∙ c.in-Some.is in
+    let found = ap (λ n. absent_of n s c.args.node c.args.port c.args.from) (sym c.count.ensures.count) ∙
+    sym (c.absent.ensures s (sym c.count.ensures.count) (sym c.networks.ensures.networks)) ∙ c.in-Some.is in
     sym (by_absent c.args.at s.last _ (Some c.in-Some.fault) (rest_of s e) c.if-at-self.false found)
 
 pub returns-in-None : goal.returns-in-None
@@ -31,7 +32,8 @@ unfolding rest_of
 returns-in-None c octets =
     let s = scene_of c.args.self.now in
     let e : Event = Bytes c.args.at c.args.node c.args.port c.args.from octets in
-    let found = ap (λ n. absent_of n s c.args.node c.args.port c.args.from) (sym c.count.ensures.count) ∙ sym (c.absent.ensures s (sym c.count.ensures.count) (sym c.networks.ensures.networks)) ∙ c.in-None.is in
+    let found = ap (λ n. absent_of n s c.args.node c.args.port c.args.from) (sym c.count.ensures.count) ∙
+    sym (c.absent.ensures s (sym c.count.ensures.count) (sym c.networks.ensures.networks)) ∙ c.in-None.is in
     c.bars_step.ensures
     ∙ ap (λ n. first_of (down_at (up_at c.args.self.now.nodes.items c.args.node) c.args.node) (limit s.events (length s.posts) (Some n))) c.requires.wanted
     ∙ sym (by_absent c.args.at s.last _ None (rest_of s e) c.if-at-self.false found)

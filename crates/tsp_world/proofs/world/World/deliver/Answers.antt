@@ -30,5 +30,6 @@ returns c header events w none =
     let len : vec_len world.nodes ≡ length world.nodes.items = search rules in
     let found = goes_to-post (networks world.header) (slice_get world.sent.items c.args.k) c.args.address c.requires.goes in
     let packed = c.taken.ensures ∙ c.pack.ensures found.0 found.1 in
-    delivered header events world c.receive.new.self c.args.at c.args.k c.args.address c.in-Some.way c.taken.result.now len w c.requires.goes none (sym c.in-Some.is ∙ c.way.ensures)
+    delivered header events world c.receive.new.self c.args.at c.args.k c.args.address c.in-Some.way c.taken.result.now len w c.requires.goes none
+    (sym c.in-Some.is ∙ c.way.ensures)
     (λ p is. packed ∙ ap (λ (q : Posted). Good q.datagram) (some_same (sym found.1 ∙ is))) c.receive.ensures

@@ -8,19 +8,24 @@ use Rattle.tsp_world.{proofs.WorldLemmas.Alike-stands, specs.WorldStands.Happens
 use Rattle.tsp_world.proofs.world.World.hand.Goals as goal
 
 pub returns-in-Some : goal.returns-in-Some
-returns-in-Some c octets range is = declined (Bytes c.args.at c.args.node c.args.port c.args.from octets) c.args.self.now c.bars_bytes.result c.in-Some.fault (c.bars_bytes.ensures octets) c.in-Some.is
+returns-in-Some c octets range is = declined (Bytes c.args.at c.args.node c.args.port c.args.from octets) c.args.self.now c.bars_bytes.result c.in-Some.fault
+    (c.bars_bytes.ensures octets) c.in-Some.is
 
 pub returns-then-is_err : goal.returns-then-is_err
-returns-then-is_err c octets range is = lacks_memory (Bytes c.args.at c.args.node c.args.port c.args.from octets) c.args.self.now c.make_room.new.self c.bars_bytes.result (c.bars_bytes.ensures octets) c.in_default.is c.make_room.ensures.stands
+returns-then-is_err c octets range is = lacks_memory (Bytes c.args.at c.args.node c.args.port c.args.from octets) c.args.self.now c.make_room.new.self
+    c.bars_bytes.result (c.bars_bytes.ensures octets) c.in_default.is c.make_room.ensures.stands
 
 pub receive-requires-clause-able : goal.receive-requires-clause-able
-receive-requires-clause-able c = can_step (Bytes c.args.at c.args.node c.args.port c.args.from []) c.args.at c.args.node c.args.self.now c.make_room.new.self c.bars_bytes.result (c.bars_bytes.ensures []) c.in_default.is c.make_room.ensures.same refl c.requires refl
+receive-requires-clause-able c = can_step (Bytes c.args.at c.args.node c.args.port c.args.from []) c.args.at c.args.node c.args.self.now c.make_room.new.self
+    c.bars_bytes.result (c.bars_bytes.ensures []) c.in_default.is c.make_room.ensures.same refl c.requires refl
 
 pub receive-requires-clause-node : goal.receive-requires-clause-node
-receive-requires-clause-node c = (may (Bytes c.args.at c.args.node c.args.port c.args.from []) c.args.self.now c.make_room.new.self c.bars_bytes.result (c.bars_bytes.ensures []) c.in_default.is c.make_room.ensures.same).node.0
+receive-requires-clause-node c = (may (Bytes c.args.at c.args.node c.args.port c.args.from []) c.args.self.now c.make_room.new.self c.bars_bytes.result
+    (c.bars_bytes.ensures []) c.in_default.is c.make_room.ensures.same).node.0
 
 pub receive-requires-clause-port : goal.receive-requires-clause-port
-receive-requires-clause-port c = (may (Bytes c.args.at c.args.node c.args.port c.args.from []) c.args.self.now c.make_room.new.self c.bars_bytes.result (c.bars_bytes.ensures []) c.in_default.is c.make_room.ensures.same).node.1
+receive-requires-clause-port c = (may (Bytes c.args.at c.args.node c.args.port c.args.from []) c.args.self.now c.make_room.new.self c.bars_bytes.result
+    (c.bars_bytes.ensures []) c.in_default.is c.make_room.ensures.same).node.1
 
 pub returns : goal.returns
 returns c octets range is =
@@ -31,5 +36,6 @@ returns c octets range is =
     let len : vec_len ready.nodes ≡ length ready.nodes.items = search rules in
     let up = (Alike-stands header events ready len w).up node ∙ up-down (scene header events) node (refusal-none (scene header events) e none).up in
     c.receive.ensures Handed header events e w refl range none up
-    (ap (λ t. Some (steps header (run header events) (answers_all (GotOn c.args.port c.args.from t)) (record { at = c.args.at; node = node; cause = Handed }))) is) in
+    (ap (λ t. Some (steps header (run header events) (answers_all (GotOn c.args.port c.args.from t)) (record { at = c.args.at; node = node; cause = Handed })))
+    is) in
     occurred e c.args.self.now ready c.receive.new.self c.bars_bytes.result (c.bars_bytes.ensures octets) c.in_default.is c.make_room.ensures.stands happens

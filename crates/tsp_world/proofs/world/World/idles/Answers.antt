@@ -8,5 +8,6 @@ returns-in-Some-clause-idles c earlier =
     let world = c.args.self.now in
     let many : vec_len world.dues ≡ length world.dues.items = search rules in
     let inside : c.args.node < length world.dues.items = (let same = world.due_places in let node = c.requires.node in omega (arith, many, same, node)) in
-    let known : slice_get world.dues.items c.args.node ≡ Some (Some c.in-Some.due) = slice_get-get_or world.dues.items c.args.node c.index.result.now inside ∙ ap Some (sym c.index.ensures ∙ c.in-Some.is) in
+    let known : slice_get world.dues.items c.args.node ≡ Some (Some c.in-Some.due) = slice_get-get_or world.dues.items c.args.node c.index.result.now inside ∙
+    ap Some (sym c.index.ensures ∙ c.in-Some.is) in
     (c.in-Some.due, (λ node there. world.dues_are c.args.node c.in-Some.due node known there), c.is_before.ensures earlier)

@@ -8,4 +8,5 @@ use Rattle.tsp_world.proofs.world.World.is_before.Goals as goal
 pub returns-then-at-tick : goal.returns-then-at-tick
 returns-then-at-tick c is =
     let line = c.line-line.result.now in
-    subst (λ (l : NodeLine). tick_at l.rate c.args.at < c.args.tick) c.line-line.ensures.line (tick_at-before line.rate c.args.at c.args.tick c.line-line.ensures.kept.rate c.if-at-tick.true)
+    subst (λ (l : NodeLine). tick_at l.rate c.args.at < c.args.tick) c.line-line.ensures.line
+    (tick_at-before line.rate c.args.at c.args.tick c.line-line.ensures.kept.rate c.if-at-tick.true)

@@ -21,5 +21,6 @@ returns-clause-line c =
 pub returns-clause-kept : goal.returns-clause-kept
 returns-clause-kept c =
     let header = c.nodes.ensures.valid in
-    let kept = subst (λ (l : NodeLine). KeepsDrift c.args.self.now.header.drift l) (sym (found c)) (header.kept c.args.node c.index-nodes-node.result (within c)) in
+    let kept = subst (λ (l : NodeLine). KeepsDrift c.args.self.now.header.drift l) (sym (found c)) (header.kept c.args.node c.index-nodes-node.result
+    (within c)) in
     record { name = kept.name; rate = (let rate = kept.rate in let small = header.small in omega (arith, rate, small)); wall = kept.wall }

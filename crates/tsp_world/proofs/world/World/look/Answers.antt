@@ -16,10 +16,12 @@ there : (c : After-index_mut-place) → slice_get c.args.self.now.nodes.items c.
 there c = place_there c.args.self.now c.args.node c.index_mut-place.result.now c.requires.node (search rules) c.index_mut-place.ensures.value
 
 ready : (c : After-index_mut-place) → PlaceReady (ports_on c.args.node (networks c.args.self.now.header)) c.tick-tick.result c.index_mut-place.result.now
-ready c = PlaceReady-acts c.args.self.now c.args.node c.args.at c.tick-tick.result c.index_mut-place.result.now c.requires.able.order c.tick-tick.ensures.tick (there c)
+ready c = PlaceReady-acts c.args.self.now c.args.node c.args.at c.tick-tick.result c.index_mut-place.result.now c.requires.able.order c.tick-tick.ensures.tick
+    (there c)
 
 pub turn-requires-clause-able : goal.turn-requires-clause-able
-turn-requires-clause-able c = CanAct-ready (ports_on c.args.node (networks c.args.self.now.header)) c.tick-tick.result c.args.self.now.desk.spare c.index_mut-place.result.now (ready (goal.at.turn-requires-clause-able c).After-index_mut-place)
+turn-requires-clause-able c = CanAct-ready (ports_on c.args.node (networks c.args.self.now.header)) c.tick-tick.result c.args.self.now.desk.spare
+    c.index_mut-place.result.now (ready (goal.at.turn-requires-clause-able c).After-index_mut-place)
     c.requires.ready.desk
 
 pub invariant_of-self-clause-ready : goal.invariant_of-self-clause-ready
@@ -48,9 +50,14 @@ returns c header events w none =
     let world = c.args.self.now in
     let len : vec_len world.nodes ≡ length world.nodes.items = search rules in
     let tick_is = c.tick-tick.ensures.tick ∙ ap (λ h. tick_at (node_line h c.args.node).rate c.args.at) w.header_is in
-    let up = (Alike-stands header events world len w).up c.args.node ∙ up-down (scene header events) c.args.node (refusal-none (scene header events) (Turn c.args.at c.args.node) none).up in
+    let up = (Alike-stands header events world len w).up c.args.node ∙ up-down (scene header events) c.args.node
+    (refusal-none (scene header events) (Turn c.args.at c.args.node) none).up in
     let acts = acts_on c.turn.new.desk in
-    WorldStands-handed header events (Turn c.args.at c.args.node) (answers_all NodeTurn) (record { at = c.args.at; node = c.args.node; cause = Turned }) world c.note.new.self c.index_mut-place.result.now c.turn.new.place (acts_on world.desk) acts
-    w tt none refl refl (in_header header events world len w c.args.node c.requires.node) c.requires.ready.idle up (there (goal.at.returns c).After-index_mut-place)
-    (subst (λ t. PerformsAll UpBegun UpStands (answers_all NodeTurn) t c.index_mut-place.result.now c.turn.new.place (acts_on world.desk) acts) tick_is c.turn.ensures.row)
-    (subst (λ t. Notes c.args.at c.args.node t world.header (set world.nodes.items c.args.node c.turn.new.place) world.events world.sent.items acts c.note.new.self) tick_is c.note.ensures)
+    WorldStands-handed header events (Turn c.args.at c.args.node) (answers_all NodeTurn) (record { at = c.args.at; node = c.args.node; cause = Turned }) world
+    c.note.new.self c.index_mut-place.result.now c.turn.new.place (acts_on world.desk) acts
+    w tt none refl refl (in_header header events world len w c.args.node c.requires.node) c.requires.ready.idle up
+    (there (goal.at.returns c).After-index_mut-place)
+    (subst (λ t. PerformsAll UpBegun UpStands (answers_all NodeTurn) t c.index_mut-place.result.now c.turn.new.place (acts_on world.desk) acts) tick_is
+    c.turn.ensures.row)
+    (subst (λ t. Notes c.args.at c.args.node t world.header (set world.nodes.items c.args.node c.turn.new.place) world.events world.sent.items acts
+    c.note.new.self) tick_is c.note.ensures)

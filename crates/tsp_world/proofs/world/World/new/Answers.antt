@@ -35,6 +35,7 @@ returns c = record {
   sent = c.new.ensures.items;
   lines = c.new-2.ensures.items;
   places = search rules;
-  nodes = λ n place is. subst (λ p. PlaceStands c.args.header [] n p) (sym (slice_get-replicate _ n None place (subst (λ ps. slice_get ps n ≡ Some place) c.in_ok-nodes.ensures.places is))) refl;
+  nodes = λ n place is. subst (λ p. PlaceStands c.args.header [] n p) (sym (slice_get-replicate _ n None place (subst (λ ps. slice_get ps n ≡
+      Some place) c.in_ok-nodes.ensures.places is))) refl;
   nobody = λ n past. refl;
 }

@@ -24,8 +24,10 @@ invariant_of-self-clause-ready c = c.args.self.now.ready
 pub returns : goal.returns
 returns c =
     let old = c.args.self.now in
-    let moved : map placed_in c.as_mut_slice.result.now ≡ acts_on old.desk = ap (λ l. map placed_in l) (c.as_mut_slice.ensures.value ∙ c.exchange.ensures.taken) in
-    let all : length c.tell.new.lines ≡ c.exchange.new.lines.len = (let same = c.tell.auto.lines in let len = c.as_mut_slice.ensures.len in omega (arith, same, len)) in
+    let moved : map placed_in c.as_mut_slice.result.now ≡ acts_on old.desk = ap (λ l. map placed_in l) (c.as_mut_slice.ensures.value ∙
+    c.exchange.ensures.taken) in
+    let all : length c.tell.new.lines ≡ c.exchange.new.lines.len = (let same = c.tell.auto.lines in let len = c.as_mut_slice.ensures.len in
+    omega (arith, same, len)) in
     record {
       header_is = refl;
       nodes_are = refl;

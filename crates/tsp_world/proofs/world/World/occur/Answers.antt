@@ -10,4 +10,5 @@ returns-in-Bytes c =
     let new = c.bytes.new.self in
     let b = c.in-Bytes in
     rw b.is
-    (subst (λ o. MatchResult c.bytes.result (λ _. Occurs (Bytes b.at b.node b.port b.from o) world new) (Declines (Bytes b.at b.node b.port b.from o) world new)) c.octets.ensures.value c.bytes.ensures)
+    (subst (λ o. MatchResult c.bytes.result (λ _. Occurs (Bytes b.at b.node b.port b.from o) world new) (Declines (Bytes b.at b.node b.port b.from o) world
+    new)) c.octets.ensures.value c.bytes.ensures)

@@ -14,10 +14,12 @@ there : (c : After-index_mut-place) → slice_get c.args.self.now.nodes.items c.
 there c = place_there c.args.self.now c.args.node c.index_mut-place.result.now c.requires.node (search rules) c.index_mut-place.ensures.value
 
 ready : (c : After-index_mut-place) → PlaceReady (ports_on c.args.node (networks c.args.self.now.header)) c.tick-tick.result c.index_mut-place.result.now
-ready c = PlaceReady-acts c.args.self.now c.args.node c.args.at c.tick-tick.result c.index_mut-place.result.now c.requires.able.order c.tick-tick.ensures.tick (there c)
+ready c = PlaceReady-acts c.args.self.now c.args.node c.args.at c.tick-tick.result c.index_mut-place.result.now c.requires.able.order c.tick-tick.ensures.tick
+    (there c)
 
 pub take-requires-clause-able : goal.take-requires-clause-able
-take-requires-clause-able c = CanTake-ready (ports_on c.args.node (networks c.args.self.now.header)) c.tick-tick.result c.args.self.now.desk.spare c.args.port c.index_mut-place.result.now (ready (goal.at.take-requires-clause-able c).After-index_mut-place)
+take-requires-clause-able c = CanTake-ready (ports_on c.args.node (networks c.args.self.now.header)) c.tick-tick.result c.args.self.now.desk.spare c.args.port
+    c.index_mut-place.result.now (ready (goal.at.take-requires-clause-able c).After-index_mut-place)
     c.requires.ready.desk c.requires.port
 
 pub invariant_of-self-clause-ready : goal.invariant_of-self-clause-ready
@@ -48,7 +50,10 @@ returns c cause header events e w at range none up happens =
     let tick_is = c.tick-tick.ensures.tick ∙ ap (λ h. tick_at (node_line h c.args.node).rate c.args.at) w.header_is in
     let row = answers_all (GotOn c.args.port c.args.from c.args.taken.now) in
     let acts = acts_on c.take.new.desk in
-    WorldStands-handed header events e row (record { at = c.args.at; node = c.args.node; cause = cause }) world c.note.new.self c.index_mut-place.result.now c.take.new.place (acts_on world.desk) acts
-    w range none happens at (in_header header events world len w c.args.node c.requires.node) c.requires.ready.idle up (there (goal.at.returns c).After-index_mut-place)
+    WorldStands-handed header events e row (record { at = c.args.at; node = c.args.node; cause = cause }) world c.note.new.self c.index_mut-place.result.now
+    c.take.new.place (acts_on world.desk) acts
+    w range none happens at (in_header header events world len w c.args.node c.requires.node) c.requires.ready.idle up
+    (there (goal.at.returns c).After-index_mut-place)
     (subst (λ t. PerformsAll UpBegun UpStands row t c.index_mut-place.result.now c.take.new.place (acts_on world.desk) acts) tick_is c.take.ensures.row)
-    (subst (λ t. Notes c.args.at c.args.node t world.header (set world.nodes.items c.args.node c.take.new.place) world.events world.sent.items acts c.note.new.self) tick_is c.note.ensures)
+    (subst (λ t. Notes c.args.at c.args.node t world.header (set world.nodes.items c.args.node c.take.new.place) world.events world.sent.items acts
+    c.note.new.self) tick_is c.note.ensures)

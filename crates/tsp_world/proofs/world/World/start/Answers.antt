@@ -1,5 +1,6 @@
 -- The node boots by its row, and takes its place. It is set up so that only memory can be wanting.
-use Rattle.std.proofs.Common.{◌≡◌, ◌<◌, ◌∙◌, ap, refl, subst, sym, arith, Some, rules, vec_len, length, pos, ◌+ℤ◌, SFits, w64, to_z, of_z, to_z-of_z, inl, inr, ◌++◌, get_or}
+use Rattle.std.proofs.Common.{◌≡◌, ◌<◌, ◌∙◌, ap, refl, subst, sym, arith, Some, rules, vec_len, length, pos, ◌+ℤ◌, SFits, w64, to_z, of_z, to_z-of_z, inl, inr}
+use Rattle.std.proofs.Common.{◌++◌, get_or}
 use Rattle.std.proofs.Math.ListN.{set}
 use Rattle.tsp_base.specs.Words.{tick_at}
 use Rattle.tsp_gateway.specs.GateConfigs.{AreGatePorts, GateBootsNot, GateConfigValue, UnbootedNode, peers_of_ports}
@@ -56,7 +57,8 @@ pub unreachable-requires : goal.unreachable-requires
 unreachable-requires c =
     let world = c.args.self.now in
     let at = (goal.at.unreachable-requires c).After-index-config in
-    let not : AreGatePorts c.index-config.result.now.ports → ⊥ = subst (λ f. GateBootsNot c.index-config.result.now (to_z w64 (of_z w64 c.wall_at-wall.result)) f) c.in-Err-Peers.field-0-is c.in-Err-Peers.ensures.err in
+    let not : AreGatePorts c.index-config.result.now.ports → ⊥ = subst (λ f. GateBootsNot c.index-config.result.now (to_z w64 (of_z w64 c.wall_at-wall.result))
+    f) c.in-Err-Peers.field-0-is c.in-Err-Peers.ensures.err in
     not (subst AreGatePorts (sym (ports_are at)) (can_boot world.header world.ready.header_is c.args.node))
 
 pub invariant_of-self-clause-ready : goal.invariant_of-self-clause-ready
@@ -66,11 +68,16 @@ invariant_of-self-clause-ready c =
     let x = tick_at (node_line world.header c.args.node).rate c.args.at in
     let ok = c.in-Ok.ensures.ok in
     let clock = ok.3 ∙ c.tick-tick.ensures.tick in
-    let booted : NodeReady ports x c.in-Ok.booted = (ok.2 ∙ ap peers_of_ports (ports_are (goal.at.invariant_of-self-clause-ready c).After-index-config), omega (arith, clock)) in
-    NodesReady-set c.args.node (Some c.in-Ok.booted) (NodesReady-later c.requires.able.order world.ready) (λ node is. subst (λ n. NodeReady ports x n) (some_same is) booted)
+    let booted : NodeReady ports x c.in-Ok.booted = (
+      ok.2 ∙ ap peers_of_ports (ports_are (goal.at.invariant_of-self-clause-ready c).After-index-config),
+      omega (arith, clock),
+    ) in
+    NodesReady-set c.args.node (Some c.in-Ok.booted) (NodesReady-later c.requires.able.order world.ready)
+    (λ node is. subst (λ n. NodeReady ports x n) (some_same is) booted)
 
 pub invariant_of-self-clause-dues_are : goal.invariant_of-self-clause-dues_are
-invariant_of-self-clause-dues_are c = AreDues-acted c.args.self.now.dues.items c.args.self.now.nodes.items c.args.node (Some c.in-Ok.booted) c.args.self.now.dues_are
+invariant_of-self-clause-dues_are c = AreDues-acted c.args.self.now.dues.items c.args.self.now.nodes.items c.args.node (Some c.in-Ok.booted)
+    c.args.self.now.dues_are
 
 pub note-requires : goal.note-requires
 note-requires c =
@@ -104,12 +111,22 @@ returns-in-Ok-clause-happens c header events w none =
     let wall_is : c.wall_at-wall.result ≡ line.wall +ℤ pos x = c.wall_at-wall.ensures.wall ∙ rw (wall_line, tick_is) refl in
     let fits : SFits w64 c.wall_at-wall.result = search rules in
     let wall_back : to_z w64 (of_z w64 c.wall_at-wall.result) ≡ line.wall +ℤ pos x = to_z-of_z fits ∙ wall_is in
-    let config_is : c.index-config.result.now ≡ config = configured (goal.at.returns-in-Ok-clause-happens c).After-index-config ∙ ap (λ h. config_of h c.args.node) w.header_is in
+    let config_is : c.index-config.result.now ≡ config = configured (goal.at.returns-in-Ok-clause-happens c).After-index-config ∙
+    ap (λ h. config_of h c.args.node) w.header_is in
     let booted : PerformsAll (UnbootedNode config c.args.word (line.wall +ℤ pos x)) GatewayStands boots_all x tt node (acts_on world.desk) acts =
     subst (λ t. PerformsAll (UnbootedNode config c.args.word (line.wall +ℤ pos x)) GatewayStands boots_all t tt node (acts_on world.desk) acts) tick_is
     (subst (λ z. PerformsAll (UnbootedNode config c.args.word z) GatewayStands boots_all c.tick-tick.result tt node (acts_on world.desk) acts) wall_back
-    (subst (λ v. PerformsAll (UnbootedNode v c.args.word (to_z w64 (of_z w64 c.wall_at-wall.result))) GatewayStands boots_all c.tick-tick.result tt node (acts_on world.desk) acts) config_is c.in-Ok.ensures.row)) in
-    let begun : UnbootedNode config c.args.word (line.wall +ℤ pos x) past tt = record { cause = refl; of = record { name = refl; may = refl; strict = refl; ports = refl } } in
+    (subst (λ v. PerformsAll (UnbootedNode v c.args.word (to_z w64 (of_z w64 c.wall_at-wall.result))) GatewayStands boots_all c.tick-tick.result tt node
+    (acts_on world.desk) acts) config_is c.in-Ok.ensures.row)) in
+    let begun : UnbootedNode config c.args.word (line.wall +ℤ pos x) past tt = record {
+      cause = refl;
+      of = record {
+        name = refl;
+        may = refl;
+        strict = refl;
+        ports = refl;
+      };
+    } in
     WorldStands-acted header events (BootAt c.args.at c.args.node c.args.word) boots_all step world c.note.new.self nodes acts
     w (search rules) none refl refl (in_header header events world len w c.args.node c.requires.node) (search rules)
     (booted.acts past begun ∙ ap (λ ps. ps ++ boots_all x past) c.requires.ready.idle)

@@ -12,4 +12,5 @@ returns-in_err-put-in_default-clause-treats g c = λ lines text s a room.
       ends = λ lines more. Unit {0};
       lacks = λ lines cause. Unit {0};
     } in
-    MatchResult-line m lines text c.args.line.now _ _ c.args.out.now c.put.new.self _ c.from_residual.result c.in_err-put-in_default.field-0.0 c.from_residual.ensures ([], c.in_err-put-in_default.ensures.err, inl refl)
+    MatchResult-line m lines text c.args.line.now _ _ c.args.out.now c.put.new.self _ c.from_residual.result c.in_err-put-in_default.field-0.0
+    c.from_residual.ensures ([], c.in_err-put-in_default.ensures.err, inl refl)
