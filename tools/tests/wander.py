@@ -107,7 +107,7 @@ class Start:
 
     def flush(self):
         """Hands on what was held, as a supervisor does."""
-        kept, count, _ = stamps.left_out(self.held)
+        kept, count = stamps.left_out(self.held)
         self.left_out, self.held = self.left_out + count, b''
         if kept:
             self.file.write((b'... %d lines of supervisors left out\n' % self.left_out if self.left_out else b'') + kept)
