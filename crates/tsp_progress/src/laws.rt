@@ -36,6 +36,117 @@ pub fn clocked_runs_wake()
     ensures { ClockedRunsWake }
 {}
 
+ghost use Rattle.tsp_progress.specs.ByTable.{ClockedRunsByTable, RunsByTable};
+/// A port does at once what the table has for an alarm that goes off, and for a datagram that it
+/// takes: the acts of that row come next on it, in the same step.
+pub fn runs_by_table()
+    ensures { RunsByTable }
+{}
+
+/// So does a port of a run by any clocks.
+pub fn clocked_runs_by_table()
+    ensures { ClockedRunsByTable }
+{}
+
+ghost use Rattle.tsp_progress.specs.Heeds.{AllHeed};
+ghost use Rattle.tsp_base.specs.Words.{HeaderValue};
+ghost use Rattle.tsp_progress.specs.ByTable.{ByTable};
+/// So it does at once what its role asks for when it takes a message of a peer: it follows, votes,
+/// answers, takes in a slave, obeys its master, and ends its sends.
+pub fn all_heed()
+    ensures { (header : HeaderValue) (world : List Line) → ByTable header world → AllHeed header world }
+{}
+
+ghost use Rattle.tsp_progress.specs.Corrects.{AllCorrect};
+/// So a close of a round moves the master's own clock, where its port leads it, and then corrects
+/// each measured peer; and when a resolution ends, a QUIT begins to each rival.
+pub fn all_correct()
+    ensures { (header : HeaderValue) (world : List Line) → ByTable header world → AllCorrect header world }
+{}
+
+ghost use Rattle.tsp_progress.specs.Measures.{AllMeasure};
+/// So a port answers a stamp request, and a master takes a sample from a reply.
+pub fn all_measure()
+    ensures { (header : HeaderValue) (world : List Line) → ByTable header world → AllMeasure header world }
+{}
+
+ghost use Rattle.tsp_progress.specs.TableUse.{TableUse};
+/// A run in which a node finds its master, joins it, is set, measured and corrected; one in which a
+/// port in its quiet time doesn't heed its peers; and a history that isn't by the table.
+pub fn table_use()
+    ensures { TableUse }
+{}
+
+ghost use Rattle.tsp_progress.specs.AnswersInTime.{ClockedRunsAnswer, RunsAnswer};
+/// Where datagrams are delivered in time, what is asked of a node is answered, and the answer is
+/// taken, within twice that time: stamp requests, searches for a master, questions for rivals,
+/// QUITs, and ELECTIONs to another candidate.
+pub fn runs_answer()
+    ensures { RunsAnswer }
+{}
+
+/// So it is in a run by any clocks.
+pub fn clocked_runs_answer()
+    ensures { ClockedRunsAnswer }
+{}
+
+ghost use Rattle.tsp_progress.specs.AnswersUse.{AnswersUse};
+/// A run in which datagrams are delivered in time, and a search is answered; and one in which the
+/// question is lost, and isn't.
+pub fn answers_use()
+    ensures { AnswersUse }
+{}
+
+ghost use Rattle.tsp_progress.specs.FoundInTime.{ClockedRunsFind, RunsFind};
+/// Where datagrams are delivered in time, and twice that time is less than `WINDOW`, 5 s, a port
+/// that searches beside a master hears of it in time, and follows it, unless its role changed
+/// before.
+pub fn runs_find()
+    ensures { RunsFind }
+{}
+
+/// So it is in a run by any clocks.
+pub fn clocked_runs_find()
+    ensures { ClockedRunsFind }
+{}
+
+ghost use Rattle.tsp_progress.specs.FoundUse.{FoundUse};
+/// A run in which a search finds its master, and one in which datagrams take 2.6 s, so that it
+/// doesn't.
+pub fn found_use()
+    ensures { FoundUse }
+{}
+
+ghost use Rattle.tsp_progress.specs.SentAway.{ClockedRunsSendAway, RunsSendAway};
+/// Where datagrams are delivered in time, a candidate that asks a master for its vote is sent away
+/// in time, and then follows it, if it has no other master; and a QUIT is acknowledged in time.
+pub fn runs_send_away()
+    ensures { RunsSendAway }
+{}
+
+/// So it is in a run by any clocks.
+pub fn clocked_runs_send_away()
+    ensures { ClockedRunsSendAway }
+{}
+
+ghost use Rattle.tsp_progress.specs.SentAwayUse.{SentAwayUse};
+/// A run in which a candidate asks a master for its vote, and is sent away.
+pub fn sent_away_use()
+    ensures { SentAwayUse }
+{}
+
+ghost use Rattle.tsp_progress.specs.ObeyedInTime.{ClockedRunsObey, RunsObey};
+/// Where datagrams are delivered in time, a correction that its addressee may take meanwhile is
+/// acknowledged in time, and that ends its send, if it is open then.
+pub fn runs_obey()
+    ensures { RunsObey }
+{}
+
+/// So it is in a run by any clocks.
+pub fn clocked_runs_obey()
+    ensures { ClockedRunsObey }
+{}
+
 ghost use Rattle.tsp_progress.specs.InTime.{AllInTime, EndsInTime};
 ghost use Rattle.tsp_progress.specs.AlarmsFit.{Manner};
 ghost use Rattle.tsp_progress.specs.Wakes.{AllWake, Woken};

@@ -19,11 +19,17 @@
 //!   asks for.
 //! - The *manner* of a node says whether it may be master, and whether its elections are strict.
 //!
+//! - A port *heeds* a message if it does at once what its role asks for.
+//! - Datagrams are *delivered* if what a node posts to another member of its network that stays is
+//!   taken within `long` microseconds of true time.
+//!
 //! Read `specs/` in this order: `Watched` (what is asked), `SendsEnd`, `AlarmsFit`, `CausesFit` and
 //! `Wakes` (what every run has armed), `RunsWake`, `InTime`, `RoundsRecur`, `NeverLate`, `Stands`,
 //! `AloneStands`, `AloneLeads`, `FreshLeads`, `LoneLeads`, `OneMay`, and `Progress`, which puts
-//! most of them together; then `Worked`, `Needed` and `OneUse`, small runs. The words of histories
-//! are those of `tsp_promises`.
+//! most of them together; then `Worked`, `Needed` and `OneUse`, small runs. Of what is done at once
+//! read `ByTable`, `Heeds`, `Measures` and `Corrects`; of two nodes `Delivered`, `AnswersInTime`,
+//! `FoundInTime`, `SentAway` and `ObeyedInTime`; then `TableUse`, `AnswersUse`, `FoundUse` and
+//! `SentAwayUse`, small runs. The words of histories are those of `tsp_promises`.
 //!
 //! # What is proved
 //!
@@ -54,12 +60,30 @@
 //!   others post nothing that stirs but LOOPs (`one_leads`, `one_leads_run`).
 //! - All of this holds of the run of each possible schedule that is attended (`runs_progress`), and
 //!   of each possible run by any clocks (`clocked_runs_progress`).
+//! - In every run a port does at once what the table of rows has for an alarm that goes off, and for
+//!   a datagram that it takes (`runs_by_table`, `clocked_runs_by_table`).
+//! - So a port without a master follows who says that it is one, and who sends it away; it votes,
+//!   answers, takes in slaves, obeys its master and ends its sends (`all_heed`). It answers a stamp
+//!   request, and a master takes a sample from a reply (`all_measure`). A close moves the own clock,
+//!   where its port leads it, and then corrects each measured peer, and at the end of a resolution a
+//!   QUIT begins to each rival (`all_correct`).
+//! - Where datagrams are delivered within `long`, what is asked of a node is answered, and the
+//!   answer taken, within twice `long`: stamp requests, searches, questions for rivals, QUITs, and
+//!   ELECTIONs to another candidate (`runs_answer`, `clocked_runs_answer`).
+//! - So a port that searches beside a master follows it within that time, if that is less than 5 s
+//!   and its role didn't change before (`runs_find`, `clocked_runs_find`). A candidate that asks a
+//!   master for its vote is sent away, and follows it, and a QUIT is acknowledged (`runs_send_away`,
+//!   `clocked_runs_send_away`). So is a correction of a follower that may take it (`runs_obey`,
+//!   `clocked_runs_obey`).
 //! - It says something: a worked run (`prompt_use`), one that leads one tick before the bound
 //!   (`slow_use`), runs that are looked at one tick too late (`late_use`), histories without each
-//!   premise (`needed`), and a run in which a second node may be master, and leads (`one_use`).
+//!   premise (`needed`), a run in which a second node may be master, and leads (`one_use`), one in
+//!   which a node finds its master and is set (`table_use`), with datagrams that are delivered in
+//!   time (`answers_use`), and others without that (`answers_use`, `found_use`), and one in which a
+//!   candidate is sent away (`sent_away_use`).
 //!
-//! It isn't proved that an answer comes in time, that a network in which several nodes may be
-//! master gets one, or that all follow it and agree.
+//! It isn't proved that no send is given up before its answer comes, that a network in which several
+//! nodes may be master gets one, or that all follow it and agree.
 #![tactic(auto)]
 
 pub mod laws;
