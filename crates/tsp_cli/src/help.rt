@@ -36,11 +36,14 @@ wrong words, 2 for a refused line or clock, 3 and 4 for a failed read and write,
 that fails, 6 for no answer, 7 for a limit and 8 for want of memory.
 
 TSP_RATE in the environment is by how many parts in 10^9 a daemon's counter is faster than the
-machine's clock: a whole number from -1000000 to 1000000, 0 if it is left out.
+machine's clock at its start: a whole number from -1000000 to 1000000, 0 if it is left out.
+TSP_COUNTER is that clock: raw, which nobody slews and which is meant if it is left out, or monotonic.
+TSP_PAGE is the file on which a daemon writes what its clock is, and from which it reads the rate
+at which it is to count from then on; it must be there. If it is left out, nothing is written or read.
 ";
 
 /// What `--version` prints.
-pub const VERSION: &[u8] = b"tsp 0.1\n";
+pub const VERSION: &[u8] = b"tsp 0.1.4\n";
 
 /// The text that the words ask for, if they are `--help` or `--version` and nothing else.
 pub fn asked(words: &[String]) -> Option<&'static [u8]>

@@ -40,19 +40,21 @@ walled_is readings between last first walled later left told takes at same = sam
     ap (λ rest. option_map (λ (r : List ℕ). Some r) rest) (reading_taken left readings between last first told takes).0
 
 -- what is told of a ticker's board is the same if each part of it is
-pub same_page : (page now : Paged) → (now.origin ≡ page.origin) × (now.delay ≡ page.delay) × (now.boarded ≡ page.boarded) × (now.marks ≡ page.marks) → now ≡
-    page
+pub same_page : (page now : Paged) → (now.origin ≡ page.origin) × (now.delay ≡ page.delay) × (now.boarded ≡ page.boarded) × (now.marks ≡ page.marks)
+    × (now.views ≡ page.views) → now ≡ page
 same_page page now h =
     let a = h.0 in
     let b = h.1 in
     let c = h.2 in
     let d = h.3 in
-    let e : record { boarded = now.boarded; origin = now.origin; delay = now.delay; marks = now.marks } ≡ record {
+    let v = h.4 in
+    let e : record { boarded = now.boarded; origin = now.origin; delay = now.delay; marks = now.marks; views = now.views } ≡ record {
       boarded = page.boarded;
       origin = page.origin;
       delay = page.delay;
       marks = page.marks;
-    } = rw (a, b, c, d) refl in
+      views = page.views;
+    } = rw (a, b, c, d, v) refl in
     e
 
 -- a session takes no more turns than it has
@@ -68,7 +70,7 @@ pub IsServed_serves : (s : ServeWords) (o : Outside) (wall wall' : ℤ) (word wo
     → tick ≡ (read_once o).last → wall' ≡ wall → word' ≡ word → is_clock_value wall' ≡ true → GatewayStands (first_past s tick wall' word') node →
     KnowsExactly (read_once o) arrivals tried calls readings last → before ≡ Some written → served ≡ served_of end
     → IsServe s → ((x : Session) → IsAt x node (record { turns = 0; posts = 0 }) arrivals tried calls readings last before →
-    Serves s.turns x now.arrivals now.tried now.calls now.readings now.last now.written old now.waits page' now.page.marks end)
+    Serves s.turns x now.arrivals now.tried now.calls now.readings now.last now.written old now.waits page' now.page end)
     → page' ≡ page → KeepsPage page' now.page → IsServed s o wall word written old page now served
 IsServed_serves s o wall wall' word word' tick written node arrivals tried calls readings last before old page page' now end served t w v within stands tells b
     is words serves same keeps =
@@ -92,7 +94,7 @@ IsServed_serves s o wall wall' word word' tick written node arrivals tried calls
       received = all.1;
       received_is = all.4;
       noted = all.5;
-      marked = subst (λ (p : Paged). MarksIfTold p (first_session s o wall word written) all.0 now.calls now.page.marks end) same all.6;
+      marked = subst (λ (p : Paged). MarksIfTold p (first_session s o wall word written) all.0 now.calls now.page end) same all.6;
       boarded = subst (λ (p : Paged). KeepsPage p now.page) same keeps;
       kept = λ setting set. session_kept s o wall word written words setting set all.0 (serves_few s.turns all.0 (first_session s o wall word written) _ _ _ _ _
           _ end all.2) all.3;

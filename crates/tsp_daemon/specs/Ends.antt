@@ -3,7 +3,7 @@ use Rattle.std.specs.Prelude.{◌≡◌, ◌⊎◌, ℕ, ◌+◌, ◌<◌, ◌�
 use Rattle.std.specs.Option.{option_map}
 use Rattle.tsp_codec.specs.Taken.{taken_of}
 use Rattle.tsp_gateway.specs.{GatewayStands.GatewayStands, declared.gateway.Gateway.Gateway}
-use Rattle.tsp_io.specs.{Boards.Mark, Links.Arrival, Links.Tried, Streams.Grows, declared.link.Link.Ghosts as LinkOf, declared.link.Recv.Recv}
+use Rattle.tsp_io.specs.{Links.Arrival, Links.Tried, Streams.Grows, declared.link.Link.Ghosts as LinkOf, declared.link.Recv.Recv}
 use Rattle.tsp_io.specs.declared.link.Recv.TheVariants.{Datagram}
 use Rattle.tsp_query.specs.{Ends.Outside, Ends.KnowsExactly, Outside.Paged}
 use Rattle.tsp_rules.specs.{GateRows.NodeGiven, GateRows.NodeTurn, GateRows.GotOn, NodeRows.NodePast, NodeRows.PortSetup}
@@ -104,7 +104,7 @@ ServesUntil turns i s arrivals tried calls readings last written end = (i < turn
 -- after how many turns a session of so many ends, and how; the ticks of its steps never fell; how many receives it made, each of which waited
 -- as long as its turn says; and what it wrote on its page
 abbrev pub Serves : ℕ → Session → Option (List Arrival) → Option (List Tried) → Option ℕ → Option (List ℕ) → ℕ → Option (List ℕ) → Option (List ℕ) →
-    Option (List ℕ) → Paged → Option (List Mark) → ServeEnd → Type 0
-Serves turns s arrivals tried calls readings last written waits waits_now paged marks end =
+    Option (List ℕ) → Paged → Paged → ServeEnd → Type 0
+Serves turns s arrivals tried calls readings last written waits waits_now paged now end =
     (i : ℕ) × (received : ℕ) × ServesUntil turns i s arrivals tried calls readings last written end × Rises i s × IsReceived i received end ×
-    NotesWaits s received waits waits_now × MarksIfTold paged s i calls marks end
+    NotesWaits s received waits waits_now × MarksIfTold paged s i calls now end

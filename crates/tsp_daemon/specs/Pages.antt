@@ -1,14 +1,17 @@
 -- What a daemon writes on its page.
-use Rattle.std.specs.Prelude.{◌≡◌, ◌⊎◌, ℕ, zero, suc, ◌+◌, ◌-◌, ◌*◌, ◌%◌, ◌^◌, ◌≤◌, ◌==◌, ◌||◌, nat_abs, nat_le, min, ℤ, pos, negsuc, ◌-ℤ◌, Bool, true, false}
+use Rattle.std.specs.Prelude.{◌≡◌, ◌⊎◌, ℕ, zero, suc, ◌+◌, ◌-◌, ◌*◌, ◌%◌, ◌^◌, ◌≤◌, ◌==◌, ◌&&◌, ◌||◌, nat_abs, nat_le, min, ℤ, pos, negsuc, ◌-ℤ◌, Bool, true}
+use Rattle.std.specs.Prelude.{false}
 use Rattle.std.specs.Prelude.{if◌then◌else◌}
-use Rattle.std.specs.Prelude.{List, [], ◌∷◌, ◌++◌, Option, None, Some}
+use Rattle.std.specs.Prelude.{List, [], ◌∷◌, ◌++◌, drop, Option, None, Some, option_and_then}
 use Rattle.std.specs.{Int.w64, Int.to_le_bytes}
 use Rattle.tsp_base.specs.Words.{dids, last_correct, rest, target, word}
 use Rattle.tsp_gateway.specs.Standings.{standing}
 use Rattle.tsp_gateway.specs.declared.standing.Standing.{Standing, TheVariants.Follows, TheVariants.Leads}
-use Rattle.tsp_io.specs.{Boards.Mark, declared.origin.Origin.Origin, declared.ticker.Ticker.Ghosts as TickerOf}
+use Rattle.tsp_io.specs.{Boards.Mark, Boards.first_view, Boards.views_left, Origins.origin_then, Origins.retuned, declared.origin.Origin.Origin}
+use Rattle.tsp_io.specs.declared.{ticker.Ticker.Ghosts as TickerOf}
 use Rattle.tsp_query.specs.Outside.{Paged}
-use Rattle.tsp_page.specs.{Formula.shown_at, Halves.daemon_octets, declared.daemon_half.DaemonHalf.DaemonHalf}
+use Rattle.tsp_page.specs.{Formula.shown_at, Halves.daemon_octets, Halves.look_half_of, Numbers.octet_at, declared.daemon_half.DaemonHalf.DaemonHalf}
+use Rattle.tsp_page.specs.declared.look_half.LookHalf.{LookHalf}
 use Rattle.tsp_page.specs.declared.rank.Rank.{Rank, TheVariants.Nobody, TheVariants.Follows as IsFollower, TheVariants.Leads as IsLeader}
 use Rattle.tsp_rules.specs.{NodeRows.NodePast, Values.Act, Values.Placed, Values.Boot, Values.Correct, Values.Become}
 use Rattle.tsp_daemon.specs.declared.end.ServeEnd.{ServeEnd}
@@ -115,9 +118,42 @@ half_after past acts x moment p = record {
   alive = x;
 }
 
--- the half after a turn that changes nothing else
-abbrev pub half_alive : ℕ → Page → DaemonHalf
-half_alive x p = record p.half { alive = x }
+-- the half of a daemon whose ticks are counted from there
+abbrev pub counted_from : Option Origin → DaemonHalf → DaemonHalf
+counted_from None h = h
+counted_from (Some o) h = record h { counter = o.counter; origin = o.nanos; origin_tick = o.tick; rate = o.rate }
+
+-- the half after a turn that changes nothing else, which is written at this moment: the least that may be shown is what the half before it
+-- shows then, and from then on ticks are counted from another origin, if there is one
+abbrev pub half_alive : ℕ → ℕ → Option Origin → Page → DaemonHalf
+half_alive x moment tuned p = record (counted_from tuned p.half) { least = shown_at p.half moment; alive = x }
+
+-- whether the look's half, with this lowest octet of its sequence, asks a daemon in this life for a rate: it isn't being written, is of the life, and states a
+-- drift that the rate isn't beyond
+abbrev pub is_asking : ℕ → ℕ → LookHalf → Bool
+is_asking life lowest l = (lowest % 2 == 0) && ((l.life == life) && (nat_le l.drift 1000 && nat_le (nat_abs l.learned) (l.drift * 1000)))
+
+-- the rate for which octets ask that were read where the look's half stands: the sequence, and the fields
+abbrev pub rate_in : ℕ → List ℕ → Option ℤ
+rate_in life octets = if is_asking life (octet_at octets 0) (look_half_of (drop 8 octets)) then Some (look_half_of (drop 8 octets)).learned else None
+
+-- the rate for which the next read of the look's half asks
+abbrev pub asked_of : ℕ → List Mark → Option ℤ
+asked_of life views = option_and_then (λ octets. rate_in life octets) (first_view 512 336 views)
+
+-- from where ticks are counted from this moment on, if a rate was asked for: None if nothing changes
+abbrev pub tuned_at : ℕ → Option ℤ → Option Origin → Option Origin
+tuned_at moment asked origin = option_and_then (λ rate. option_and_then (λ o. retuned moment rate o) origin) asked
+
+-- what of a daemon's page is told: the page, from where its ticks are counted, and what reads of its board will give
+pub record Sheet : Type 0 where
+  pub page : Option Page
+  pub origin : Option Origin
+  pub views : List Mark
+
+-- the same, where the daemon says that it is alive
+abbrev pub tuned_by : ℕ → Sheet → Page → Option Origin
+tuned_by moment sheet p = tuned_at moment (asked_of p.half.life sheet.views) sheet.origin
 
 -- the sequence so many writes later
 abbrev pub sequence_after : ℕ → Page → ℕ
@@ -143,9 +179,15 @@ blank_page o past x = record { half = first_half o past x; sequence = (word (did
 abbrev pub is_silent : ℕ → Page → Bool
 is_silent x p = nat_le 1000000 (x - p.half.alive)
 
--- what a turn writes and leaves, if there is a page: the half that it changes, or the tick alone once a second
-abbrev pub half_in_turn : NodePast → List Placed → ℕ → ℕ → Page → Option DaemonHalf
-half_in_turn past acts x moment p = if change_page acts then Some (half_after past acts x moment p) else if is_silent x p then Some (half_alive x p) else None
+-- what a turn writes and leaves, if there is a page: the half that it changes; or once a second the tick, and from where ticks are counted
+-- then
+abbrev pub half_in_turn : NodePast → List Placed → ℕ → ℕ → Option Origin → Page → Option DaemonHalf
+half_in_turn past acts x moment tuned p =
+    if change_page acts then Some (half_after past acts x moment p) else if is_silent x p then Some (half_alive x moment tuned p) else None
+
+-- whether a turn reads the look's half
+abbrev pub looks_in_turn : List Placed → ℕ → Page → Bool
+looks_in_turn acts x p = if change_page acts then false else is_silent x p
 
 abbrev pub page_by : Option DaemonHalf → Page → Page
 page_by None p = p
@@ -155,24 +197,43 @@ abbrev pub marks_by : Option DaemonHalf → Page → List Mark
 marks_by None p = []
 marks_by (Some h) p = half_marks h p
 
-abbrev pub page_next : NodePast → List Placed → ℕ → ℕ → Option Page → Option Page
-page_next past acts x moment None = None
-page_next past acts x moment (Some p) = Some (page_by (half_in_turn past acts x moment p) p)
+-- the sheet after a turn in which it does, but for the page
+abbrev pub sheet_stayed : ℕ → Sheet → Page → Sheet
+sheet_stayed moment sheet p = record sheet { origin = origin_then (tuned_by moment sheet p) sheet.origin; views = views_left sheet.views }
 
-abbrev pub marks_next : NodePast → List Placed → ℕ → ℕ → Option Page → List Mark
-marks_next past acts x moment None = []
-marks_next past acts x moment (Some p) = marks_by (half_in_turn past acts x moment p) p
+-- the sheet after a turn, if there is a page
+abbrev pub sheet_with : NodePast → List Placed → ℕ → ℕ → Sheet → Page → Sheet
+sheet_with past acts x moment sheet p = record {
+  page = Some (page_by (half_in_turn past acts x moment (tuned_by moment sheet p) p) p);
+  origin = if looks_in_turn acts x p then origin_then (tuned_by moment sheet p) sheet.origin else sheet.origin;
+  views = if looks_in_turn acts x p then views_left sheet.views else sheet.views;
+}
+
+abbrev pub sheet_by : NodePast → List Placed → ℕ → ℕ → Sheet → Option Page → Sheet
+sheet_by past acts x moment sheet None = sheet
+sheet_by past acts x moment sheet (Some p) = sheet_with past acts x moment sheet p
+
+abbrev pub sheet_next : NodePast → List Placed → ℕ → ℕ → Sheet → Sheet
+sheet_next past acts x moment sheet = sheet_by past acts x moment sheet sheet.page
+
+-- what it writes
+abbrev pub marks_with : NodePast → List Placed → ℕ → ℕ → Sheet → Option Page → List Mark
+marks_with past acts x moment sheet None = []
+marks_with past acts x moment sheet (Some p) = marks_by (half_in_turn past acts x moment (tuned_by moment sheet p) p) p
+
+abbrev pub marks_next : NodePast → List Placed → ℕ → ℕ → Sheet → List Mark
+marks_next past acts x moment sheet = marks_with past acts x moment sheet sheet.page
 
 -- the moment so long after a reading
 abbrev pub moment_after : ℕ → ℕ → ℕ
 moment_after delay x = min (x + delay) (2 ^ 61)
 
 -- the same of a turn of a session, whose writes come so long after its second reading
-abbrev pub page_in_turn : ℕ → Session → Option Page → Option Page
-page_in_turn delay s page = page_next (past_after s) (acts_in_turn s) (turn_tick s) (moment_after delay (turn_tick s)) page
+abbrev pub sheet_in_turn : ℕ → Session → Sheet → Sheet
+sheet_in_turn delay s sheet = sheet_next (past_after s) (acts_in_turn s) (turn_tick s) (moment_after delay (turn_tick s)) sheet
 
-abbrev pub marks_in_turn : ℕ → Session → Option Page → List Mark
-marks_in_turn delay s page = marks_next (past_after s) (acts_in_turn s) (turn_tick s) (moment_after delay (turn_tick s)) page
+abbrev pub marks_in_turn : ℕ → Session → Sheet → List Mark
+marks_in_turn delay s sheet = marks_next (past_after s) (acts_in_turn s) (turn_tick s) (moment_after delay (turn_tick s)) sheet
 
 -- a page before its first write: of a daemon that has a board, and knows from where its ticks are counted
 abbrev pub page_from : Bool → Option Origin → NodePast → ℕ → Option Page
@@ -189,15 +250,19 @@ abbrev pub page_begun : Option Page → Option Page
 page_begun None = None
 page_begun (Some p) = Some (page_with p.half p)
 
--- the page after so many turns of a session that began with this one
-abbrev pub page_after : ℕ → ℕ → Session → Option Page → Option Page
-page_after delay zero s page = page_begun page
-page_after delay (suc n) s page = page_in_turn delay (after_turns n s) (page_after delay n s page)
+-- the sheet of a session that begins with this page, from where ticks are counted then, and what reads will give
+abbrev pub sheet_begun : Option Page → Option Origin → List Mark → Sheet
+sheet_begun page origin views = record { page = page_begun page; origin = origin; views = views }
 
--- all that it has written by then, write by write
-abbrev pub marks_after : ℕ → ℕ → Session → Option Page → List Mark
-marks_after delay zero s page = marks_begun page
-marks_after delay (suc n) s page = marks_after delay n s page ++ marks_in_turn delay (after_turns n s) (page_after delay n s page)
+-- the sheet after so many turns of a session that began with this one
+abbrev pub sheet_after : ℕ → ℕ → Session → Sheet → Sheet
+sheet_after delay zero s sheet = sheet
+sheet_after delay (suc n) s sheet = sheet_in_turn delay (after_turns n s) (sheet_after delay n s sheet)
+
+-- all that it has written in them, write by write
+abbrev pub marks_after : ℕ → ℕ → Session → Sheet → List Mark
+marks_after delay zero s sheet = []
+marks_after delay (suc n) s sheet = marks_after delay n s sheet ++ marks_in_turn delay (after_turns n s) (sheet_after delay n s sheet)
 
 -- these writes were noted, if it is told what was written
 abbrev pub NotesMarks : List Mark → Option (List Mark) → Option (List Mark) → Type 0
@@ -205,46 +270,70 @@ NotesMarks more marks None = Unit {0}
 NotesMarks more None (Some now) = ⊥
 NotesMarks more (Some before) (Some now) = now ≡ before ++ more
 
--- a ticker has the board that it had, and its ticks are counted as before
+-- a ticker has the board that it had; without one nothing is read, and ticks are counted as before
 pub record KeepsBoard {T : Type 0} (tickers : TickerOf T) (before now : T) : Type 0 where
   pub boarded : tickers.boarded now ≡ tickers.boarded before
-  pub origin : tickers.origin_is now ≡ tickers.origin_is before
   pub delay : tickers.delay_is now ≡ tickers.delay_is before
+  pub alone : tickers.boarded before ≡ false → (tickers.origin_is now ≡ tickers.origin_is before) × (tickers.views now ≡ tickers.views before)
 
 -- the same of what is told of it
 pub record KeepsPage (before now : Paged) : Type 0 where
   pub boarded : now.boarded ≡ before.boarded
-  pub origin : now.origin ≡ before.origin
   pub delay : now.delay ≡ before.delay
+  pub alone : before.boarded ≡ false → (now.origin ≡ before.origin) × (now.views ≡ before.views)
 
--- a call that only writes on the board leaves the rest of its ticker as it was
-pub record OnlyMarks {T : Type 0} (tickers : TickerOf T) (before now : T) : Type 0 where
+-- a call that only writes on the board, and maybe reads there and changes the rate, leaves the rest of its ticker as it was
+pub record OnlyPages {T : Type 0} (tickers : TickerOf T) (before now : T) : Type 0 where
   pub readings : tickers.readings now ≡ tickers.readings before
   pub walled : tickers.left_at_wall now ≡ tickers.left_at_wall before
   pub last : tickers.last now ≡ tickers.last before
-  pub origin : tickers.origin_is now ≡ tickers.origin_is before
   pub delay : tickers.delay_is now ≡ tickers.delay_is before
   pub boarded : tickers.boarded now ≡ tickers.boarded before
 
--- what a turn has written that ends the session so, if this is the number of calls: nothing if it ended before its receive did, and else all
--- that it writes, before its first send
-abbrev pub EndsMarks : ℕ → Session → Option Page → Option ℕ → Option (List Mark) → Option (List Mark) → ServeEnd → Type 0
-EndsMarks delay s page calls marks now Done = ⊥
-EndsMarks delay s page calls marks now LinkFault = NotesMarks [] marks now
-EndsMarks delay s page calls marks now WriteFault = NotesMarks (marks_in_turn delay s page) marks now
-EndsMarks delay s page calls marks now OutOfMemory =
-    ((calls ≡ Some s.outside.calls) × NotesMarks [] marks now) ⊎ ((calls ≡ Some (waited s.outside).calls) × NotesMarks (marks_in_turn delay s page) marks now)
+-- a call that only writes on the board
+pub record OnlyMarks {T : Type 0} (tickers : TickerOf T) (before now : T) : Type 0 where
+  pub pages : OnlyPages tickers before now
+  pub origin : tickers.origin_is now ≡ tickers.origin_is before
+  pub views : tickers.views now ≡ tickers.views before
 
--- what a session has written that ends so after i turns
-abbrev pub MarksUntil : ℕ → Session → Option Page → ℕ → Option ℕ → Option (List Mark) → Option (List Mark) → ServeEnd → Type 0
-MarksUntil delay s page i calls marks now Done = NotesMarks (marks_after delay i s page) marks now
-MarksUntil delay s page i calls marks now LinkFault = NotesMarks (marks_after delay i s page) marks now
-MarksUntil delay s page i calls marks now WriteFault = NotesMarks (marks_after delay (suc i) s page) marks now
-MarksUntil delay s page i calls marks now OutOfMemory =
-    ((calls ≡ Some (after_turns i s).outside.calls) × NotesMarks (marks_after delay i s page) marks now)
-    ⊎ ((calls ≡ Some (waited (after_turns i s).outside).calls) × NotesMarks (marks_after delay (suc i) s page) marks now)
+-- from where a ticker's ticks are counted, and what reads of its board will give, are told, and are the sheet's
+pub record IsTold {T : Type 0} (tickers : TickerOf T) (sheet : Sheet) (ticker : T) : Type 0 where
+  pub origin : tickers.origin_is ticker ≡ Some sheet.origin
+  pub views : tickers.views ticker ≡ Some sheet.views
 
--- the same, if it is told from where ticks are counted, and how long after a reading a moment is. The page is that of the session's beginning
-abbrev pub MarksIfTold : Paged → Session → ℕ → Option ℕ → Option (List Mark) → ServeEnd → Type 0
-MarksIfTold p s i calls marks end = (origin : Option Origin) (delay : ℕ) → p.origin ≡ Some origin → p.delay ≡ Some delay →
-    MarksUntil delay s (page_from p.boarded origin s.past (moment_after delay s.outside.last)) i calls p.marks marks end
+-- these writes were noted, and what is told of the page is then this sheet's
+pub record LeavesSheet (sheet : Sheet) (more : List Mark) (marks : Option (List Mark)) (now : Paged) : Type 0 where
+  pub noted : NotesMarks more marks now.marks
+  pub origin : now.origin ≡ Some sheet.origin
+  pub views : now.views ≡ Some sheet.views
+
+-- what a turn leaves that ends the session so, if this is the number of calls: nothing is written or read if it ended before its receive did,
+-- and else all that it writes, before its first send
+abbrev pub EndsMarks : ℕ → Session → Sheet → Option ℕ → Option (List Mark) → Paged → ServeEnd → Type 0
+EndsMarks delay s sheet calls marks now Done = ⊥
+EndsMarks delay s sheet calls marks now LinkFault = LeavesSheet sheet [] marks now
+EndsMarks delay s sheet calls marks now WriteFault = LeavesSheet (sheet_in_turn delay s sheet) (marks_in_turn delay s sheet) marks now
+EndsMarks delay s sheet calls marks now OutOfMemory =
+    ((calls ≡ Some s.outside.calls) × LeavesSheet sheet [] marks now)
+    ⊎ ((calls ≡ Some (waited s.outside).calls) × LeavesSheet (sheet_in_turn delay s sheet) (marks_in_turn delay s sheet) marks now)
+
+-- what is told of the page after so many turns of a session that began with this page
+abbrev pub LeavesAfter : ℕ → ℕ → Session → Option Page → Option Origin → List Mark → Option (List Mark) → Paged → Type 0
+LeavesAfter delay n s page origin views marks now =
+    LeavesSheet (sheet_after delay n s (sheet_begun page origin views)) (marks_begun page ++ marks_after delay n s (sheet_begun page origin views)) marks now
+
+-- what a session leaves that ends so after i turns
+abbrev pub MarksUntil : ℕ → Session → Option Page → Option Origin → List Mark → ℕ → Option ℕ → Option (List Mark) → Paged → ServeEnd → Type 0
+MarksUntil delay s page origin views i calls marks now Done = LeavesAfter delay i s page origin views marks now
+MarksUntil delay s page origin views i calls marks now LinkFault = LeavesAfter delay i s page origin views marks now
+MarksUntil delay s page origin views i calls marks now WriteFault = LeavesAfter delay (suc i) s page origin views marks now
+MarksUntil delay s page origin views i calls marks now OutOfMemory =
+    ((calls ≡ Some (after_turns i s).outside.calls) × LeavesAfter delay i s page origin views marks now)
+    ⊎ ((calls ≡ Some (waited (after_turns i s).outside).calls) × LeavesAfter delay (suc i) s page origin views marks now)
+
+-- the same, if it is told from where ticks are counted, how long after a reading a moment is, and what reads will give. The page is that of
+-- the session's beginning
+abbrev pub MarksIfTold : Paged → Session → ℕ → Option ℕ → Paged → ServeEnd → Type 0
+MarksIfTold p s i calls now end = (origin : Option Origin) (delay : ℕ) (views : List Mark) → p.origin ≡ Some origin → p.delay ≡ Some delay →
+    p.views ≡ Some views →
+    MarksUntil delay s (page_from p.boarded origin s.past (moment_after delay s.outside.last)) origin views i calls p.marks now end

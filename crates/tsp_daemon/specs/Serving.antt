@@ -69,7 +69,7 @@ pub record IsServed (s : ServeWords) (o : Outside) (wall : ℤ) (word : ℕ) (wr
   pub received_is : IsReceived taken received end
   pub noted : NotesWaits (first_session s o wall word written) received waits now.waits
   -- what it wrote on its page, on the board that it had
-  pub marked : MarksIfTold page (first_session s o wall word written) taken now.calls now.page.marks end
+  pub marked : MarksIfTold page (first_session s o wall word written) taken now.calls now.page end
   pub boarded : KeepsPage page now.page
   -- what its node did in these turns keeps all that is promised without premises
   pub kept : (setting : Setting) → SetByWords s (read_once o).last wall setting →

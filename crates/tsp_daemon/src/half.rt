@@ -3,7 +3,8 @@ ghost use Rattle.std.specs.Prelude.{◌≡◌, ◌≤◌, ◌+◌, ◌^◌, nat_
 ghost use Rattle.tsp_gateway.specs.GatewayStands.{GatewayStands};
 ghost use Rattle.tsp_page.specs.Formula.{rest_at, shown_at, target_at};
 ghost use Rattle.tsp_rules.specs.NodeRows.{NodePast};
-ghost use Rattle.tsp_daemon.specs.Pages.{first_half, least_after, master_in, offset_of, rank_in};
+ghost use Rattle.tsp_daemon.specs.Pages.{counted_from, first_half, least_after, master_in, offset_of};
+ghost use Rattle.tsp_daemon.specs.Pages.{rank_in};
 ghost use Rattle.tsp_daemon.specs.Pages.{target_then};
 
 use crate::changes::steps_in;
@@ -74,7 +75,7 @@ fn rest_at(half: &DaemonHalf, tick: u64) -> i64
 }
 
 /// What a half shows at a tick.
-fn shown_at(half: &DaemonHalf, tick: u64) -> i64
+pub(crate) fn shown_at(half: &DaemonHalf, tick: u64) -> i64
     requires tick { tick ≤ 2 ^ 61 }
     requires corrected { half.now.tick ≤ 2 ^ 61 }
     requires target { nat_abs half.now.target ≤ 2 ^ 61 + 2 ^ 51 }
@@ -102,6 +103,20 @@ pub(crate) fn least_after(acts: &[Placed], moment: u64, half: &DaemonHalf) -> i6
     } else {
         i64::MIN
     }
+}
+
+/// A half of a daemon whose ticks are counted from there.
+pub(crate) fn counted_from(tuned: Option<Origin>, half: &DaemonHalf) -> DaemonHalf
+    ensures { result ≡ counted_from tuned half.now }
+{
+    let mut half = *half;
+    if let Some(origin) = tuned {
+        half.counter = origin.counter;
+        half.origin = origin.nanos;
+        half.origin_tick = origin.tick;
+        half.rate = origin.rate;
+    }
+    half
 }
 
 /// The half with which a daemon begins at this tick.

@@ -30,9 +30,14 @@
 //!   right after it, what the node is and whom it follows; how far the target moved since the beginning, by
 //!   slews and steps; how many steps there were; and the least that may be shown, what the page before
 //!   shows at a moment of the counter that isn't before the turn's step (`half_after`).
+//! - At which rate it counts: it reads the look's half of its page where it says that it is alive, after a
+//!   second in which it wrote nothing, and nowhere else. If that is whole, of its life, and asks for a rate
+//!   within the drift that it states, ticks are counted at that rate from a moment on which is read between
+//!   the odd sequence and the fields, and the fields say so (`serves` of `serve`, by `sheet_after`,
+//!   `rate_in` and `half_alive`). Without a board nothing is read (`alone`).
 //! - After each turn what stands there has the clock of the node's past, and what a turn writes shows no
-//!   less than what stood there before, unless it steps the clock (`pages_tell_of_pasts`,
-//!   `pages_dont_fall`).
+//!   less than what stood there before, unless it steps the clock, also where the rate changes
+//!   (`pages_tell_of_pasts`, `pages_dont_fall`).
 //! - What its node does in these turns keeps all that is promised without premises (`kept`, by
 //!   `HistoryKept`), and there is a setting (networks, rates, wall clocks) of which this speaks
 //!   (`each_daemon_is_set`).
@@ -53,6 +58,7 @@
 //! - That the moment is read after the sequence was made odd, and that a page's sequence is even at rest.
 #![tactic(auto)]
 
+mod asked;
 mod changes;
 pub mod command;
 mod counters;

@@ -1,5 +1,5 @@
 //! The page on which a daemon says what its clock is.
-ghost use Rattle.std.specs.Prelude.{◌≡◌, ℕ, ◌≤◌, ◌+◌, ◌-◌, ◌^◌, ◌-ℤ◌, min, nat_abs, [], ◌∷◌, Option, Some};
+ghost use Rattle.std.specs.Prelude.{◌≡◌, ℕ, ◌≤◌, ◌+◌, ◌-◌, ◌^◌, ◌-ℤ◌, min, nat_abs, [], ◌∷◌, false, Option, None, Some};
 ghost use Rattle.tsp_gateway.specs.GatewayStands.{GatewayStands};
 ghost use Rattle.tsp_io.specs.declared.origin.Origin.{Origin};
 ghost use Rattle.tsp_page.specs.Halves.{daemon_octets};
@@ -8,11 +8,17 @@ ghost use Rattle.tsp_daemon.specs.Pages.{blank_page, half_after, half_alive, hal
 ghost use Rattle.tsp_daemon.specs.Pages.{half_marks};
 ghost use Rattle.tsp_daemon.specs.Pages.{least_after, marks_begun, marks_by, marks_next, moment_after};
 ghost use Rattle.tsp_daemon.specs.Pages.{offset_of, steps_in};
-ghost use Rattle.tsp_daemon.specs.Pages.{page_begun, page_by, page_from, page_next, page_with};
-ghost use Rattle.tsp_daemon.specs.Pages.{NotesMarks, OnlyMarks, sequence_after, sequence_mark};
+ghost use Rattle.tsp_daemon.specs.Pages.{page_begun, page_by, page_from, page_with, sheet_next};
+ghost use Rattle.tsp_daemon.specs.Pages.{sheet_stayed, sheet_with, tuned_by};
+ghost use Rattle.tsp_daemon.specs.Pages.{IsTold, LeavesSheet, NotesMarks, OnlyMarks, OnlyPages, Sheet};
+ghost use Rattle.tsp_daemon.specs.Pages.{sequence_after, sequence_mark};
+ghost use Rattle.tsp_query.specs.Outside.{paged};
 
+use crate::asked::{asked_now, tune};
 use crate::changes::{change_page, steps_in};
-use crate::half::{first_half, least_after, master_in, offset_of, rank_in, target_then};
+use crate::half::{
+    counted_from, first_half, least_after, master_in, offset_of, rank_in, shown_at, target_then,
+};
 use std::marker::Model;
 use tsp_base::act::Placed;
 use tsp_gateway::Gateway;
@@ -106,14 +112,17 @@ impl Page {
         }
     }
 
-    /// The half after a turn at a tick that changes nothing else.
-    fn half_alive(&self, tick: u64) -> DaemonHalf
-        ensures value { result ≡ half_alive tick self.now }
+    /// The half after a turn at a tick that changes nothing else, written at this moment: from then on ticks
+    /// are counted from another origin, if there is one.
+    fn half_alive(&self, tick: u64, moment: u64, tuned: Option<Origin>) -> DaemonHalf
+        requires moment { moment ≤ 2 ^ 61 }
+        ensures value { result ≡ half_alive tick moment tuned self.now }
         ensures corrected { result.tick ≤ 2 ^ 61 }
         ensures target { nat_abs result.target ≤ 2 ^ 61 + 2 ^ 51 }
         ensures rest { nat_abs result.rest ≤ 2 ^ 61 + 2 ^ 52 }
     {
-        let mut half = self.half;
+        let mut half = counted_from(tuned, &self.half);
+        half.least = shown_at(&self.half, moment);
         half.alive = tick;
         half
     }
@@ -144,20 +153,6 @@ impl Page {
         ticker.mark(DAEMON_AT as u64, &self.sequence.to_le_bytes());
     }
 
-    /// Writes a half: the sequence, odd; the fields; the sequence, even.
-    fn renew<T: Ticker>(&mut self, half: DaemonHalf, ticker: &mut T)
-        requires tick { half.tick ≤ 2 ^ 61 }
-        requires target { nat_abs half.target ≤ 2 ^ 61 + 2 ^ 51 }
-        requires rest { nat_abs half.rest ≤ 2 ^ 61 + 2 ^ 52 }
-        ensures page { self.new ≡ page_with half self.old }
-        ensures marks { NotesMarks (half_marks half self.old) (T.marks ticker.old)
-            (T.marks ticker.new) }
-        ensures only { OnlyMarks T.Ticker ticker.old ticker.new }
-    {
-        self.open(ticker);
-        self.close(half, ticker);
-    }
-
     /// Writes the half as it is.
     fn appear<T: Ticker>(&mut self, ticker: &mut T)
         ensures page { self.new ≡ page_with self.old.half self.old }
@@ -165,8 +160,9 @@ impl Page {
             (T.marks ticker.new) }
         ensures only { OnlyMarks T.Ticker ticker.old ticker.new }
     {
+        self.open(ticker);
         let half = self.half;
-        self.renew(half, ticker);
+        self.close(half, ticker);
     }
 
     /// Writes the half after a turn with acts that change it. The least that may be shown is what the
@@ -189,24 +185,53 @@ impl Page {
         self.close(half, ticker);
     }
 
+    /// Writes that the daemon is alive, and counts from now on at the rate that the look's half asks for, if
+    /// it does. The moment from which it does so is one at which no reader takes the half before it any more.
+    fn stay<T: Ticker>(&mut self, tick: u64, ticker: &mut T)
+        ensures page { (delay : ℕ) (sheet : Sheet) → T.delay_is ticker.old ≡ Some delay
+            → IsTold T.Ticker sheet ticker.old
+            → self.new ≡ page_with (half_alive tick (moment_after delay (T.last ticker.old))
+            (tuned_by (moment_after delay (T.last ticker.old)) sheet self.old) self.old) self.old }
+        ensures marks { (delay : ℕ) (sheet : Sheet) → T.delay_is ticker.old ≡ Some delay
+            → IsTold T.Ticker sheet ticker.old
+            → NotesMarks (half_marks (half_alive tick (moment_after delay (T.last ticker.old))
+            (tuned_by (moment_after delay (T.last ticker.old)) sheet self.old) self.old) self.old)
+            (T.marks ticker.old) (T.marks ticker.new) }
+        ensures told { (delay : ℕ) (sheet : Sheet) → T.delay_is ticker.old ≡ Some delay
+            → IsTold T.Ticker sheet ticker.old
+            → IsTold T.Ticker (sheet_stayed (moment_after delay (T.last ticker.old)) sheet self.old)
+            ticker.new }
+        ensures only { OnlyPages T.Ticker ticker.old ticker.new }
+    {
+        let asked = asked_now(self.half.life, ticker);
+        self.open(ticker);
+        let moment = ticker.moment();
+        let tuned = tune(asked, moment, ticker);
+        let half = self.half_alive(tick, moment, tuned);
+        self.close(half, ticker);
+    }
+
     /// Writes what a turn at a tick, with these acts, makes of the page: the half that they change, or
     /// that the daemon is alive, if that wasn't said for a second.
     fn turn<T: Ticker>(&mut self, node: &Gateway, tick: u64, acts: &[Placed], ticker: &mut T)
-        ensures page { (past : NodePast) (delay : ℕ) → GatewayStands past node.now
-            → T.delay_is ticker.old ≡ Some delay
+        ensures page { (past : NodePast) (delay : ℕ) (sheet : Sheet) → GatewayStands past node.now
+            → T.delay_is ticker.old ≡ Some delay → IsTold T.Ticker sheet ticker.old
             → self.new ≡ page_by (half_in_turn past acts.now tick
-            (moment_after delay (T.last ticker.old)) self.old) self.old }
-        ensures marks { (past : NodePast) (delay : ℕ) → GatewayStands past node.now
-            → T.delay_is ticker.old ≡ Some delay
-            → NotesMarks (marks_by (half_in_turn past acts.now tick
-            (moment_after delay (T.last ticker.old)) self.old) self.old) (T.marks ticker.old)
-            (T.marks ticker.new) }
-        ensures only { OnlyMarks T.Ticker ticker.old ticker.new }
+            (moment_after delay (T.last ticker.old))
+            (tuned_by (moment_after delay (T.last ticker.old)) sheet self.old) self.old) self.old }
+        ensures leaves { (past : NodePast) (delay : ℕ) (sheet : Sheet) → GatewayStands past node.now
+            → T.delay_is ticker.old ≡ Some delay → IsTold T.Ticker sheet ticker.old
+            → LeavesSheet (sheet_with past acts.now tick (moment_after delay (T.last ticker.old)) sheet
+            self.old) (marks_by (half_in_turn past acts.now tick
+            (moment_after delay (T.last ticker.old))
+            (tuned_by (moment_after delay (T.last ticker.old)) sheet self.old) self.old) self.old)
+            (T.marks ticker.old) (paged T.Ticker ticker.new) }
+        ensures only { OnlyPages T.Ticker ticker.old ticker.new }
     {
         if change_page(acts) {
             self.change(node, tick, acts, ticker);
         } else if tick.saturating_sub(self.half.alive) >= SILENT {
-            self.renew(self.half_alive(tick), ticker);
+            self.stay(tick, ticker);
         }
     }
 }
@@ -225,6 +250,7 @@ pub(crate) fn begin<T: Ticker>(node: &Gateway, ticker: &mut T) -> Option<Page>
         → NotesMarks (marks_begun (page_from (T.boarded ticker.old) origin past
         (moment_after delay (T.last ticker.old)))) (T.marks ticker.old) (T.marks ticker.new) }
     ensures only { OnlyMarks T.Ticker ticker.old ticker.new }
+    ensures alone { T.boarded ticker.old ≡ false → result ≡ None }
 {
     if !ticker.has_board() {
         return None;
@@ -247,14 +273,20 @@ pub(crate) fn show<T: Ticker>(
     acts: &[Placed],
     ticker: &mut T,
 )
-    ensures page { (past : NodePast) (delay : ℕ) → GatewayStands past node.now
-        → T.delay_is ticker.old ≡ Some delay
-        → page.new ≡ page_next past acts.now tick (moment_after delay (T.last ticker.old)) page.old }
-    ensures marks { (past : NodePast) (delay : ℕ) → GatewayStands past node.now
-        → T.delay_is ticker.old ≡ Some delay
-        → NotesMarks (marks_next past acts.now tick (moment_after delay (T.last ticker.old)) page.old)
-        (T.marks ticker.old) (T.marks ticker.new) }
-    ensures only { OnlyMarks T.Ticker ticker.old ticker.new }
+    ensures page { (past : NodePast) (delay : ℕ) (sheet : Sheet) → GatewayStands past node.now
+        → T.delay_is ticker.old ≡ Some delay → IsTold T.Ticker sheet ticker.old
+        → page.old ≡ sheet.page → page.new ≡ (sheet_next past acts.now tick
+        (moment_after delay (T.last ticker.old)) sheet).page }
+    ensures leaves { (past : NodePast) (delay : ℕ) (sheet : Sheet) → GatewayStands past node.now
+        → T.delay_is ticker.old ≡ Some delay → IsTold T.Ticker sheet ticker.old
+        → page.old ≡ sheet.page → LeavesSheet (sheet_next past acts.now tick
+        (moment_after delay (T.last ticker.old)) sheet) (marks_next past acts.now tick
+        (moment_after delay (T.last ticker.old)) sheet) (T.marks ticker.old)
+        (paged T.Ticker ticker.new) }
+    ensures alone { page.old ≡ None → (page.new ≡ None)
+        × (T.origin_is ticker.new ≡ T.origin_is ticker.old)
+        × (T.views ticker.new ≡ T.views ticker.old) }
+    ensures only { OnlyPages T.Ticker ticker.old ticker.new }
 {
     if let Some(page) = page {
         page.turn(node, tick, acts, ticker);

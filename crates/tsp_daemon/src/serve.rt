@@ -36,7 +36,9 @@ use tsp_io::ticker::Ticker;
 /// (`tsp_page`) is written there: at the beginning; in each turn whose step corrects the clock or changes
 /// a role, before that turn's sends are tried; and in a turn that comes a second or more after the last
 /// of these writes, to say that the daemon is alive. Each is three writes: the sequence, odd; the fields;
-/// the sequence, even. `specs/Pages.antt` says what the fields are. Without a board nothing else differs.
+/// the sequence, even. `specs/Pages.antt` says what the fields are. Before the last kind the look's half is
+/// read: if it asks for a rate, ticks are counted at that rate from then on, and the fields say so.
+/// Without a board nothing else differs, and nothing is read.
 ///
 /// `LinkFault` comes only if a receive failed, and the link's count of faults rose; `WriteFault`
 /// only if a write failed, and the sink's count rose. The node must stand for a past, as each does
@@ -57,8 +59,8 @@ pub fn serve<K: Sink, L: Link, T: Ticker>(
         → HoldsOf L.Link T.Ticker (IsAt s gateway (record { turns = 0; posts = 0 })) link.old
         ticker.old (K.written sink.old)
         → HoldsOf L.Link T.Ticker (Serves turns s) link.new ticker.new (K.written sink.new)
-        (L.waits link.old) (L.waits link.new) (paged T.Ticker ticker.old) (T.marks ticker.new)
-        result }
+        (L.waits link.old) (L.waits link.new) (paged T.Ticker ticker.old)
+        (paged T.Ticker ticker.new) result }
     ensures keeps { KeepsOn L.Link T.Ticker link.old ticker.old link.new ticker.new }
     ensures board { KeepsBoard T.Ticker ticker.old ticker.new }
     ensures link { Counts (L.faults link.old) (L.faults link.new) (result ≡ ServeEnd.LinkFault) }

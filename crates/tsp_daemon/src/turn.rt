@@ -1,13 +1,15 @@
 //! A turn of the daemon.
 ghost use Rattle.std.specs.Prelude.{◌≡◌, ℕ, ◌≤◌, ◌<◌, ◌+◌, ◌^◌, length, IfErr, MatchResult, OnOk, Err};
-ghost use Rattle.std.specs.Prelude.{Some};
+ghost use Rattle.std.specs.Prelude.{None, Some};
 ghost use Rattle.tsp_io.specs.Streams.{Grows};
 ghost use Rattle.tsp_gateway.specs.GatewayStands.{clock_at};
 ghost use Rattle.tsp_gateway.specs.Rooms.{ports_in, room_of_ports};
 ghost use Rattle.tsp_query.specs.Faults.{Counts};
+ghost use Rattle.tsp_query.specs.Outside.{paged};
 ghost use Rattle.tsp_query.specs.Told.{HoldsOf, KeepsOn};
 ghost use Rattle.tsp_daemon.specs.Ends.{IsAt, Lives, EndsTurn, FinishesUntil, OnlySends, TriesAll};
-ghost use Rattle.tsp_daemon.specs.Pages.{EndsMarks, KeepsBoard, NotesMarks, marks_in_turn, page_in_turn};
+ghost use Rattle.tsp_daemon.specs.Pages.{EndsMarks, IsTold, LeavesSheet, Sheet, marks_in_turn};
+ghost use Rattle.tsp_daemon.specs.Pages.{sheet_in_turn};
 ghost use Rattle.tsp_daemon.specs.Posts.{AreKnown, sends_of, shown_lines};
 ghost use Rattle.tsp_daemon.specs.Sessions.{Session, turned};
 ghost use Rattle.tsp_daemon.specs.Waits.{NotesTurn, NotesWait};
@@ -85,14 +87,20 @@ pub(crate) fn turn<K: Sink, L: Link, T: Ticker>(
         (K.written sink.old)
         → MatchResult result (λ _. NotesWait s (L.waits link.old) (L.waits link.new))
         (NotesTurn s (L.waits link.old) (L.waits link.new)) }
-    ensures marks { (s : Session) (delay : ℕ)
+    ensures marks { (s : Session) (delay : ℕ) (sheet : Sheet)
         → HoldsOf L.Link T.Ticker (IsAt s node.old counters.old) link.old ticker.old
         (K.written sink.old) → T.delay_is ticker.old ≡ Some delay
-        → MatchResult result (λ _. (page.new ≡ page_in_turn delay s page.old)
-        × NotesMarks (marks_in_turn delay s page.old) (T.marks ticker.old) (T.marks ticker.new))
-        (EndsMarks delay s page.old (L.calls link.new) (T.marks ticker.old) (T.marks ticker.new)) }
+        → IsTold T.Ticker sheet ticker.old → page.old ≡ sheet.page
+        → MatchResult result (λ _. (page.new ≡ (sheet_in_turn delay s sheet).page)
+        × LeavesSheet (sheet_in_turn delay s sheet) (marks_in_turn delay s sheet)
+        (T.marks ticker.old) (paged T.Ticker ticker.new)) (EndsMarks delay s sheet
+        (L.calls link.new) (T.marks ticker.old) (paged T.Ticker ticker.new)) }
+    ensures alone { page.old ≡ None → OnOk result (page.new ≡ None)
+        × (T.origin_is ticker.new ≡ T.origin_is ticker.old)
+        × (T.views ticker.new ≡ T.views ticker.old) }
     ensures keeps { KeepsOn L.Link T.Ticker link.old ticker.old link.new ticker.new }
-    ensures board { KeepsBoard T.Ticker ticker.old ticker.new }
+    ensures board { (T.boarded ticker.new ≡ T.boarded ticker.old)
+        × (T.delay_is ticker.new ≡ T.delay_is ticker.old) }
     ensures lives { OnOk result (Lives node.new) }
     ensures clock { OnOk result (clock_at node.new ≤ T.last ticker.new) }
     ensures counts { OnOk result ((counters.new.turns ≡ counters.old.turns + 1)

@@ -1,1 +1,3 @@
 mod DirectoryLemmas
+mod OriginLemmas
+mod ReachLemmas

@@ -1,5 +1,6 @@
 -- What tick counters and wall clocks answer.
-use Rattle.std.specs.Prelude.{◌≡◌, ℕ, ◌≤◌, ◌*◌, ◌/◌, ◌^◌, min, max, Bool, true, ◌&&◌, nat_le, List, [], ◌∷◌, None, Some, Option, ℤ, pos, negsuc, ◌≤ℤ◌, ◌+ℤ◌}
+use Rattle.std.specs.Prelude.{◌≡◌, ℕ, ◌≤◌, ◌+◌, ◌*◌, ◌/◌, ◌^◌, min, max, Bool, true, ◌&&◌, nat_le, List, [], ◌∷◌, None, Some, Option, ℤ, pos, negsuc, ◌≤ℤ◌}
+use Rattle.std.specs.Prelude.{◌+ℤ◌}
 use Rattle.std.specs.Option.{option_map}
 use Rattle.tsp_io.specs.declared.counter.Counter.{Counter, TheVariants.Raw, TheVariants.Monotonic}
 use Rattle.tsp_io.specs.declared.origin.Origin.{Origin}
@@ -30,20 +31,20 @@ pub record IsSpeed (speed : ℕ) : Type 0 where
 abbrev pub counted : ℕ → ℕ → ℕ
 counted speed elapsed = min (elapsed * speed / 1000000000) (2 ^ 61)
 
--- what the counter answers: how far it has come, and not less than its last answer. If the machine gave no reading, it
--- answers that again
-abbrev pub comes_to : ℕ → ℕ → Option ℕ → ℕ
-comes_to speed last None = last
-comes_to speed last (Some elapsed) = max (counted speed elapsed) last
+-- what the counter answers: the tick from which it counts, and how far it has come since, at most 2^61 together, and not less than its
+-- last answer. If the machine gave no reading, it answers that again
+abbrev pub comes_to : ℕ → ℕ → ℕ → Option ℕ → ℕ
+comes_to base speed last None = last
+comes_to base speed last (Some elapsed) = max (min (base + counted speed elapsed) (2 ^ 61)) last
 
 -- the number that Linux gives a counter: 4 for the one whose rate no program changes, and 1 for the other
 abbrev pub number_of : Counter → ℕ
 number_of Raw = 4
 number_of Monotonic = 1
 
--- ticks are counted from here: from 0 at this first reading of this counter, in microseconds, at this rate
-pub record IsOrigin (counter : Counter) (start : Option ℕ) (speed : ℕ) (origin : Origin) : Type 0 where
+-- ticks are counted from here: from this tick at this microsecond of this counter, at this rate
+pub record IsOrigin (counter : Counter) (start : Option ℕ) (base speed : ℕ) (origin : Origin) : Type 0 where
   pub counter_is : origin.counter ≡ number_of counter
   pub nanos_are : option_map (λ first. pos (first * 1000)) start ≡ Some origin.nanos
-  pub tick_is : origin.tick ≡ 0
+  pub tick_is : origin.tick ≡ base
   pub rate_is : pos 1000000000 +ℤ origin.rate ≡ pos speed

@@ -5,6 +5,8 @@ pub mod Directories
 pub mod FailingCalls
 pub mod Links
 pub mod MemoryLinks
+pub mod Origins
 pub mod Sockets
+pub mod Speeds
 pub mod Streams
 pub mod UdpLinks

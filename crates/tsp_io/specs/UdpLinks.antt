@@ -1,5 +1,5 @@
 -- What a link over a UDP socket is bound to, whom it hears, and where it sends.
-use Rattle.std.specs.Prelude.{◌≡◌, ◌⊎◌, ℕ, Bool, true, false, List, [], ◌∷◌, None, Some, Option, MatchOption}
+use Rattle.std.specs.Prelude.{◌≡◌, ◌≢◌, ◌⊎◌, ℕ, pos, Bool, true, false, List, [], ◌∷◌, None, Some, Option, MatchOption}
 use Rattle.std.specs.Option.{option_map}
 use Rattle.tsp_io.specs.{Counts.one_more, Directories.addr_of, Directories.ComesFrom, Links.Binding, declared.addr.Addr.Addr}
 use Rattle.tsp_io.specs.Sockets.{IsWaitFor, at_once, sockaddr_of}
@@ -45,6 +45,14 @@ tries_of (Some socket) = socket.tries
 -- the system was asked once more, for a send of so many octets that fails at once if there is no room
 abbrev pub SendsOnce : ℕ → Option Socket → Option Socket → Type 0
 SendsOnce count before now = (tries_of now ≡ one_more (tries_of before)) × MatchOption now ⊥ (λ s. (s.octets ≡ count) × (s.flags ≡ at_once))
+
+-- the system took all of so many octets
+abbrev pub TookAll : ℕ → Option Socket → Type 0
+TookAll count socket = MatchOption socket ⊥ (λ s. s.answer ≡ pos count)
+
+-- there is no socket, or the system took not all of them
+abbrev pub TookLess : ℕ → Option Socket → Type 0
+TookLess count socket = MatchOption socket (Unit {0}) (λ s. s.answer ≢ pos count)
 
 -- the system was asked once more for a send, or not at all
 abbrev pub SendsAtMostOnce : Option Socket → Option Socket → Type 0

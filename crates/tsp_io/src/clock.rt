@@ -1,7 +1,9 @@
 //! The machine's clocks.
-ghost use Rattle.std.specs.Prelude.{◌≡◌, ℕ, ◌≤◌, ◌<◌, ◌*◌, ◌^◌, None, Some, Option, IfSome, IsSome, false, min, pos};
+ghost use Rattle.std.specs.Prelude.{◌≡◌, ◌+◌, ℕ, ◌≤◌, ◌<◌, ◌*◌, ◌^◌, [], None, Some, Option, IfSome, IsSome, false, min, pos};
 ghost use Rattle.std.specs.Option.{option_map};
 ghost use Rattle.tsp_io.specs.Clocks.{IsOrigin, IsWall, comes_to};
+ghost use Rattle.tsp_io.specs.Origins.{retuned};
+ghost use Rattle.tsp_io.specs.declared.origin.Origin.{Origin};
 
 use crate::counter::Counter;
 use crate::machine_clock::machine_micros;
@@ -19,7 +21,8 @@ const LAST_WALL: u64 = 1 << 62;
 ///
 /// The counter's first reading is 0; from then on it is how far the machine's clock has come, in
 /// microseconds, at the counter's rate: `e + floor(e * parts / 10^9)` when that has come `e` whole
-/// microseconds. It never falls, and stays at 2^61, some 73,000 years. The wall clock is read once;
+/// microseconds. After a change of the rate it goes on so from the tick of the change. It never falls, and
+/// stays at 2^61, some 73,000 years. The wall clock is read once;
 /// that reading is the word too. If the machine gives no reading, the counter answers its last one,
 /// and wall and word are 0. It has no board.
 #[derive(Drop)]
@@ -27,6 +30,7 @@ pub struct MachineTicker<R> {
     rt: R,
     rate: Rate,
     start: Option<u64>,
+    base: u64,
     elapsed: Option<u64>,
     wall: Option<u64>,
     last: u64,
@@ -39,13 +43,14 @@ impl<R: Clock> MachineTicker<R> {
     /// `CLOCK_MONOTONIC`.
     pub fn new(rt: R, rate: Rate) -> MachineTicker<R>
         ensures unread { (result.rate ≡ rate) × (result.start ≡ None) × (result.elapsed ≡ None)
-            × (result.wall ≡ None) × (result.last ≡ 0) }
+            × (result.wall ≡ None) × (result.last ≡ 0) × (result.base ≡ 0) }
         ensures counter { result.counter ≡ Counter.Monotonic }
     {
         MachineTicker {
             rt,
             rate,
             start: None,
+            base: 0,
             elapsed: None,
             wall: None,
             last: 0,
@@ -60,9 +65,23 @@ impl<R: Clock> MachineTicker<R> {
         self.counter = counter;
         self
     }
+
+    /// The tick when so many microseconds have passed since the reading from which ticks are counted; the
+    /// last one if that isn't known.
+    fn come(&self, elapsed: Option<u64>) -> u64
+        ensures { result ≡ comes_to self.now.base self.now.rate.speed self.now.last elapsed }
+    {
+        match elapsed {
+            Some(elapsed) => {
+                let ticks = self.rate.ticks(elapsed);
+                self.base.saturating_add(ticks).min(1 << 61).max(self.last)
+            }
+            None => self.last,
+        }
+    }
 }
 
-/// The microseconds since the first reading, which is noted; None if the machine gives no reading.
+/// The microseconds since the reading from which ticks are counted; the first one is noted. None if the machine gives no reading.
 fn since_start(rt: &impl Clock, start: &mut Option<u64>) -> Option<u64>
     ensures first { start.old ≡ None → IfSome result (λ elapsed. elapsed ≡ 0) }
     ensures noted { IfSome result (λ _. IsSome start.new) }
@@ -72,7 +91,8 @@ fn since_start(rt: &impl Clock, start: &mut Option<u64>) -> Option<u64>
     now.checked_sub(*start.get_or_insert(now))
 }
 
-/// The microseconds since the first reading; None if there was none, or the machine gives none now.
+/// The microseconds since the reading from which ticks are counted; None if there was none, or the machine
+/// gives none now.
 fn elapsed_now(rt: &impl Clock, start: Option<u64>) -> Option<u64>
     ensures { start ≡ None → result ≡ None }
 {
@@ -120,12 +140,15 @@ impl<R: Clock> Ticker for MachineTicker<R> {
 
     ghost marks = { λ _. None };
 
+    ghost views = { λ _. Some [] };
+
     fn tick(&mut self) -> u64
         ensures low { self.old.last ≤ result }
         ensures high { result ≤ 2 ^ 61 }
         ensures last { self.new.last ≡ result }
-        ensures counts { result ≡ comes_to self.old.rate.speed self.old.last self.new.elapsed }
-        ensures rate { self.new.rate ≡ self.old.rate }
+        ensures counts { result ≡ comes_to self.old.base self.old.rate.speed self.old.last
+            self.new.elapsed }
+        ensures rate { (self.new.rate ≡ self.old.rate) × (self.new.base ≡ self.old.base) }
         ensures wall { self.new.wall ≡ self.old.wall }
         ensures first { self.old.start ≡ None → IfSome self.new.elapsed (λ elapsed. elapsed ≡ 0) }
         ensures noted { IfSome self.new.elapsed (λ _. IsSome self.new.start) }
@@ -133,11 +156,7 @@ impl<R: Clock> Ticker for MachineTicker<R> {
         ensures counter { self.new.counter ≡ self.old.counter }
     {
         self.elapsed = since_start(&self.rt, &mut self.start);
-        let ticks = match self.elapsed {
-            Some(elapsed) => self.rate.ticks(elapsed),
-            None => self.last,
-        };
-        self.last = ticks.max(self.last);
+        self.last = self.come(self.elapsed);
         self.last
     }
 
@@ -158,10 +177,10 @@ impl<R: Clock> Ticker for MachineTicker<R> {
         wall_once(&self.rt, &mut self.wall)
     }
 
-    /// From where the ticks are counted: the first reading. None before it, and if its nanoseconds aren't
-    /// less than 2^63.
+    /// From where the ticks are counted: the first reading, or the moment of the last change of the rate.
+    /// None before it, and if its nanoseconds aren't less than 2^63.
     fn origin(&self) -> Option<Origin>
-        ensures found { IfSome result (IsOrigin self.now.counter self.now.start
+        ensures found { IfSome result (IsOrigin self.now.counter self.now.start self.now.base
             self.now.rate.speed) }
         ensures all { IfSome self.now.start (λ first. first * 1000 < 2 ^ 63 → IsSome result) }
     {
@@ -169,7 +188,7 @@ impl<R: Clock> Ticker for MachineTicker<R> {
         Some(Origin {
             counter: self.counter.number(),
             nanos,
-            tick: 0,
+            tick: self.base,
             rate: self.rate.parts(),
         })
     }
@@ -178,12 +197,9 @@ impl<R: Clock> Ticker for MachineTicker<R> {
         ensures low { self.now.last ≤ result }
         ensures high { result ≤ 2 ^ 61 }
         ensures counts { (elapsed : Option ℕ) × (result
-            ≡ comes_to self.now.rate.speed self.now.last elapsed) }
+            ≡ comes_to self.now.base self.now.rate.speed self.now.last elapsed) }
     {
-        match elapsed_now(&self.rt, self.start) {
-            Some(elapsed) => self.rate.ticks(elapsed).max(self.last),
-            None => self.last,
-        }
+        self.come(elapsed_now(&self.rt, self.start))
     }
 
     fn has_board(&self) -> bool {
@@ -193,4 +209,32 @@ impl<R: Clock> Ticker for MachineTicker<R> {
     fn mark(&mut self, _at: u64, _octets: &[u8])
         ensures same { self.new ≡ self.old }
     {}
+
+    fn view(&mut self, _at: u64, _buf: &mut [u8]) -> bool
+        ensures none { result ≡ false }
+        ensures same { self.new ≡ self.old }
+    {
+        false
+    }
+
+    fn retune(&mut self, tick: u64, rate: i64) -> Option<Origin>
+        ensures answers { IfSome result (λ now. (before : Origin)
+            × IsOrigin self.old.counter self.old.start self.old.base self.old.rate.speed before
+            × (retuned tick rate before ≡ Some now)) }
+        ensures found { IfSome result (IsOrigin self.new.counter self.new.start self.new.base
+            self.new.rate.speed) }
+        ensures none { result ≡ None → self.new ≡ self.old }
+        ensures all { (before : Origin)
+            → IsOrigin self.old.counter self.old.start self.old.base self.old.rate.speed before
+            → retuned tick rate before ≡ result }
+        ensures same { (self.new.last ≡ self.old.last) × (self.new.wall ≡ self.old.wall)
+            × (self.new.counter ≡ self.old.counter) }
+    {
+        let counted = Rate::of(rate)?;
+        let origin = self.origin()?.retuned(tick, rate)?;
+        self.start = Some(origin.nanos.unsigned_abs() / 1_000);
+        self.base = tick;
+        self.rate = counted;
+        Some(origin)
+    }
 }

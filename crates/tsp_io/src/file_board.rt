@@ -7,7 +7,8 @@ use std::os::unix::fs::FileExt;
 
 /// A file as a board, with a count of its faults. What was written isn't told.
 ///
-/// Each write is one of the system's, which fails if that takes not all of the octets.
+/// Each write is one of the system's, which fails if that takes not all of the octets; so is each read,
+/// which fails if that gives fewer than are wanted.
 #[derive(Drop)]
 pub struct FileBoard<F> {
     file: F,
@@ -41,6 +42,8 @@ impl<F: FileExt> FileBoard<F> {
 impl<F: FileExt> Board for FileBoard<F> {
     ghost writes = { λ _. None };
 
+    ghost views = { λ _. None };
+
     ghost faults = { λ s. s.faults };
 
     fn write(&mut self, at: u64, octets: &[u8]) -> Marked
@@ -55,5 +58,14 @@ impl<F: FileExt> Board for FileBoard<F> {
         }
         self.faults = self.faults.saturating_add(1);
         Marked::Failed
+    }
+
+    fn read(&mut self, at: u64, buf: &mut [u8]) -> bool
+        ensures same { self.new ≡ self.old }
+    {
+        match self.file.read_at(buf, at) {
+            Ok(count) => count == buf.len(),
+            Err(_) => false,
+        }
     }
 }

@@ -49,10 +49,15 @@
 //! - A machine's counter is as far as its rate says, by the reading that the machine gave, and at 0 at the
 //!   first one, from which programs count (`counts`, `first`, `found`), and the wall clock and the word are
 //!   one reading (`read`, `kept` of `MachineTicker`).
+//! - A rate can be changed from a tick on: programs and the counter go on from the first whole microsecond
+//!   at which that had passed (`answers` and `origin` of `retune`, `retuned`, `come` and `first` of `reach`).
+//!   The same rate, one beyond 1,000,000 parts in 10^9, and an earlier tick are no change.
+//! - What a read of a board gives (`views`); over a file it writes nothing and counts no fault (`same`).
 //! - A socket is asked for the address of the bind, and its number is none of a standard stream.
 //! - Its wait is less than a millisecond below the one that is asked for (`waits`).
 //! - A send is one try, with all of the octets, and the system is told not to wait for room (`once`, `octets`,
-//!   `waits` of `send`, `whole` of `UdpLink`).
+//!   `waits` of `send`, `whole` of `UdpLink`). It is sent exactly if the system took all of them (`answer`,
+//!   `went`, `failed`).
 //! - It takes nothing in a receive that ended too late (`fresh`).
 //! - Whose a datagram is that a socket gets: that of the peer with the lowest number that has its address,
 //!   and a stranger's exactly if no peer has it, and a datagram for a peer goes to that peer's address
@@ -69,8 +74,8 @@
 //! - What came in a pause is thrown away.
 //! - Ten million times at rates of all sizes.
 //! - Through the program a link that takes nothing.
-//! - Programs count the same ticks.
-//! - A file that takes only a part of a write.
+//! - Programs count the same ticks, also after changes of the rate.
+//! - A file that takes only a part of a write, or gives only a part of a read.
 //!
 //! # What is neither proved nor tested
 //!
@@ -101,6 +106,7 @@ mod raw_addr;
 pub mod sink;
 mod socket;
 pub mod source;
+mod speed;
 pub mod ticker;
 mod tried_sends;
 pub mod udp;

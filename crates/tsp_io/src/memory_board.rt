@@ -1,5 +1,5 @@
 //! A board in memory.
-ghost use Rattle.std.specs.Prelude.{◌≡◌, ◌≢◌, ◌↔◌, ◌⊎◌, ◌≤◌, ◌<◌, List, [], Option, Some, IfOk, map};
+ghost use Rattle.std.specs.Prelude.{◌≡◌, ◌≢◌, ◌↔◌, ◌⊎◌, ◌≤◌, ◌<◌, List, [], Option, Some, IfOk, drop, map, vec_len};
 ghost use Rattle.std.specs.Option.{option_map};
 ghost use Rattle.tsp_io.specs.Boards.{Mark, mark_of};
 ghost use Rattle.tsp_io.specs.Counts.{Rose};
@@ -70,26 +70,47 @@ impl NotedMarks {
     }
 }
 
-/// The writes on a board, and the numbers of those that fail.
+/// The writes on a board, and the numbers of those that fail; and what its reads will give.
 #[derive(Drop)]
 pub struct MemoryBoard {
     marks: NotedMarks,
     failing: Failing,
     faults: u64,
+    views: Vec<MarkedOctets>,
+    seen: usize,
+    ghost within: { seen ≤ vec_len views },
 }
 
 impl MemoryBoard {
-    /// A board on which nothing was written. The writes whose numbers are listed fail, and all after the
+    /// A board on which nothing was written, and that gives nothing to read. The writes whose numbers are listed fail, and all after the
     /// first of them; they are counted from 0. Fails only if out of memory.
     pub fn new(alloc: Global, failing: &[u32]) -> Result<MemoryBoard, AllocError>
-        ensures { IfOk result (λ b. (b.marks ≡ Some []) × (b.failing.calls.items ≡ failing.now)
+        ensures begins { IfOk result (λ b. (b.marks ≡ Some []) × (b.failing.calls.items ≡ failing.now)
             × (b.failing.next ≡ 0) × (b.faults ≡ 0)) }
+        ensures views { IfOk result (λ b. map mark_of (drop b.seen b.views.items) ≡ []) }
     {
         Ok(MemoryBoard {
             marks: NotedMarks::new(alloc),
             failing: Failing::new(alloc, failing)?,
             faults: 0,
+            views: Vec::new(alloc),
+            seen: 0,
         })
+    }
+
+    /// The same board, of which the next reads give these octets, each from its place.
+    pub fn showing(self, views: Vec<MarkedOctets>) -> MemoryBoard
+        ensures views { map mark_of (drop result.seen result.views.items) ≡ map mark_of views.items }
+        ensures rest { (result.marks ≡ self.marks) × (result.failing ≡ self.failing)
+            × (result.faults ≡ self.faults) }
+    {
+        MemoryBoard {
+            marks: self.marks,
+            failing: self.failing,
+            faults: self.faults,
+            views,
+            seen: 0,
+        }
     }
 
     /// The writes so far, in their order, with those that failed; None if there was no memory to note
@@ -104,6 +125,8 @@ impl MemoryBoard {
 impl Board for MemoryBoard {
     ghost writes = { λ s. s.marks };
 
+    ghost views = { λ s. Some (map mark_of (drop s.seen s.views.items)) };
+
     ghost faults = { λ s. s.faults };
 
     fn write(&mut self, at: u64, octets: &[u8]) -> Marked
@@ -115,6 +138,7 @@ impl Board for MemoryBoard {
         ensures fails { (result ≡ Marked.Failed)
             ↔ (0 < self.old.faults ⊎ FailsNext self.old.failing) }
         ensures counted { CountsCall self.old.failing self.new.failing }
+        ensures views { (self.new.views ≡ self.old.views) × (self.new.seen ≡ self.old.seen) }
     {
         self.marks.note(at, octets);
         let fails = self.failing.fails();
@@ -123,5 +147,18 @@ impl Board for MemoryBoard {
             return Marked::Failed;
         }
         Marked::Written
+    }
+
+    fn read(&mut self, at: u64, buf: &mut [u8]) -> bool {
+        if self.seen == self.views.len() {
+            return false;
+        }
+        let view = &self.views[self.seen];
+        self.seen += 1;
+        if view.at != at || view.octets.len() != buf.len() {
+            return false;
+        }
+        buf.copy_from_slice(view.octets.as_slice());
+        true
     }
 }

@@ -1,5 +1,5 @@
 //! A tick counter and a wall clock in memory.
-ghost use Rattle.std.specs.Prelude.{◌≡◌, ℕ, ◌≤◌, ◌<◌, ◌^◌, length, true, false, drop, IfOk, None, Some, vec_len};
+ghost use Rattle.std.specs.Prelude.{◌≡◌, ℕ, ◌≤◌, ◌<◌, ◌^◌, length, true, false, drop, [], IfOk, None, Some, vec_len};
 ghost use Rattle.std.specs.Option.{option_map};
 ghost use Rattle.tsp_io.specs.Clocks.{climbs, IsWall};
 
@@ -96,6 +96,8 @@ impl Ticker for MemoryTicker {
 
     ghost marks = { λ _. None };
 
+    ghost views = { λ _. Some [] };
+
     fn tick(&mut self) -> u64 {
         if self.at < self.ticks.len() {
             let at = self.at;
@@ -127,4 +129,14 @@ impl Ticker for MemoryTicker {
     }
 
     fn mark(&mut self, _at: u64, _octets: &[u8]) {}
+
+    fn view(&mut self, _at: u64, _buf: &mut [u8]) -> bool {
+        false
+    }
+
+    fn retune(&mut self, tick: u64, rate: i64) -> Option<Origin> {
+        let origin = self.origin?.retuned(tick, rate)?;
+        self.origin = Some(origin);
+        Some(origin)
+    }
 }

@@ -1,7 +1,7 @@
 //! A ticker with a board.
 ghost use Rattle.std.specs.Prelude.{◌≡◌, None, Some};
 ghost use Rattle.std.specs.Option.{option_map};
-ghost use Rattle.tsp_io.specs.Boards.{is_there, on_board};
+ghost use Rattle.tsp_io.specs.Boards.{is_there, on_board, views_on};
 
 use crate::board::Board;
 use crate::origin::Origin;
@@ -52,6 +52,8 @@ impl<T: Ticker, B: Board> Ticker for Paged<T, B> {
 
     ghost marks = { λ s. on_board B.writes s.board };
 
+    ghost views = { λ s. views_on B.views s.board };
+
     fn tick(&mut self) -> u64 {
         self.ticker.tick()
     }
@@ -80,5 +82,16 @@ impl<T: Ticker, B: Board> Ticker for Paged<T, B> {
         if let Some(board) = &mut self.board {
             board.write(at, octets);
         }
+    }
+
+    fn view(&mut self, at: u64, buf: &mut [u8]) -> bool {
+        match &mut self.board {
+            Some(board) => board.read(at, buf),
+            None => false,
+        }
+    }
+
+    fn retune(&mut self, tick: u64, rate: i64) -> Option<Origin> {
+        self.ticker.retune(tick, rate)
     }
 }

@@ -1,5 +1,5 @@
 //! A UDP socket whose receives wait for a given time, and whose sends never wait.
-ghost use Rattle.std.specs.Prelude.{◌≡◌, ◌⊎◌, ◌≤◌, ◌<ℤ◌, length, false, true, None, Some, pos};
+ghost use Rattle.std.specs.Prelude.{◌≡◌, ◌↔◌, ◌⊎◌, ◌≤◌, ◌<ℤ◌, length, false, true, None, Some, pos};
 ghost use Rattle.std.specs.Prelude.{IfOk, IfSome, IsTrue, OnErr, OnOk};
 ghost use Rattle.std.specs.Net.Udp.{udp_raw_fd};
 ghost use Rattle.tsp_io.specs.Counts.{one_more};
@@ -29,6 +29,12 @@ const MOST_DISCARDED: u32 = 100_000;
 
 /// How a datagram is sent: it fails at once if there is no room, and raises no signal.
 const AT_ONCE: i32 = net::MSG_DONTWAIT | net::MSG_NOSIGNAL;
+
+/// The room that is asked for: 64 MiB, as C's `int`.
+const MOST_ROOM: [u8; 16] = [0, 0, 0, 4, 0, 0, 0, 0, 0, 0, 0, 0, 0, 0, 0, 0];
+
+/// How many octets of it are the `int`.
+const INT_LEN: u32 = 4;
 
 /// The system reported an error of a receive, and not only that there was no datagram.
 #[derive(Clone, Copy)]
@@ -70,6 +76,8 @@ pub(crate) struct Socket {
     pub octets: usize,
     /// How often the system was asked for a send.
     pub tries: u64,
+    /// What it answered to the last one: how many octets it took, or a number below 0; 0 before the first.
+    pub answer: isize,
     /// How many datagrams were thrown away.
     pub discarded: u64,
     /// The wait in microseconds that was last set; 0 if none was set, so that receives wait for ever.
@@ -83,19 +91,22 @@ impl Socket {
     /// A socket bound to this address. Fails if the system refuses it, or if it would take the number
     /// of a standard stream that was closed.
     pub(crate) fn bind<R: Net + Clock>(rt: &R, local: Addr) -> io::Result<Socket>
-        ensures { IfOk result (λ s. (addr_of s.local ≡ Some local) × (s.discarded ≡ 0)) }
+        ensures { IfOk result (λ s. (addr_of s.local ≡ Some local) × (s.discarded ≡ 0)
+            × (s.tries ≡ 0)) }
     {
         Socket::bind_to(rt, socket_addr(local))
     }
 
     /// The same, with the address as the system gets it.
     fn bind_to<R: Net + Clock>(rt: &R, local: SocketAddr) -> io::Result<Socket>
-        ensures { IfOk result (λ s. (s.local ≡ local) × (s.discarded ≡ 0) × (s.wait ≡ 0)) }
+        ensures { IfOk result (λ s. (s.local ≡ local) × (s.discarded ≡ 0) × (s.wait ≡ 0)
+            × (s.tries ≡ 0)) }
     {
         let udp = UdpSocket::bind(rt, local)?;
         if udp.as_raw_fd() <= LAST_STREAM {
             return Err(io::Error::from(ErrorKind::Other));
         }
+        widen(&udp);
         Ok(Socket {
             udp,
             local,
@@ -103,6 +114,7 @@ impl Socket {
             flags: AT_ONCE,
             octets: 0,
             tries: 0,
+            answer: 0,
             discarded: 0,
             wait: 0,
             ended: machine_micros(rt),
@@ -234,13 +246,15 @@ impl Socket {
         ensures same { self.new ≡ record self.old {
           octets = self.new.octets;
           tries = self.new.tries;
+          answer = self.new.answer;
         } }
+        ensures answer { IsTrue result ↔ (self.new.answer ≡ pos (length octets.now)) }
     {
         self.octets = octets.len();
         self.tries = self.tries.saturating_add(1);
         let fd = self.udp.as_raw_fd();
-        let count = unsafe { net::sendto(fd, octets, self.flags, &self.to, RAW_LEN) };
-        usize::try_from(count).is_ok_and(|count| count == octets.len())
+        self.answer = unsafe { net::sendto(fd, octets, self.flags, &self.to, RAW_LEN) };
+        usize::try_from(self.answer).is_ok_and(|count| count == octets.len())
     }
 
     /// Sends a datagram, and says whether the system took all of it. The system is asked once, and a send
@@ -256,7 +270,9 @@ impl Socket {
           flags = self.new.flags;
           octets = self.new.octets;
           tries = self.new.tries;
+          answer = self.new.answer;
         } }
+        ensures answer { IsTrue result ↔ (self.new.answer ≡ pos (length octets.now)) }
     {
         self.to = raw_addr(to);
         self.flags = AT_ONCE;
@@ -302,6 +318,12 @@ fn cause_of(kind: ErrorKind) -> Untaken {
         | ErrorKind::NetworkUnreachable => Untaken::Report,
         _ => Untaken::Fault,
     }
+}
+
+/// Asks the system for as much room for what isn't sent yet as it gives.
+fn widen(udp: &UdpSocket) {
+    let fd = udp.as_raw_fd();
+    let _ = unsafe { net::setsockopt(fd, net::SOL_SOCKET, net::SO_SNDBUF, &MOST_ROOM, INT_LEN) };
 }
 
 /// The address as a value of the standard library.

@@ -1,9 +1,10 @@
 //! A machine's tick counter, and the wall clock and the word that a node gets at its boot.
-ghost use Rattle.std.specs.Prelude.{◌≡◌, ℕ, ℤ, ◌≤◌, ◌+◌, ◌^◌, min, List, Bool, IfSome, Option, Some};
-ghost use Rattle.std.specs.Option.{option_map};
-ghost use Rattle.tsp_io.specs.Boards.{Mark};
+ghost use Rattle.std.specs.Prelude.{◌≡◌, ℕ, ℤ, ◌≤◌, ◌+◌, ◌^◌, min, length, List, Bool, IfSome, Option, Some};
+ghost use Rattle.std.specs.Option.{option_and_then, option_map};
+ghost use Rattle.tsp_io.specs.Boards.{Mark, TakesView};
 ghost use Rattle.tsp_io.specs.Clocks.{TakesReading, IsWall};
 ghost use Rattle.tsp_io.specs.Links.{NotesReceive};
+ghost use Rattle.tsp_io.specs.Origins.{origin_then, retuned};
 ghost use Rattle.tsp_io.specs.declared.origin.Origin.{Origin};
 
 use crate::origin::Origin;
@@ -11,7 +12,8 @@ use crate::origin::Origin;
 /// Clocks: a tick counter and a wall clock, both in microseconds. No call fails.
 ///
 /// Other programs can count the same ticks, if they know from where (`origin`), and a ticker may have a
-/// board for them, on which is written what its ticks mean.
+/// board for them, on which is written what its ticks mean, and from which is read what they write there.
+/// The rate of the ticks can be changed, from a tick on (`retune`).
 pub trait Ticker {
     /// The readings that `tick` still has to give; None if they aren't told.
     ghost readings: { Self → Option (List ℕ) };
@@ -41,6 +43,9 @@ pub trait Ticker {
     /// What was written on the board, write by write; None if that isn't told.
     ghost marks: { Self → Option (List Mark) };
 
+    /// What reads of the board will still give, with their places; None if that isn't told.
+    ghost views: { Self → Option (List Mark) };
+
     /// The tick counter, in microseconds. It never falls, and is at most 2^61.
     fn tick(&mut self) -> u64
         ensures low { last self.old ≤ result }
@@ -53,7 +58,7 @@ pub trait Ticker {
             × (left_at_wall self.new ≡ left_at_wall self.old) }
         ensures page { (origin_is self.new ≡ origin_is self.old)
             × (delay_is self.new ≡ delay_is self.old) × (boarded self.new ≡ boarded self.old)
-            × (marks self.new ≡ marks self.old) };
+            × (marks self.new ≡ marks self.old) × (views self.new ≡ views self.old) };
 
     /// The wall clock, in microseconds since 1970, from -2^62 to 2^62.
     fn wall(&mut self) -> i64
@@ -65,7 +70,7 @@ pub trait Ticker {
             × (last self.new ≡ last self.old) }
         ensures page { (origin_is self.new ≡ origin_is self.old)
             × (delay_is self.new ≡ delay_is self.old) × (boarded self.new ≡ boarded self.old)
-            × (marks self.new ≡ marks self.old) };
+            × (marks self.new ≡ marks self.old) × (views self.new ≡ views self.old) };
 
     /// A number that should differ at each boot: the word of a node's life.
     fn word(&mut self) -> u64
@@ -76,7 +81,7 @@ pub trait Ticker {
             × (last self.new ≡ last self.old) }
         ensures page { (origin_is self.new ≡ origin_is self.old)
             × (delay_is self.new ≡ delay_is self.old) × (boarded self.new ≡ boarded self.old)
-            × (marks self.new ≡ marks self.old) };
+            × (marks self.new ≡ marks self.old) × (views self.new ≡ views self.old) };
 
     /// From where the ticks are counted; None if that isn't known, as before the first reading.
     fn origin(&self) -> Option<Origin>
@@ -103,5 +108,35 @@ pub trait Ticker {
             × (left_at_wall self.new ≡ left_at_wall self.old)
             × (last self.new ≡ last self.old) }
         ensures page { (origin_is self.new ≡ origin_is self.old)
-            × (delay_is self.new ≡ delay_is self.old) × (boarded self.new ≡ boarded self.old) };
+            × (delay_is self.new ≡ delay_is self.old) × (boarded self.new ≡ boarded self.old)
+            × (views self.new ≡ views self.old) };
+
+    /// Reads what stands on the board at a place, counted from 0, as its `read` does; false if there is no
+    /// board.
+    fn view(&mut self, at: u64, buf: &mut [u8]) -> bool
+        ensures views { TakesView (views self.old) (views self.new) at (length buf.old) result
+            buf.new }
+        ensures same { (readings self.new ≡ readings self.old)
+            × (wall_is self.new ≡ wall_is self.old) × (word_is self.new ≡ word_is self.old)
+            × (left_at_wall self.new ≡ left_at_wall self.old)
+            × (last self.new ≡ last self.old) }
+        ensures page { (origin_is self.new ≡ origin_is self.old)
+            × (delay_is self.new ≡ delay_is self.old) × (boarded self.new ≡ boarded self.old)
+            × (marks self.new ≡ marks self.old) };
+
+    /// Counts at another rate, in parts in 10^9, from this tick on, and answers from where ticks are
+    /// counted then: what `Origin::retuned` gives. None, and nothing is changed, if that gives none, and
+    /// if it isn't known from where they are counted.
+    fn retune(&mut self, tick: u64, rate: i64) -> Option<Origin>
+        ensures answers { IfSome (origin_is self.old)
+            (λ origin. result ≡ option_and_then (λ o. retuned tick rate o) origin) }
+        ensures origin { origin_is self.new
+            ≡ option_map (λ origin. origin_then result origin) (origin_is self.old) }
+        ensures same { (readings self.new ≡ readings self.old)
+            × (wall_is self.new ≡ wall_is self.old) × (word_is self.new ≡ word_is self.old)
+            × (left_at_wall self.new ≡ left_at_wall self.old)
+            × (last self.new ≡ last self.old) }
+        ensures page { (delay_is self.new ≡ delay_is self.old)
+            × (boarded self.new ≡ boarded self.old) × (marks self.new ≡ marks self.old)
+            × (views self.new ≡ views self.old) };
 }

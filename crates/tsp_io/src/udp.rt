@@ -1,10 +1,10 @@
 //! A link over a UDP socket.
-ghost use Rattle.std.specs.Prelude.{◌≡◌, ◌≢◌, ◌≤◌, false, true, [], length, None};
+ghost use Rattle.std.specs.Prelude.{◌≡◌, ◌≢◌, ◌⊎◌, ◌≤◌, false, true, [], length, None};
 ghost use Rattle.tsp_io.specs.Counts.{Rose};
 ghost use Rattle.tsp_io.specs.Links.{is_from_stranger, NotesBind, ReceivesOne, Sends};
 ghost use Rattle.tsp_io.specs.Directories.{addr_at, ComesFrom};
 ghost use Rattle.tsp_io.specs.UdpLinks.{binds_of, discarded_by, IsAwaited, IsBoundTo, TakesFrom};
-ghost use Rattle.tsp_io.specs.UdpLinks.{GoesTo, SendsAtMostOnce, SendsOnce};
+ghost use Rattle.tsp_io.specs.UdpLinks.{GoesTo, SendsAtMostOnce, SendsOnce, TookAll, TookLess};
 
 use crate::addr::Addr;
 use crate::directory::Directory;
@@ -190,6 +190,10 @@ impl<R: Net + Clock> Link for UdpLink<R> {
         ensures whole { result ≡ Sent.Sent → SendsOnce (length octets.now) self.old.socket
             self.new.socket }
         ensures once { SendsAtMostOnce self.old.socket self.new.socket }
+        ensures went { result ≡ Sent.Sent → TookAll (length octets.now) self.new.socket }
+        ensures failed { result ≡ Sent.Failed
+            → (addr_at self.old.directory self.old.last to ≡ None)
+            ⊎ TookLess (length octets.now) self.new.socket }
         ensures memory { ¬ result ≡ Sent.OutOfMemory }
     {
         let went = match (self.addr_at(to), &mut self.socket) {

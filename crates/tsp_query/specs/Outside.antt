@@ -5,13 +5,14 @@ use Rattle.tsp_io.specs.{Boards.Mark, declared.origin.Origin.Origin}
 use Rattle.tsp_io.specs.declared.{sink.Sink.Ghosts as SinkOf, ticker.Ticker.Ghosts as TickerOf}
 use Rattle.tsp_query.specs.Ends.{Outside, KnowsExactly}
 
--- a ticker's board: whether there is one, from where programs count its ticks, how long after a reading a moment is, and
--- what was written; each of the last three is None if it isn't told
+-- a ticker's board: whether there is one, from where programs count its ticks, how long after a reading a moment is, what was
+-- written, and what reads will give; each of the last four is None if it isn't told
 pub record Paged : Type 0 where
   pub boarded : Bool
   pub origin : Option (Option Origin)
   pub delay : Option ℕ
   pub marks : Option (List Mark)
+  pub views : Option (List Mark)
 
 abbrev pub paged : {T : Type 0} → TickerOf T → T → Paged
 paged tickers ticker = record {
@@ -19,6 +20,7 @@ paged tickers ticker = record {
   origin = tickers.origin_is ticker;
   delay = tickers.delay_is ticker;
   marks = tickers.marks ticker;
+  views = tickers.views ticker;
 }
 
 -- what they hold, each part None if it isn't told

@@ -91,6 +91,8 @@ impl<'a> Ticker for SharedTicker<'a> {
 
     ghost marks = { λ _. None };
 
+    ghost views = { λ _. None };
+
     fn tick(&mut self) -> u64 {
         self.last = self.time.get().max(self.last).min(1 << 61);
         self.last
@@ -117,6 +119,14 @@ impl<'a> Ticker for SharedTicker<'a> {
     }
 
     fn mark(&mut self, _at: u64, _octets: &[u8]) {}
+
+    fn view(&mut self, _at: u64, _buf: &mut [u8]) -> bool {
+        false
+    }
+
+    fn retune(&mut self, _tick: u64, _rate: i64) -> Option<Origin> {
+        None
+    }
 }
 
 /// A question's trip begins before its send and ends after its receive: here it lasts 300

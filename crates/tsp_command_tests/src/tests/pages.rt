@@ -52,7 +52,7 @@ type Fields = (u64, i64, i64, i64, i64, u64, u64, u64, u64);
 /// follows the master; when that corrects its clock by 500 microseconds; and when it sets it.
 const PAGES: [Fields; 6] = [
     (0, 1_000, 0, LOWEST, 0, 0, 0, 0, 3),
-    (0, 1_000, 0, LOWEST, 0, 0, 0, 0, 1_000_020),
+    (0, 1_000, 0, 1_001_023, 0, 0, 0, 0, 1_000_020),
     (0, 1_000, 0, 80_001_004, 0, 0, 0, 0, 80_000_001),
     (0, 1_000, 0, 80_001_203, 0, 0, 1, 1, 80_000_200),
     (
@@ -71,6 +71,15 @@ const PAGES: [Fields; 6] = [
     ),
 ];
 
+/// From where ticks are counted: nanoseconds, tick and rate.
+type Counted = (u64, u64, i64);
+
+/// At first, and after the rate was changed to 25,000 parts in 10^9 at tick 1,000,023: with 40 parts less
+/// than the counter that tick passed after 1,000,024 microseconds.
+const FIRST: Counted = (5_000, 0, -40);
+
+const TUNED: Counted = (1_000_029_000, 1_000_023, 25_000);
+
 /// The words of a slave of so many turns, with one peer; None where they aren't a daemon's.
 fn words_of(alloc: Global, turns: &str) -> Result<Option<ServeWords>, AllocError>
     ensures { IfOk result (λ words. IfSome words IsServe) }
@@ -86,7 +95,7 @@ fn words_of(alloc: Global, turns: &str) -> Result<Option<ServeWords>, AllocError
 }
 
 /// A number as the octets of the page: the lowest first.
-fn put(octets: &mut [u8; 112], at: usize, number: u64) {
+fn put(octets: &mut [u8], at: usize, number: u64) {
     for (place, octet) in number.to_le_bytes().iter().enumerate() {
         if let Some(there) = octets.get_mut(at.wrapping_mul(8).wrapping_add(place)) {
             *there = *octet;
@@ -95,13 +104,13 @@ fn put(octets: &mut [u8; 112], at: usize, number: u64) {
 }
 
 /// The octets of the daemon's half behind its sequence.
-fn octets_of(fields: &Fields) -> [u8; 112] {
+fn octets_of(fields: &Fields, counted: Counted) -> [u8; 112] {
     let numbers = [
         7,
         4,
-        5_000,
-        0,
-        (-40i64).cast_unsigned(),
+        counted.0,
+        counted.1,
+        counted.2.cast_unsigned(),
         fields.0,
         fields.1.cast_unsigned(),
         fields.2.cast_unsigned(),
@@ -129,32 +138,36 @@ fn is_mark(mark: Option<&MarkedOctets>, at: u64, octets: &[u8]) -> bool {
 
 /// Whether three writes from this place on are those of a page, the number of which is `n`: the sequence, odd, the
 /// fields, and the sequence, even. The first sequence of a life is twice its word.
-fn is_page(marks: &[MarkedOctets], n: usize, fields: &Fields) -> bool {
+fn is_page(marks: &[MarkedOctets], n: usize, fields: &Fields, counted: Counted) -> bool {
     let first = n.wrapping_mul(3);
     let sequence = 14u64.wrapping_add(2u64.wrapping_mul(n as u64));
     is_mark(
         marks.get(first),
         64,
         &sequence.wrapping_add(1).to_le_bytes(),
-    ) && is_mark(marks.get(first.wrapping_add(1)), 72, &octets_of(fields))
-        && is_mark(
-            marks.get(first.wrapping_add(2)),
-            64,
-            &sequence.wrapping_add(2).to_le_bytes(),
-        )
+    ) && is_mark(
+        marks.get(first.wrapping_add(1)),
+        72,
+        &octets_of(fields, counted),
+    ) && is_mark(
+        marks.get(first.wrapping_add(2)),
+        64,
+        &sequence.wrapping_add(2).to_le_bytes(),
+    )
 }
 
-/// Whether these are the writes of so many pages.
-fn are_pages(marks: Option<&[MarkedOctets]>, pages: usize) -> bool {
+/// Whether these are the writes of so many pages, of which those after the first one count so.
+fn are_pages(marks: Option<&[MarkedOctets]>, pages: usize, later: Counted) -> bool {
     let Some(marks) = marks else {
         return false;
     };
     marks.len() == pages.wrapping_mul(3)
-        && PAGES
-            .iter()
-            .take(pages)
-            .enumerate()
-            .all(|(n, fields)| is_page(marks, n, fields))
+        && PAGES.iter().take(pages).enumerate().all(|(n, fields)| is_page(
+            marks,
+            n,
+            fields,
+            if n == 0 { FIRST } else { later },
+        ))
 }
 
 /// A link over which the master is heard, where these calls fail.
@@ -178,23 +191,26 @@ fn ticker_of(alloc: Global) -> Result<MemoryTicker, AllocError> {
     )
 }
 
-/// How a slave ends where these calls of its link fail, and whether it wrote so many pages.
+/// Whether a slave ends so where these calls of its link fail, and its board shows these octets, and wrote so many
+/// pages, of which those after the first one count so.
 fn writes(
     alloc: Global,
     failing: &[u32],
+    views: Vec<MarkedOctets>,
     end: DaemonExit,
     pages: usize,
+    later: Counted,
 ) -> Result<bool, AllocError> {
     let Some(words) = words_of(alloc, "6")? else {
         return Ok(false);
     };
     let mut sink = MemorySink::new(alloc, &[])?;
     let mut link = link_of(alloc, failing)?;
-    let board = MemoryBoard::new(alloc, &[])?;
+    let board = MemoryBoard::new(alloc, &[])?.showing(views);
     let mut ticker = Paged::new(ticker_of(alloc)?, Some(board));
     let ended = serve_words(alloc, &words, &mut sink, &mut link, &mut ticker);
     match ticker.board() {
-        Some(board) => Ok(ended == end && are_pages(board.marks(), pages)),
+        Some(board) => Ok(ended == end && are_pages(board.marks(), pages, later)),
         None => Ok(false),
     }
 }
@@ -202,15 +218,60 @@ fn writes(
 /// A slave writes its page at its beginning, after each change and after a second without one.
 #[test]
 fn a_slave_writes_its_page(rt: HostRuntime) {
-    assert!(rt; writes(rt.alloc(), &[], DaemonExit::Done, 6) == Ok(true));
+    let none = Vec::new(rt.alloc());
+    assert!(rt; writes(rt.alloc(), &[], none, DaemonExit::Done, 6, FIRST) == Ok(true));
+}
+
+/// What a read of the look's half gives at this place, with this sequence, life, drift and learned rate.
+fn look_of(
+    alloc: Global,
+    at: u64,
+    sequence: u64,
+    life: u64,
+    drift: u64,
+    learned: i64,
+) -> Result<Vec<MarkedOctets>, AllocError> {
+    let mut octets = [0; 336];
+    put(&mut octets, 0, sequence);
+    put(&mut octets, 1, life);
+    put(&mut octets, 7, drift);
+    put(&mut octets, 9, learned.cast_unsigned());
+    let mut views = Vec::new(alloc);
+    views.push(MarkedOctets {
+        at,
+        octets: Vec::from_slice(alloc, &octets)?,
+    })?;
+    Ok(views)
+}
+
+/// A slave counts at the rate for which the look's half asks, from the moment when it says that it is alive, if that
+/// isn't being written, is of its life, and its drift allows the rate.
+#[test]
+fn a_slave_counts_at_the_rate_that_is_asked_for(rt: HostRuntime) -> Result<(), AllocError> {
+    let alloc = rt.alloc();
+    let asked = look_of(alloc, 512, 4, 7, 25, 25_000)?;
+    assert!(rt; writes(alloc, &[], asked, DaemonExit::Done, 6, TUNED)?);
+    let odd = look_of(alloc, 512, 5, 7, 25, 25_000)?;
+    assert!(rt; writes(alloc, &[], odd, DaemonExit::Done, 6, FIRST)?);
+    let other_life = look_of(alloc, 512, 4, 8, 25, 25_000)?;
+    assert!(rt; writes(alloc, &[], other_life, DaemonExit::Done, 6, FIRST)?);
+    let beyond = look_of(alloc, 512, 4, 7, 24, 25_000)?;
+    assert!(rt; writes(alloc, &[], beyond, DaemonExit::Done, 6, FIRST)?);
+    let wide = look_of(alloc, 512, 4, 7, 1_001, 25_000)?;
+    assert!(rt; writes(alloc, &[], wide, DaemonExit::Done, 6, FIRST)?);
+    let same = look_of(alloc, 512, 4, 7, 25, -40)?;
+    assert!(rt; writes(alloc, &[], same, DaemonExit::Done, 6, FIRST)?);
+    Ok(())
 }
 
 /// If a receive fails, the pages of the turns before it stand there; before the bind nothing is written.
 #[test]
 fn a_page_stays_behind(rt: HostRuntime) {
-    assert!(rt; writes(rt.alloc(), &[0], DaemonExit::LinkFault, 0) == Ok(true));
-    assert!(rt; writes(rt.alloc(), &[1], DaemonExit::LinkFault, 1) == Ok(true));
-    assert!(rt; writes(rt.alloc(), &[3], DaemonExit::LinkFault, 2) == Ok(true));
+    for (failing, pages) in [(0, 0), (1, 1), (3, 2)] {
+        let none = Vec::new(rt.alloc());
+        let end = DaemonExit::LinkFault;
+        assert!(rt; writes(rt.alloc(), &[failing], none, end, pages, FIRST) == Ok(true));
+    }
 }
 
 /// How many sends a slave tries, and how many readings it leaves, over a ticker.
@@ -305,6 +366,8 @@ impl<'a> Ticker for CountingTicker<'a> {
 
     ghost marks = { λ _. None };
 
+    ghost views = { λ _. None };
+
     fn tick(&mut self) -> u64 {
         self.last = self.last.saturating_add(40_000_000).min(1 << 61);
         self.last
@@ -332,6 +395,14 @@ impl<'a> Ticker for CountingTicker<'a> {
 
     fn mark(&mut self, _at: u64, _octets: &[u8]) {
         self.marks.set(self.marks.get().saturating_add(1));
+    }
+
+    fn view(&mut self, _at: u64, _buf: &mut [u8]) -> bool {
+        false
+    }
+
+    fn retune(&mut self, _tick: u64, _rate: i64) -> Option<Origin> {
+        None
     }
 }
 

@@ -76,8 +76,18 @@ struct Small<'a> {
 }
 
 impl<'a> FileExt for Small<'a> {
-    fn read_at(&self, _buf: &mut [u8], _offset: u64) -> io::Result<usize> {
-        Ok(0)
+    fn read_at(&self, buf: &mut [u8], offset: u64) -> io::Result<usize> {
+        if self.most.get() == 0 {
+            return Err(io::Error::from(ErrorKind::NotConnected));
+        }
+        let octets = self.octets.get();
+        let count = buf.len().min(octets.len().saturating_sub(offset as usize));
+        for (at, place) in buf[..count].iter_mut().enumerate() {
+            if let Some(octet) = octets.get((offset as usize).wrapping_add(at)) {
+                *place = *octet;
+            }
+        }
+        Ok(count)
     }
 
     fn write_at(&self, buf: &[u8], offset: u64) -> io::Result<usize> {
@@ -112,6 +122,25 @@ fn a_board_over_a_file_stops_at_a_fault(rt: HostRuntime) {
     most.set(8);
     assert!(rt; board.write(5, b"x") == Marked::Failed);
     assert!(rt; octets.get() == *b"defbc---");
+}
+
+/// A board over a file reads what stands at a place. A read that isn't filled fails, and so does one that the system
+/// refuses; neither ends the writes.
+#[test]
+fn a_board_over_a_file_reads(rt: HostRuntime) {
+    let (octets, most) = (Cell::new(*b"abcdefgh"), Cell::new(8));
+    let mut board = FileBoard::new(Small {
+        octets: &octets,
+        most: &most,
+    });
+    let mut buf = [0; 3];
+    assert!(rt; board.read(2, &mut buf) && buf == *b"cde");
+    assert!(rt; board.read(5, &mut buf) && buf == *b"fgh");
+    assert!(rt; !board.read(6, &mut buf));
+    most.set(0);
+    assert!(rt; !board.read(0, &mut buf));
+    most.set(8);
+    assert!(rt; board.write(0, b"x") == Marked::Written && board.faults() == 0);
 }
 
 /// A machine whose monotonic clock a test sets, in nanoseconds.
@@ -174,6 +203,58 @@ fn programs_count_the_same_ticks(rt: HostRuntime) {
     }
     nanos.set(0);
     assert!(rt; ticker.moment() == ticker.tick());
+}
+
+/// Whether a ticker that reads a counter, which a test sets, shows the ticks that a program counts from there.
+fn shows<'a>(ticker: &mut MachineTicker<Machine<'a>>, nanos: &Cell<u64>, wanted: Origin) -> bool {
+    for more in [0, 1, 999, 1_000, 24_999_999, 25_000_000, 3_600_000_000_001] {
+        let now = wanted.nanos.cast_unsigned().wrapping_add(more);
+        nanos.set(now);
+        if i128::from(ticker.moment()) != counts(wanted, now)
+            || i128::from(ticker.tick()) != counts(wanted, now)
+        {
+            return false;
+        }
+    }
+    true
+}
+
+/// After a change of the rate a program counts the same ticks by the new origin, which begins at the first whole
+/// microsecond of the tick of the change; the ticks don't fall. A change to the same rate, to one beyond the bound
+/// and at an earlier tick is none.
+#[test]
+fn ticks_go_on_at_another_rate(rt: HostRuntime) {
+    let nanos = Cell::new(5_000_000_123_999);
+    let Some(rate) = Rate::of(-40_000) else {
+        panic!(rt; "no rate");
+    };
+    let machine = Machine { rt, nanos: &nanos };
+    let mut ticker = MachineTicker::new(machine, rate).counted_by(Counter::Raw);
+    assert!(rt; ticker.retune(0, 1).is_none());
+    assert!(rt; ticker.tick() == 0);
+    nanos.set(5_600_000_123_999);
+    let moment = ticker.moment();
+    assert!(rt; moment == 599_976_000);
+    assert!(rt; ticker.retune(moment, -40_000).is_none());
+    assert!(rt; ticker.retune(moment, 1_000_001).is_none());
+    let wanted = Origin {
+        counter: 4,
+        nanos: 5_600_000_123_000,
+        tick: 599_976_000,
+        rate: 1_000_000,
+    };
+    assert!(rt; ticker.retune(moment, 1_000_000) == Some(wanted));
+    assert!(rt; ticker.origin() == Some(wanted) && ticker.tick() == moment);
+    assert!(rt; ticker.retune(moment - 1, 5).is_none());
+    assert!(rt; shows(&mut ticker, &nanos, wanted));
+    let later = Origin {
+        counter: 4,
+        nanos: 9_200_000_123_000,
+        tick: 4_203_576_000,
+        rate: 7,
+    };
+    assert!(rt; ticker.retune(ticker.moment(), 7) == Some(later));
+    assert!(rt; shows(&mut ticker, &nanos, later));
 }
 
 /// The machine's counters have the numbers that Linux gives them, and both move. The old one is taken

@@ -32,8 +32,8 @@ returns-in-Ok-clause-serves g c = λ o wall word written k.
     same_page before ticked c.tick-tick.ensures.page in
     let keeps : KeepsPage worded (paged g.T.Ticker c.serve.new.ticker) = record {
       boarded = c.serve.ensures.board.boarded;
-      origin = c.serve.ensures.board.origin;
       delay = c.serve.ensures.board.delay;
+      alone = c.serve.ensures.board.alone;
     } in
     inr (inr (IsServed_serves c.args.words.now o wall _ word _ _ written c.in-Ok.node _ _ _ _ _ _ _ before worded
     (observed g.K.Sink g.L.Link g.T.Ticker c.serve.new.sink c.serve.new.link c.serve.new.ticker) c.serve.result c.of.result read.1 (back ∙

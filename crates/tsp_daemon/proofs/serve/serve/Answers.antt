@@ -6,7 +6,9 @@ use Rattle.tsp_daemon.specs.declared.end.ServeEnd.TheVariants.{LinkFault, WriteF
 use Rattle.tsp_daemon.proofs.SessionLemmas.{at_on, rises_more, serves_until, turns_more}
 use Rattle.tsp_daemon.proofs.TurnLemmas.{le_is, le_on, le_same, le_self, posts_more, went_on, done_unlinked, done_unwritten, end_as, same_end}
 use Rattle.tsp_daemon.{proofs.WaitLemmas.none_noted, proofs.WaitLemmas.one_more_noted, proofs.WaitLemmas.until_noted, specs.Sessions.after_turns}
-use Rattle.tsp_daemon.proofs.PageLemmas.{first_marked, one_more_marked, until_marked}
+use Rattle.tsp_daemon.proofs.PageLemmas.{first_marked, one_more_marked, told_after, until_marked}
+use Rattle.tsp_daemon.specs.Pages.{moment_after, page_from, sheet_after, sheet_begun}
+use Rattle.tsp_query.specs.Outside.{paged}
 use Rattle.tsp_daemon.proofs.serve.serve.Goals as goal
 
 pub returns-in-Err : goal.returns-in-Err
@@ -22,13 +24,21 @@ returns-in-Err g c = record {
         c.loop.invariant.rises s at,
         noted.1,
         noted.2,
-        λ origin delay from told. until_marked delay i s _ _ _ _ _ _ c.in-Err.end (c.loop.invariant.marks s origin delay at from told)
-            (c.in-Err.ensures.marks (after_turns i s) delay (c.loop.invariant.at s at) (c.loop.invariant.board.delay ∙ told)),
+        λ origin delay views from told known.
+            let marked = c.loop.invariant.marks s origin delay views at from told known in
+            let sheet = sheet_after delay i s (sheet_begun (page_from (g.T.Ticker.boarded c.args.ticker.now) origin s.past
+            (moment_after delay s.outside.last)) origin views) in
+            until_marked delay i s _ origin views _ _ _ (paged g.T.Ticker c.loop.ticker) (paged g.T.Ticker c.turn.new.ticker) c.in-Err.end marked
+            (c.in-Err.ensures.marks (after_turns i s) delay sheet (c.loop.invariant.at s at) (c.loop.invariant.delay ∙ told)
+            (told_after g.T.Ticker sheet _ _ c.loop.ticker marked.leaves) marked.page_is),
       );
   board = record {
-    boarded = c.turn.ensures.board.boarded ∙ c.loop.invariant.board.boarded;
-    origin = c.turn.ensures.board.origin ∙ c.loop.invariant.board.origin;
-    delay = c.turn.ensures.board.delay ∙ c.loop.invariant.board.delay;
+    boarded = c.turn.ensures.board.0 ∙ c.loop.invariant.boarded;
+    delay = c.turn.ensures.board.1 ∙ c.loop.invariant.delay;
+    alone = λ none.
+        let before = c.loop.invariant.alone none in
+        let turned = c.turn.ensures.alone before.0 in
+        (turned.1 ∙ before.1, turned.2 ∙ before.2);
   };
   keeps = record {
     binds = c.turn.ensures.keeps.binds ∙ c.loop.invariant.binds;
@@ -51,14 +61,20 @@ loop-preserved g c =
           (c.in_default.ensures.turns (after_turns c.loop.counter s) (c.loop.invariant.at s at)) c.turn.ensures.keeps.last;
       waits = λ s at. one_more_noted s c.loop.counter _ _ _ (c.loop.invariant.waits s at) (c.in_default.ensures.waits (after_turns c.loop.counter s)
           (c.loop.invariant.at s at));
-      marks = λ s origin delay at from told.
-          let turned = c.in_default.ensures.marks (after_turns c.loop.counter s) delay (c.loop.invariant.at s at) (c.loop.invariant.board.delay ∙ told) in
-          one_more_marked delay c.loop.counter s _ _ _ _ _ _ (c.loop.invariant.marks s origin delay at from told) turned.0 turned.1;
-      board = record {
-        boarded = c.turn.ensures.board.boarded ∙ c.loop.invariant.board.boarded;
-        origin = c.turn.ensures.board.origin ∙ c.loop.invariant.board.origin;
-        delay = c.turn.ensures.board.delay ∙ c.loop.invariant.board.delay;
-      };
+      marks = λ s origin delay views at from told known.
+          let i = c.loop.counter in
+          let marked = c.loop.invariant.marks s origin delay views at from told known in
+          let sheet = sheet_after delay i s (sheet_begun (page_from (g.T.Ticker.boarded c.args.ticker.now) origin s.past
+          (moment_after delay s.outside.last)) origin views) in
+          let turned = c.in_default.ensures.marks (after_turns i s) delay sheet (c.loop.invariant.at s at) (c.loop.invariant.delay ∙ told)
+          (told_after g.T.Ticker sheet _ _ c.loop.ticker marked.leaves) marked.page_is in
+          one_more_marked delay i s _ origin views _ _ _ (paged g.T.Ticker c.loop.ticker) (paged g.T.Ticker c.turn.new.ticker) marked turned.0 turned.1;
+      boarded = c.turn.ensures.board.0 ∙ c.loop.invariant.boarded;
+      delay = c.turn.ensures.board.1 ∙ c.loop.invariant.delay;
+      alone = λ none.
+          let before = c.loop.invariant.alone none in
+          let turned = c.in_default.ensures.alone before.0 in
+          (turned.0, turned.1 ∙ before.1, turned.2 ∙ before.2);
       binds = c.turn.ensures.keeps.binds ∙ c.loop.invariant.binds;
       walled = c.turn.ensures.keeps.walled ∙ c.loop.invariant.walled;
       lives = c.in_default.ensures.lives;
@@ -83,9 +99,13 @@ returns g c = record {
         c.loop.invariant.rises s at,
         refl,
         c.loop.invariant.waits s at,
-        λ origin delay from told. (c.loop.invariant.marks s origin delay at from told).noted,
+        λ origin delay views from told known. (c.loop.invariant.marks s origin delay views at from told known).leaves,
       );
-  board = c.loop.invariant.board;
+  board = record {
+    boarded = c.loop.invariant.boarded;
+    delay = c.loop.invariant.delay;
+    alone = λ none. let before = c.loop.invariant.alone none in (before.1, before.2);
+  };
   keeps = record { binds = c.loop.invariant.binds; walled = c.loop.invariant.walled; last = c.loop.invariant.last };
   link = Counts-same _ _ _ c.loop.invariant.faults (λ e. done_unlinked e);
   write = Counts-same _ _ _ c.loop.invariant.writes (λ e. done_unwritten e);
@@ -95,21 +115,24 @@ returns g c = record {
 -- the page was begun, and no turn was taken
 pub loop-init : goal.loop-init
 loop-init g c = record {
-  at = λ s at. at_on s _ _ _ _ _ _ _ _ _ _ c.begin-page.ensures.only.readings c.begin-page.ensures.only.last at;
+  at = λ s at. at_on s _ _ _ _ _ _ _ _ _ _ c.begin-page.ensures.only.pages.readings c.begin-page.ensures.only.pages.last at;
   waits = λ s at. none_noted s _;
   rises = λ s at. tt;
-  marks = λ s origin delay at from told. first_marked delay s _ origin _ _ _ _ at.tells.last_is (c.begin-page.ensures.page s.past origin delay at.stands from
-      told) (c.begin-page.ensures.marks s.past origin delay at.stands from told);
-  board = record { boarded = c.begin-page.ensures.only.boarded; origin = c.begin-page.ensures.only.origin; delay = c.begin-page.ensures.only.delay };
+  marks = λ s origin delay views at from told known. first_marked delay s _ origin views _ _ _ (paged g.T.Ticker c.begin-page.new.ticker) at.tells.last_is
+      (c.begin-page.ensures.page s.past origin delay at.stands from told) (c.begin-page.ensures.marks s.past origin delay at.stands from told)
+      (c.begin-page.ensures.only.origin ∙ from) (c.begin-page.ensures.only.views ∙ known);
+  boarded = c.begin-page.ensures.only.pages.boarded;
+  delay = c.begin-page.ensures.only.pages.delay;
+  alone = λ none. (c.begin-page.ensures.alone none, c.begin-page.ensures.only.origin, c.begin-page.ensures.only.views);
   binds = refl;
-  walled = c.begin-page.ensures.only.walled;
+  walled = c.begin-page.ensures.only.pages.walled;
   lives = c.requires.lives;
-  clock = le_same _ _ _ c.requires.later c.begin-page.ensures.only.last;
+  clock = le_same _ _ _ c.requires.later c.begin-page.ensures.only.pages.last;
   turns = refl;
   posts = search arith;
   ports = refl;
   faults = refl;
   send_faults = le_self _;
   writes = refl;
-  last = le_is _ _ c.begin-page.ensures.only.last;
+  last = le_is _ _ c.begin-page.ensures.only.pages.last;
 }

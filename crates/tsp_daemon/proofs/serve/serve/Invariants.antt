@@ -1,9 +1,10 @@
 -- The node, the counters and the outside are where so many turns have brought them.
-use Rattle.std.proofs.Common.{◌≡◌, ◌≤◌, ◌*◌, ℕ, Option, Some}
+use Rattle.std.proofs.Common.{◌≡◌, ◌≤◌, ◌*◌, ℕ, Option, List, Some, None, false}
 use Rattle.tsp_gateway.specs.{GatewayStands.clock_at, Rooms.ports_in, Rooms.room_of_ports}
 use Rattle.tsp_daemon.specs.{Ends.IsAt, Ends.Lives, Sessions.Session, Sessions.after_turns, Sessions.Rises, Waits.NotesWaits}
-use Rattle.tsp_io.specs.declared.origin.Origin.{Origin}
-use Rattle.tsp_daemon.specs.Pages.{KeepsBoard, moment_after, page_from}
+use Rattle.tsp_io.specs.{Boards.Mark, declared.origin.Origin.Origin}
+use Rattle.tsp_query.specs.Outside.{paged}
+use Rattle.tsp_daemon.specs.Pages.{moment_after, page_from}
 use Rattle.tsp_daemon.proofs.PageLemmas.{IsMarked}
 use Rattle.tsp_daemon.proofs.serve.serve.Given as goal
 
@@ -19,12 +20,15 @@ invariant-loop g l = record {
   rises : (s : Session) → IsAt s l.fn.gateway l.initial.counters (g.L.Link.arrivals l.fn.link) (g.L.Link.tried l.fn.link) (g.L.Link.calls l.fn.link)
       (g.T.Ticker.readings l.fn.ticker) (g.T.Ticker.last l.fn.ticker) (g.K.Sink.written l.fn.sink) →
       Rises l.counter s;
-  marks : (s : Session) (origin : Option Origin) (delay : ℕ) → IsAt s l.fn.gateway l.initial.counters (g.L.Link.arrivals l.fn.link) (g.L.Link.tried l.fn.link)
-      (g.L.Link.calls l.fn.link) (g.T.Ticker.readings l.fn.ticker) (g.T.Ticker.last l.fn.ticker) (g.K.Sink.written l.fn.sink) →
-      g.T.Ticker.origin_is l.fn.ticker ≡ Some origin → g.T.Ticker.delay_is l.fn.ticker ≡ Some delay →
-      IsMarked delay l.counter s (page_from (g.T.Ticker.boarded l.fn.ticker) origin s.past (moment_after delay s.outside.last)) l.page
-      (g.T.Ticker.marks l.fn.ticker) (g.T.Ticker.marks l.ticker);
-  board : KeepsBoard g.T.Ticker l.fn.ticker l.ticker;
+  marks : (s : Session) (origin : Option Origin) (delay : ℕ) (views : List Mark) → IsAt s l.fn.gateway l.initial.counters (g.L.Link.arrivals l.fn.link)
+      (g.L.Link.tried l.fn.link) (g.L.Link.calls l.fn.link) (g.T.Ticker.readings l.fn.ticker) (g.T.Ticker.last l.fn.ticker) (g.K.Sink.written l.fn.sink) →
+      g.T.Ticker.origin_is l.fn.ticker ≡ Some origin → g.T.Ticker.delay_is l.fn.ticker ≡ Some delay → g.T.Ticker.views l.fn.ticker ≡ Some views →
+      IsMarked delay l.counter s (page_from (g.T.Ticker.boarded l.fn.ticker) origin s.past (moment_after delay s.outside.last)) origin views l.page
+      (g.T.Ticker.marks l.fn.ticker) (paged g.T.Ticker l.ticker);
+  boarded : g.T.Ticker.boarded l.ticker ≡ g.T.Ticker.boarded l.fn.ticker;
+  delay : g.T.Ticker.delay_is l.ticker ≡ g.T.Ticker.delay_is l.fn.ticker;
+  alone : g.T.Ticker.boarded l.fn.ticker ≡ false → (l.page ≡ None) × (g.T.Ticker.origin_is l.ticker ≡ g.T.Ticker.origin_is l.fn.ticker) ×
+      (g.T.Ticker.views l.ticker ≡ g.T.Ticker.views l.fn.ticker);
   binds : g.L.Link.binds l.link ≡ g.L.Link.binds l.fn.link;
   walled : g.T.Ticker.left_at_wall l.ticker ≡ g.T.Ticker.left_at_wall l.fn.ticker;
   lives : Lives l.gateway;

@@ -4,7 +4,9 @@ use Rattle.tsp_query.proofs.{FaultLemmas.Counts-same, OutsideLemmas.Notes_same}
 use Rattle.tsp_gateway.specs.{GatewayStands.GatewayStands, GatewayStands.GatewayBegun, PortOf.setups_in}
 use Rattle.tsp_rules.specs.{GateRows.answers_all, NodePerforms.PerformsAll, Values.Placed}
 use Rattle.tsp_daemon.specs.{Ends.given_by, Posts.AreKnown, declared.end.ServeEnd.TheVariants.LinkFault}
-use Rattle.tsp_daemon.proofs.PageLemmas.{Marks_none, Marks_same, ends_marks, shown_is}
+use Rattle.tsp_daemon.proofs.PageLemmas.{ends_marks, leaves_same, shown_is}
+use Rattle.tsp_query.specs.Outside.{paged}
+use Rattle.tsp_daemon.specs.Pages.{IsTold}
 use Rattle.tsp_daemon.specs.Sessions.{past_after}
 use Rattle.tsp_daemon.proofs.SessionLemmas.{waits_is, waits_on, steps_is, turned_is, ends_is, lives_on, acts_known, unheard_is, finish_unlinked}
 use Rattle.tsp_daemon.proofs.TurnLemmas.{le_self, le_is, last_on, last_twice, sends_on, posts_on, memory_unlinked, memory_unwritten, link_unwritten, same_end}
@@ -35,7 +37,7 @@ returns-in-Err g c = record {
   waits = λ s at. turn_noted s _ _ c.in-Err.end (wait_noted s _ c.due.result c.tick-first.result c.wait_until.result _ _ at.stands c.due.ensures.past
       (first_reading s.outside _ _ _ _ _ _ _ at.tells c.tick-first.ensures.takes) c.wait_until.ensures
       (Notes_same _ _ _ _ c.finish.ensures.only.waits c.recv-received.ensures.waits));
-  marks = λ s delay at told.
+  marks = λ s delay sheet at told known same.
       let ok : c.recv-received.result ≡ Failed → ⊥ = c.in_default.not-Failed in
       let w = waits_is s.past.ports s.outside _ _ _ _ _ _ _ _ _ _ _ _ _ _ _ _ _ _ at.tells c.tick-first.ensures.takes c.tick-first.ensures.last
       c.recv-received.ensures.receives ok c.recv-received.ensures.same.0 c.recv-received.ensures.counted c.tick-tick.ensures.takes c.tick-tick.ensures.last
@@ -46,15 +48,25 @@ returns-in-Err g c = record {
       let steps = steps_is s _ _ c.args.counters.now _ _ _ _ _ _ _ _ _ _ _ _ at.stands at.turns_is at.posts_is w row
       (c.tracing-before.ensures.past s.past at.stands) c.tracing.ensures.past c.is_shown-shown.ensures in
       let asked = c.tick-tick.ensures.page.1 ∙ c.tick-first.ensures.page.1 ∙ told in
-      let shown = shown_is s delay _ _ _ _ _ (g.T.Ticker.marks c.args.ticker.now) _ _ steps.acts_are w.tick_is c.tick-tick.ensures.last
-      (c.tick-tick.ensures.page.3 ∙ c.tick-first.ensures.page.3) (c.show.ensures.page (past_after s) delay steps.stands asked)
-      (c.show.ensures.marks (past_after s) delay steps.stands asked) in
-      ends_marks delay s _ _ _ _ _ _ _ _ _ _ c.in-Err.end c.in-Err.ensures.err (c.finish.ensures.only.calls ∙ w.tells.calls_are) shown.1;
-  board = record {
-    boarded = c.show.ensures.only.boarded ∙ c.tick-tick.ensures.page.2 ∙ c.tick-first.ensures.page.2;
-    origin = c.show.ensures.only.origin ∙ c.tick-tick.ensures.page.0 ∙ c.tick-first.ensures.page.0;
-    delay = c.show.ensures.only.delay ∙ c.tick-tick.ensures.page.1 ∙ c.tick-first.ensures.page.1;
-  };
+      let read : IsTold g.T.Ticker sheet c.tick-tick.new.self = record {
+        origin = c.tick-tick.ensures.page.0 ∙ c.tick-first.ensures.page.0 ∙ known.origin;
+        views = c.tick-tick.ensures.page.4 ∙ c.tick-first.ensures.page.4 ∙ known.views;
+      } in
+      let shown = shown_is s delay sheet _ _ _ _ (g.T.Ticker.marks c.args.ticker.now) _ (paged g.T.Ticker c.show.new.ticker) steps.acts_are w.tick_is
+      c.tick-tick.ensures.last (c.tick-tick.ensures.page.3 ∙ c.tick-first.ensures.page.3)
+      (c.show.ensures.page (past_after s) delay sheet steps.stands asked read same)
+      (c.show.ensures.leaves (past_after s) delay sheet steps.stands asked read same) in
+      ends_marks delay s sheet _ _ _ _ _ _ _ _ _ c.in-Err.end c.in-Err.ensures.err (c.finish.ensures.only.calls ∙ w.tells.calls_are) shown.1;
+  board = (
+    c.show.ensures.only.boarded ∙ c.tick-tick.ensures.page.2 ∙ c.tick-first.ensures.page.2,
+    c.show.ensures.only.delay ∙ c.tick-tick.ensures.page.1 ∙ c.tick-first.ensures.page.1,
+  );
+  alone = λ none.
+      let shown = c.show.ensures.alone none in (
+        tt,
+        shown.1 ∙ c.tick-tick.ensures.page.0 ∙ c.tick-first.ensures.page.0,
+        shown.2 ∙ c.tick-tick.ensures.page.4 ∙ c.tick-first.ensures.page.4,
+      );
   keeps = record {
     binds = c.finish.ensures.only.binds ∙ c.recv-received.ensures.same.1;
     walled = c.show.ensures.only.walled ∙ c.tick-tick.ensures.same.2 ∙ c.tick-first.ensures.same.2;
@@ -95,7 +107,7 @@ returns g c = record {
   waits = λ s at. wait_noted s _ c.due.result c.tick-first.result c.wait_until.result _ _ at.stands c.due.ensures.past
       (first_reading s.outside _ _ _ _ _ _ _ at.tells c.tick-first.ensures.takes) c.wait_until.ensures
       (Notes_same _ _ _ _ c.finish.ensures.only.waits c.recv-received.ensures.waits);
-  marks = λ s delay at told.
+  marks = λ s delay sheet at told known same.
       let ok : c.recv-received.result ≡ Failed → ⊥ = c.in_default.not-Failed in
       let w = waits_is s.past.ports s.outside _ _ _ _ _ _ _ _ _ _ _ _ _ _ _ _ _ _ at.tells c.tick-first.ensures.takes c.tick-first.ensures.last
       c.recv-received.ensures.receives ok c.recv-received.ensures.same.0 c.recv-received.ensures.counted c.tick-tick.ensures.takes c.tick-tick.ensures.last
@@ -106,15 +118,25 @@ returns g c = record {
       let steps = steps_is s _ _ c.args.counters.now _ _ _ _ _ _ _ _ _ _ _ _ at.stands at.turns_is at.posts_is w row
       (c.tracing-before.ensures.past s.past at.stands) c.tracing.ensures.past c.is_shown-shown.ensures in
       let asked = c.tick-tick.ensures.page.1 ∙ c.tick-first.ensures.page.1 ∙ told in
-      let shown = shown_is s delay _ _ _ _ _ (g.T.Ticker.marks c.args.ticker.now) _ _ steps.acts_are w.tick_is c.tick-tick.ensures.last
-      (c.tick-tick.ensures.page.3 ∙ c.tick-first.ensures.page.3) (c.show.ensures.page (past_after s) delay steps.stands asked)
-      (c.show.ensures.marks (past_after s) delay steps.stands asked) in
+      let read : IsTold g.T.Ticker sheet c.tick-tick.new.self = record {
+        origin = c.tick-tick.ensures.page.0 ∙ c.tick-first.ensures.page.0 ∙ known.origin;
+        views = c.tick-tick.ensures.page.4 ∙ c.tick-first.ensures.page.4 ∙ known.views;
+      } in
+      let shown = shown_is s delay sheet _ _ _ _ (g.T.Ticker.marks c.args.ticker.now) _ (paged g.T.Ticker c.show.new.ticker) steps.acts_are w.tick_is
+      c.tick-tick.ensures.last (c.tick-tick.ensures.page.3 ∙ c.tick-first.ensures.page.3)
+      (c.show.ensures.page (past_after s) delay sheet steps.stands asked read same)
+      (c.show.ensures.leaves (past_after s) delay sheet steps.stands asked read same) in
       shown;
-  board = record {
-    boarded = c.show.ensures.only.boarded ∙ c.tick-tick.ensures.page.2 ∙ c.tick-first.ensures.page.2;
-    origin = c.show.ensures.only.origin ∙ c.tick-tick.ensures.page.0 ∙ c.tick-first.ensures.page.0;
-    delay = c.show.ensures.only.delay ∙ c.tick-tick.ensures.page.1 ∙ c.tick-first.ensures.page.1;
-  };
+  board = (
+    c.show.ensures.only.boarded ∙ c.tick-tick.ensures.page.2 ∙ c.tick-first.ensures.page.2,
+    c.show.ensures.only.delay ∙ c.tick-tick.ensures.page.1 ∙ c.tick-first.ensures.page.1,
+  );
+  alone = λ none.
+      let shown = c.show.ensures.alone none in (
+        shown.0,
+        shown.1 ∙ c.tick-tick.ensures.page.0 ∙ c.tick-first.ensures.page.0,
+        shown.2 ∙ c.tick-tick.ensures.page.4 ∙ c.tick-first.ensures.page.4,
+      );
   keeps = record {
     binds = c.finish.ensures.only.binds ∙ c.recv-received.ensures.same.1;
     walled = c.show.ensures.only.walled ∙ c.tick-tick.ensures.same.2 ∙ c.tick-first.ensures.same.2;
@@ -136,8 +158,9 @@ pub returns-then-is_err : goal.returns-then-is_err
 returns-then-is_err g c = record {
   turns = λ s at. inl (at.tells, at.written_is);
   waits = λ s at. inl refl;
-  marks = λ s delay at told. inl (at.tells.calls_are, Marks_none _);
-  board = record { boarded = refl; origin = refl; delay = refl };
+  marks = λ s delay sheet at told known same. inl (at.tells.calls_are, leaves_same sheet _ (paged g.T.Ticker c.args.ticker.now) refl known.origin known.views);
+  board = (refl, refl);
+  alone = λ none. (tt, refl, refl);
   keeps = record { binds = refl; walled = refl; last = le_self _ };
   link = Counts-same _ _ _ refl (λ e. memory_unlinked e);
   write = Counts-same _ _ _ refl (λ e. memory_unwritten e);
@@ -159,8 +182,10 @@ returns-in-Failed g c = record {
       );
   waits = λ s at. wait_noted s _ c.due.result c.tick-first.result c.wait_until.result _ _ at.stands c.due.ensures.past
       (first_reading s.outside _ _ _ _ _ _ _ at.tells c.tick-first.ensures.takes) c.wait_until.ensures c.recv-received.ensures.waits;
-  marks = λ s delay at told. Marks_same _ _ c.tick-first.ensures.page.3;
-  board = record { boarded = c.tick-first.ensures.page.2; origin = c.tick-first.ensures.page.0; delay = c.tick-first.ensures.page.1 };
+  marks = λ s delay sheet at told known same. leaves_same sheet _ (paged g.T.Ticker c.tick-first.new.self) c.tick-first.ensures.page.3
+      (c.tick-first.ensures.page.0 ∙ known.origin) (c.tick-first.ensures.page.4 ∙ known.views);
+  board = (c.tick-first.ensures.page.2, c.tick-first.ensures.page.1);
+  alone = λ none. (tt, c.tick-first.ensures.page.0, c.tick-first.ensures.page.4);
   keeps = record {
     binds = c.recv-received.ensures.same.1;
     walled = c.tick-first.ensures.same.2;
