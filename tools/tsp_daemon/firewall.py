@@ -1,7 +1,8 @@
 """Prints rules that let in what a daemon needs, by its own addresses and its words: `firewall.py nft|systemd OWN serve LOCAL NAME ..`.
 
 As an nftables table: its peers from their ports, questions from its peers' machines and from the networks of TSP_ASKERS, so many in a second, and nothing
-else; over the loopback it is asked by root and by users of services alone. As a drop-in of the unit: datagrams of these addresses, of its own, and of name
+else; over the loopback it is asked by root and by users of services alone. Where its address is a tunnel's, peers and their machines are let in by the
+tunnel's interface alone, since anybody on the wire beneath can send with their addresses. As a drop-in of the unit: datagrams of these addresses, of its own, and of name
 servers.
 """
 import ipaddress
@@ -10,7 +11,7 @@ import sys
 
 sys.dont_write_bytecode = True
 sys.path.insert(0, os.path.dirname(os.path.dirname(os.path.realpath(__file__))))
-from tsp_daemon import usage  # noqa: E402
+from tsp_daemon import machine, tunnels, usage  # noqa: E402
 from tsp_texts.tool import Fault  # noqa: E402
 
 # How many questions are let in in a second: a network of a thousand hosts has 250, since supervisors ask a master four times in 16 s.
@@ -22,7 +23,7 @@ LOOPBACK = '127.0.0.0/8'
 UNPRIVILEGED = '/proc/sys/net/ipv4/ip_unprivileged_port_start'
 
 NFT = '''#!/usr/sbin/nft -f
-# What the daemon {name} at {local} needs, by the hosts file. Written by tsp-launch --firewall nft.
+# What the daemon {name} at {local} needs, by the hosts file. Written by tsp-launch --firewall nft.{elsewhere}
 table inet tsp
 delete table inet tsp
 table inet tsp {{
@@ -32,13 +33,17 @@ table inet tsp {{
         {place}udp dport {port} jump datagrams
     }}
     chain datagrams {{
-{peers}{askers}        counter drop
+{rules}        counter drop
     }}
     chain output {{
         type filter hook output priority filter - 1; policy accept;
         oifname "lo" udp dport {port} meta skuid != {{ {users} }} counter drop
     }}
 }}'''
+
+# What is said where the daemon's address isn't this machine's.
+ELSEWHERE = '''
+# ({host} is no address of this machine now. If it will be a tunnel's, have this written again then: the rules name the tunnel's interface.)'''
 
 SYSTEMD = '''# What the daemon {name} at {local} needs, by the hosts file. Written by tsp-launch --firewall systemd, for tsp.service.d.
 [Service]
@@ -69,15 +74,39 @@ def together(addresses, networks):
     return [str(network).replace('/32', '') for network in ipaddress.collapse_addresses(each)]
 
 
-def nft(words, askers):
-    """The table."""
-    (host, port), peers = words[1].split(':'), [word for word in words[5:] if word != '+']
+def networks(own, words):
+    """The peers of each network, with the interface by which they come: that of the tunnel whose address the daemon has there, or the empty text."""
+    lists, tunnel = [[]], tunnels.by_address()
+    for word in words[5:]:
+        if word == '+':
+            lists.append([])
+        else:
+            lists[-1].append(word)
+    # (with one address for all networks it stands once for each)
+    names = [tunnel.get(address, '') for address in own] + [''] * len(lists)
+    by_name = {}
+    for name, peers in zip(names, lists):
+        by_name.setdefault(name, []).extend(peers)
+    return sorted(by_name.items())
+
+
+def let_in(name, peers, askers):
+    """The rules that let in peers, and questions, which come by this interface."""
+    by = f'iifname "{name}" ' if name else ''
     pairs = ', '.join(' . '.join(peer.split(':')) for peer in by_number(peers))
     asking = ', '.join(together((peer.split(':')[0] for peer in peers), askers))
-    return NFT.format(
-        name=words[2], local=words[1], port=port, users=USERS, place='' if host == EVERYWHERE else f'ip daddr {host} ',
-        peers=f'        ip saddr . udp sport {{ {pairs} }} counter accept\n' if pairs else '',
-        askers=f'        ip saddr {{ {asking} }} {ASKED} counter accept\n' if asking else '')
+    return (f'        {by}ip saddr . udp sport {{ {pairs} }} counter accept\n' if pairs else '') \
+        + (f'        {by}ip saddr {{ {asking} }} {ASKED} counter accept\n' if asking else '')
+
+
+def nft(own, words, askers):
+    """The table. (the networks of TSP_ASKERS come by any interface)"""
+    (host, port), found = words[1].split(':'), networks(own, words)
+    if not any(name == '' for name, _ in found):
+        found.append(('', []))
+    rules = ''.join(let_in(name, peers, [] if name else askers) for name, peers in found)
+    return NFT.format(name=words[2], local=words[1], port=port, users=USERS, place='' if host == EVERYWHERE else f'ip daddr {host} ', rules=rules,
+                      elsewhere='' if machine.has_address(host) else ELSEWHERE.format(host=host))
 
 
 def name_servers():
@@ -111,7 +140,7 @@ def main():
     # (what it says is said by the one that started it)
     sys.argv[0] = 'tsp-launch'
     askers = asking_networks(os.environ.get('TSP_ASKERS', ''))
-    print(nft(words, askers) if form == 'nft' else systemd(own.split(), words, askers))
+    print(nft(own.split(), words, askers) if form == 'nft' else systemd(own.split(), words, askers))
 
 
 usage.run(main)

@@ -1,7 +1,10 @@
 """The rate of a daemon's counter against its network's, as the daemon's own corrections tell it, and the file in which that is kept.
 
 Rates are whole parts in 10^9, by which a counter is to be faster than the machine's. Corrections add up: what a clock was corrected by between two
-rounds, over the time between, is what its counter lacks, and only the errors of the first and the last measurement are in it.
+rounds, and what the rate in use gave it meanwhile, is what the machine's counter lacks, and only the errors of the first and the last measurement are in it.
+
+Two things are made of that: the rate to count by from now on, by the last hour, which a daemon that runs takes at once; and an estimate with its error,
+by the hours of a day, which is kept for the next start.
 """
 from __future__ import annotations
 
@@ -23,6 +26,8 @@ MOST_RATE = 1_000_000
 HOUR, DAY = 3_600_000_000, 24
 # Before an hour is over, so many corrections give an estimate.
 FEWEST = 4
+# The rate to count by comes of so many corrections at most, which are those of an hour, over so many microseconds at least; a round takes so many.
+WINDOW, LEAST, ROUND = 16, 120_000_000, 240_000_000
 # A correction that is greater than any rate explains, by more than clocks of a group are apart, is none of a rate.
 APART = 20_000
 # Hours whose error is so many times the usual one don't count; and so great a part of the others lies within the error.
@@ -42,10 +47,14 @@ def median(values):
     return statistics.median(values)
 
 
+def slope_of(points):
+    """The slope of points, in parts in 10^9, which a few bad ones don't move."""
+    return median([(moved - before) * BILLION / (tick - since) for (since, before), (tick, moved) in itertools.combinations(points, 2)])
+
+
 def fitted(points):
-    """The slope of points, in parts in 10^9, which a few bad ones don't move; and by how much it may be wrong, as the points lie beside it."""
-    slopes = [(moved - before) * BILLION / (tick - since) for (since, before), (tick, moved) in itertools.combinations(points, 2)]
-    slope, count, span = median(slopes), len(points), points[-1][0] - points[0][0]
+    """The slope of points, and by how much it may be wrong, as the points lie beside it."""
+    slope, count, span = slope_of(points), len(points), points[-1][0] - points[0][0]
     beside = [moved - slope * (tick - points[0][0]) / BILLION for tick, moved in points]
     return slope, (max(beside) - min(beside) + 2) * count / max(count - 2, 1) * BILLION / span
 
@@ -70,18 +79,75 @@ def middle(hours):
     return Estimate(round(rate), max(round(away[int(PART * (len(away) - 1))]), round(least), 1))
 
 
+class Given:
+    """What a daemon's counter gained on its machine's, by the rates with which it counts, in microseconds."""
+
+    def __init__(self, applied):
+        self.applied, self.tick, self.gained = applied, 0, 0
+
+    def at(self, tick):
+        """What it gained until a tick."""
+        return self.gained + self.applied * (tick - self.tick) / BILLION
+
+    def change(self, tick, applied):
+        """From this tick on it counts with this rate."""
+        self.gained, self.tick, self.applied = self.at(tick), tick, applied
+
+
+class Recent:
+    """The corrections of the last hour, and the rate that they give: the whole of the first one, and less of each later one."""
+
+    def __init__(self, rate, count):
+        # (a rate that is known stands for as many corrections)
+        self.points = [(number * ROUND, number * ROUND * rate / BILLION) for number in range(1 - count, 1)]
+        self.rate = rate if count else None
+
+    def begin(self, tick):
+        """What came until this tick teaches nothing: as if the clock had needed what it was thought to."""
+        since, needed = self.points[-1] if self.points else (tick, 0)
+        if self.rate is None or tick < since:
+            self.points = [(tick, 0)]
+        elif tick > since:
+            self.add(tick, needed + (tick - since) * self.rate / BILLION)
+
+    def add(self, tick, needed):
+        """Until this tick the machine's counter lacked so much."""
+        self.points = [*self.points, (tick, needed)][-WINDOW:]
+
+    def takes(self, tick, needed):
+        """The same; it changes the rate."""
+        self.add(tick, self.points[-1][1] + needed)
+        if tick - self.points[0][0] >= LEAST:
+            self.rate = within(slope_of(self.points))
+
+
 class Learning:
     """What is learned, and is to be kept: `kept` is the estimate that counts, `hours` are those of the last day, and `applied` is the rate with
-    which the daemon counts."""
+    which the daemon counts. `recent` has the rate with which it should."""
 
     def __init__(self, applied=0, kept: Estimate | None = None, hours: list[Estimate] | None = None):
-        self.applied, self.kept, self.hours = applied, kept, list(hours or ())
+        self.kept, self.hours = kept, list(hours or ())
         self.begin(applied)
 
     def begin(self, applied):
         """The daemon starts, and counts with this rate."""
-        self.applied, self.masters, self.closed = applied, set(), {}
+        self.masters, self.closed, self.given, self.gained = set(), {}, Given(applied), 0
+        self.recent = Recent(applied, WINDOW - 1 if self.hours else FEWEST - 1 if self.kept or applied else 0)
         self.anew()
+
+    @property
+    def applied(self):
+        """The rate with which the daemon counts."""
+        return self.given.applied
+
+    @property
+    def wanted(self):
+        """The rate with which it should count; None while nothing is known of that."""
+        return self.recent.rate
+
+    def applies(self, tick, rate):
+        """From this tick on the daemon counts with this rate."""
+        self.given.change(tick, rate)
 
     def anew(self):
         """What was gathered of this hour says nothing of a rate."""
@@ -102,13 +168,17 @@ class Learning:
 
     def corrected(self, tick, amount, is_set):
         """The clock was corrected: the amount says what the counter lacked since the last time. Where it was set, or is corrected by more than any
-        rate explains, or by a master with which no clock agrees, another hour begins."""
+        rate explains, or by a master with which no clock agrees, another hour begins: after a clock was set with the next correction, since its datagram's
+        way is in what it shows, and since all hosts learn of one round then, the master too."""
         since, moved = self.points[-1] if self.points else (tick, 0)
         is_apart = abs(amount) * BILLION > MOST_RATE * (tick - since) + APART * BILLION
+        needed, self.gained = amount + self.given.at(tick) - self.gained, self.given.at(tick)
         if is_set or is_apart or tick <= since:
-            self.points = [(tick, 0)]
+            self.points = [] if is_set else [(tick, 0)]
+            self.recent.begin(tick)
             return False
-        self.points.append((tick, moved + amount))
+        self.points.append((tick, moved + needed))
+        self.recent.takes(tick, needed)
         return self.learned()
 
     def learned(self):
@@ -126,7 +196,7 @@ class Learning:
         if len(self.points) < FEWEST:
             return None
         slope, error = fitted(self.points)
-        return Estimate(within(self.applied + slope), round(error))
+        return Estimate(within(slope), round(error))
 
     def keep(self, found):
         """Keeps an estimate that is no worse than the one that is kept, or that a whole day says against it."""
@@ -218,9 +288,10 @@ class Kept:
         return number
 
     def begin(self):
-        """The daemon starts: the rate with which it is to count."""
-        self.learning.begin(self.learning.kept.rate if self.learning.kept else 0)
-        return self.learning.applied
+        """The daemon starts: the rate with which it is to count at first."""
+        learning = self.learning
+        learning.begin(learning.kept.rate if learning.kept else learning.wanted or 0)
+        return learning.applied
 
     def write(self):
         """Writes the file; that it can't be written is said once."""

@@ -1,4 +1,4 @@
-"""What the system says of an address: why it can't be bound, or nothing can be sent to it."""
+"""What the system says of an address: why it can't be bound, or nothing can be sent to it; and ports that nobody has."""
 import socket
 
 
@@ -21,3 +21,14 @@ def tried(address, call):
     except OSError as fault:
         return fault.strerror
     return None
+
+
+def free_ports(count):
+    """So many ports of the loopback that nobody has."""
+    held = [socket.socket(socket.AF_INET, socket.SOCK_DGRAM) for _ in range(count)]
+    for each in held:
+        each.bind(('127.0.0.1', 0))
+    ports = [each.getsockname()[1] for each in held]
+    for each in held:
+        each.close()
+    return ports

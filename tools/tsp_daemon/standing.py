@@ -10,16 +10,16 @@ QUIET, LEAST, HOLD = 80, 300, 60
 
 def by_trace(daemon: state.Daemon):
     """Why a daemon may not stand yet, as its trace tells; None where nothing in it is against that."""
-    left = [(LEAST - daemon.tick // MILLION, f'it has been up for {daemon.tick // MILLION} s, and stands once it is up for {LEAST}')]
+    left = [(LEAST - daemon.tick // MILLION, f'it has been up for {daemon.tick // MILLION} s, and may stand once it is up for {LEAST}')]
     if daemon.quit is not None:
         ago = (daemon.tick - daemon.quit) // MILLION
-        left.append((LEAST - ago, f'a QUIT came {ago} s ago, and it stands {LEAST} s after that'))
+        left.append((LEAST - ago, f'a QUIT came {ago} s ago, and it may stand {LEAST} s after that'))
     if daemon.backed is not None and daemon.backed[0]:
         number, tick = daemon.backed
         ago = (daemon.tick - tick) // MILLION
         left.append((HOLD - ago, f'it voted for {daemon.name(number)} {ago} s ago, and holds that for {HOLD} s'))
     wait, why = max(left)
-    return f'{why}: in {views.span(wait * MILLION)}' if wait > 0 else None
+    return f'{why}; nobody tells it again, so call again in {views.span(wait * MILLION)}' if wait > 0 else None
 
 
 def may_be(host, master, answers, count):

@@ -4,6 +4,7 @@ from __future__ import annotations
 from collections import namedtuple
 
 from tsp_daemon import learn, rates, trace
+from tsp_texts import told
 
 ROLES = ('starting', 'loose', 'follow', 'candidate', 'master')
 # Alarms that only a node with this role has; where a trace is read from its middle, they tell the role.
@@ -88,7 +89,7 @@ class Daemon:
 
     def take(self, line) -> list[Change]:
         """Reads a line, and gives what it changed. NoDaemon is raised where it is no daemon's."""
-        names = trace.names_of(line)
+        names = told.names_in(line)
         if names:
             self.begin()
             self.names = dict(enumerate(names))
@@ -96,9 +97,7 @@ class Daemon:
             return [Change(0, 0, 'start', {'name': names[0], 'peers': names[1:]})]
         act = trace.line_of(line)
         if act is None:
-            applied = trace.applied_of(line)
-            if applied is not None:
-                self.learning.begin(applied)
+            self.applies(*(told.rate_in(line) or ()))
             return []
         if act.node:
             raise NoDaemon
@@ -111,6 +110,13 @@ class Daemon:
         call = getattr(self, f'on_{word}', None)
         changes = [Change(act.tick, act.port, kind, values) for kind, values in (call(act, *said) if call else ())]
         return changes + self.learned(act, changes) if changes else changes
+
+    def applies(self, rate=None, tick=0):
+        """The launcher says with which rate the daemon counts, from its start or from a tick on."""
+        if tick:
+            self.learning.applies(tick, rate)
+        elif rate is not None:
+            self.learning.begin(rate)
 
     def learned(self, act, changes):
         """What is learned by changes, where it is another estimate than before."""

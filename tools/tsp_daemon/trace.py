@@ -1,19 +1,11 @@
 """Lines of a daemon's trace."""
-import re
-
 from tsp_texts import grammar
 from tsp_texts.grammar import LONGEST
-
-# A daemon has so many networks and peers, and a trace of `tsp replay` no more nodes than peers.
-MOST_PORTS, MOST_PEERS = 4, 999
-# What tsp-launch says of the peers' numbers.
-NAMES = re.compile(r'in the trace peer (0 is [A-Za-z0-9._-]+(?:, [0-9]{1,3} [A-Za-z0-9._-]+)*)$')
-# What it says of a counter with a rate.
-APPLIED = re.compile(r'the daemon counts (-?[0-9]{1,7}) parts in 10\^9 faster than the machine$')
+from tsp_texts.words import MOST_PEERS, MOST_PORTS
 
 
 def line_of(text):
-    """The line of a trace that a text is, or None. (the journal may put the time and the program's name before it, which end in a colon)"""
+    """The line of a trace that a text is, or None; a trace of `tsp replay` has no more nodes than a daemon has peers. (the journal may put the time and the program's name before it, which end in a colon)"""
     found = grammar.line_of(text.rpartition(': ')[2])
     if not found or not found.number or found.port >= MOST_PORTS or found.node > MOST_PEERS:
         return None
@@ -22,23 +14,9 @@ def line_of(text):
     return found if place is None or int(words[place]) <= MOST_PEERS else None
 
 
-def names_of(line):
-    """The names of all peers in the order of their numbers, where tsp-launch says them in this line."""
-    found = NAMES.search(line)
-    if not found:
-        return None
-    return [words.split(' ')[-1] for words in found[1].split(', ')]
-
-
 def text_of(line):
     """A line as text that any stream and any file takes."""
     return line.decode('ascii', 'backslashreplace')
-
-
-def applied_of(line):
-    """The rate with which the daemon counts, if tsp-launch says it in this line, or None."""
-    found = APPLIED.search(line)
-    return int(found[1]) if found else None
 
 
 class Lines:

@@ -2,21 +2,17 @@
 from __future__ import annotations
 
 import os
-import re
 import subprocess
 from collections import namedtuple
 
-from tsp_daemon import state, trace
+from tsp_daemon import kept, state, trace
 from tsp_daemon.rates import Rate
 from tsp_daemon.usage import NO_PROGRAM
 from tsp_texts import tool
 from tsp_texts.tool import Fault
 
-# The journal's last lines: some hours of a master's. (without -q it says that it can't be read)
-JOURNAL = ['journalctl', '-u', 'tsp', '-o', 'cat', '-n', '20000', '--no-pager']
-# The unit's variables, and the one of them that names this machine; the last line of it counts.
-VARIABLES = '/etc/default/tsp'
-SELF = re.compile(r'^[ \t]*TSP_SELF[ \t]*=[ \t]*(["\']?)([A-Za-z0-9._-]*)\1[ \t]*$', re.MULTILINE)
+# The journal's last lines, or as many octets of files: some hours of a master's.
+JOURNAL, LAST = [*kept.JOURNAL, '-n', '20000'], 2**20
 # How many seconds the journal is waited for, and how many octets of a trace are read.
 PATIENCE, MOST = 5, 64 * 2**20
 
@@ -37,16 +33,27 @@ def daemon_of_file(path) -> state.Daemon:
     return daemon
 
 
-def daemon_of_journal(own, say=None) -> state.Daemon | None:
-    """The daemon of this machine's unit by its journal, if it has this name; None if there is none to be read, and `say` is told why if journalctl tells."""
+def daemon_of_unit(own, say=None) -> state.Daemon | None:
+    """The daemon of this machine's unit by its trace, if it has this name; None if there is none to be read, and `say` is told why if that is known."""
+    try:
+        octets = kept.last_octets(LAST)
+        octets, why = octets_of_journal() if octets is None else (octets, '')
+    except Fault as fault:
+        octets, why = b'', fault.text
+    daemon = daemon_of_octets(octets)
+    if say and why and daemon is None:
+        say(f'no rates are shown: {why}')
+    return daemon if daemon and daemon.own_name == own else None
+
+
+def octets_of_journal():
+    """The last lines of the journal, and what journalctl says of them."""
     try:
         ran = subprocess.run(JOURNAL, stdin=subprocess.DEVNULL, stdout=subprocess.PIPE, stderr=subprocess.PIPE, timeout=PATIENCE, check=False)
     except (OSError, subprocess.TimeoutExpired):
-        return None
-    daemon, told = daemon_of_octets(ran.stdout), ran.stderr.decode('utf-8', 'replace').splitlines()
-    if say and told and daemon is None:
-        say(f'no rates are shown, since journalctl gives no trace: {told[0]}')
-    return daemon if daemon and daemon.own_name == own else None
+        return b'', ''
+    told = ran.stderr.decode('utf-8', 'replace').splitlines()
+    return ran.stdout, f'journalctl gives no trace: {told[0]}' if told else ''
 
 
 def daemon_of_octets(octets) -> state.Daemon | None:
@@ -74,17 +81,7 @@ def told_by(daemon) -> dict[str, Traced]:
     return found
 
 
-def self_of_unit():
-    """This machine's name by the unit's variables, which aren't the caller's; None if they don't have it."""
-    try:
-        with open(VARIABLES, encoding='utf-8', errors='replace') as file:
-            found = SELF.findall(file.read())
-    except OSError:
-        return None
-    return found[-1][1] if found else None
-
-
 def own_of(names):
     """Which of these names is this machine's, as tsp-launch finds it under the unit; None where none is."""
-    own = os.environ.get('TSP_SELF') or self_of_unit() or os.uname().nodename
+    own = kept.variable('TSP_SELF') or os.uname().nodename
     return next((name for name in (own, own.partition('.')[0]) if name in names), None)

@@ -2,7 +2,8 @@
 import time
 
 from tsp_clock import FOLLOWS, LEADS, RAW, Daemon, Look
-from tsp_daemon.stamps import Stamps
+from tsp_supervise import stood
+from tsp_supervise.stamps import Stamps
 
 # Seconds between two looks at the page, and at the master; and how often a look asks for the master's clock.
 PACE, APART, TIMES = 0.25, 16, 4
@@ -40,8 +41,20 @@ class Listener:
     def page_gone(self, fault):
         """The page's file is gone for good."""
 
+    def master_answers(self, master):
+        """A look at this master, which the daemon follows, was well."""
+
+    def master_silent(self, master):
+        """The master that the daemon follows didn't answer, or says that it leads no more."""
+
     def other_leads(self, master, other):
         """The master that the daemon follows doesn't lead any more, and another host does: both by their names."""
+
+    def stood_still(self, seconds):
+        """This machine stood still for so many seconds, by other hosts' clocks."""
+
+    def rate_changed(self, tick, rate):
+        """From this tick on the daemon counts so many parts in 10^9 faster than the machine."""
 
 
 class Keeper:
@@ -53,12 +66,14 @@ class Keeper:
         self.peers = [peer for peers in networks for peer in peers]
         # (the network of each number)
         self.place = [None, *(place for place, peers in enumerate(networks) for _ in peers)]
-        self.counter, self.seen, self.before, self.asked, self.learned = RAW, None, None, None, 0
+        self.counter, self.seen, self.before, self.asked, self.learned, self.last = RAW, None, None, None, 0, Look()
         self.stamps = Stamps(loop, lambda: time.clock_gettime_ns(self.counter))
+        self.stood = stood.Stood(drift)
 
     def begin(self):
         """A daemon is about to start, and what stands on the page is of one before it."""
         self.before, self.seen = self.page.page().daemon.life, None
+        self.stood.begin()
         self.poll()
 
     def end(self):
@@ -73,6 +88,8 @@ class Keeper:
         self.loop.after('page', PACE, self.poll)
         daemon = self.daemon()
         if daemon and (self.seen is None or not Asked(self.seen).is_of(daemon)):
+            if self.seen is None or self.seen.rate != daemon.rate:
+                self.listener.rate_changed(daemon.origin_tick, daemon.rate)
             self.seen = daemon
             self.look()
         self.look_after()
@@ -135,14 +152,30 @@ class Keeper:
         if name and (name == wanted or ':' in wanted):
             if self.asked.found:
                 self.write(daemon, *self.asked.best(), daemon.master)
+                self.look_for_stop(daemon, *self.asked.best())
+                self.listener.master_answers(wanted)
         else:
+            self.listener.master_silent(wanted)
             self.seek(daemon.master)
+
+    def look_for_stop(self, daemon, low, high, tick):
+        """Where the master's clock is far ahead at once, it is looked at once more, and then others are asked whether they are ahead too."""
+        ahead = self.stood.look(daemon, low, high, tick)
+        if ahead:
+            peers = [self.peers[number - 1] for number in self.mates(daemon.master)]
+            stood.Others(daemon, self.stamps, peers[:stood.ASKED], lambda: self.listener.stood_still(ahead / 1e6))
+        elif self.stood.is_in_doubt:
+            self.loop.after('look', stood.AGAIN, self.look)
+
+    def mates(self, master):
+        """The numbers of the other peers on a master's network."""
+        return [number for number in range(1, len(self.names)) if number != master and self.place[number] == self.place[master]]
 
     def seek(self, master):
         """The master that the daemon follows is silent, or says that it leads no more: the others are asked whether one of them does."""
-        for number, name in enumerate(self.names[1:], 1):
-            if number != master and self.place[number] == self.place[master]:
-                self.stamps.ask_master(self.peers[number - 1], lambda named=None, name=name: self.found(master, name, named))
+        for number in self.mates(master):
+            name = self.names[number]
+            self.stamps.ask_master(self.peers[number - 1], lambda named=None, name=name: self.found(master, name, named))
 
     def found(self, master, name, named):
         """A host names a master: if that is itself, the daemon follows one that is gone."""
@@ -152,4 +185,12 @@ class Keeper:
     def write(self, daemon, low, high, tick, master):
         """Writes a look."""
         name = self.names[master].encode('ascii', 'replace')
-        self.page.write(Look(daemon.life, daemon.moved, tick, low, high, master, self.drift, 1, self.learned, name))
+        self.last = Look(daemon.life, daemon.moved, tick, low, high, master, self.drift, 1, self.learned, name)
+        self.page.write(self.last)
+
+    def ask_for_rate(self, rate):
+        """Asks the daemon to count with another rate. It reads that in a half of its own life, once a second."""
+        self.learned = rate
+        if self.seen and self.last.life == self.seen.life:
+            self.last = self.last._replace(learned=rate)
+            self.page.write(self.last)

@@ -1,9 +1,16 @@
 """Reads the hosts file again for a daemon that runs."""
+import hashlib
 import os
 import subprocess
 
 from tsp_daemon import child
+from tsp_supervise import log
 from tsp_daemon.hosts import LAUNCH
+
+
+def digest_of(text):
+    """The digest of what is listed of a hosts file, as tsp-launch prints it."""
+    return hashlib.sha256(text.encode('ascii', 'replace')).hexdigest()[:16]
 
 
 class Reload:
@@ -27,7 +34,7 @@ class Reload:
         try:
             self.process = child.begin([LAUNCH, word], stdin=subprocess.DEVNULL, stdout=subprocess.PIPE)
         except OSError as fault:
-            self.go_on(f'the hosts file isn\'t read again: {LAUNCH}: {fault.strerror}')
+            self.go_on(f'the hosts file isn\'t read again: {LAUNCH}: {fault.strerror}', log.FAULT)
             return
         self.loop.watch(self.process.stdout.fileno(), self.read)
 
@@ -41,7 +48,7 @@ class Reload:
         self.process.stdout.close()
         status, self.process = self.process.wait(), None
         if status:
-            self.go_on('the hosts file isn\'t read again, and the daemon goes on as it was')
+            self.go_on('the hosts file isn\'t read again, and the daemon goes on as it was', log.WARNING)
         else:
             self.then(self.octets.decode('ascii', 'replace'))
 
@@ -58,11 +65,11 @@ class Reload:
         if self.names and [name_at.get(word) for word in self.words[6:] if word != '+'] != self.names[1:]:
             self.changed()
         else:
-            self.go_on('the hosts file was read again: the daemon goes on, since it is started with the same words')
+            self.go_on(f'a hosts file with the digest {digest_of(text)} was read: the daemon goes on, since it is started with the same words')
 
-    def go_on(self, text):
+    def go_on(self, text, level=log.NOTICE):
         """Says what came of it, and reads the file once more if that is wanted."""
-        self.say(text)
+        self.say(text, level)
         if self.is_wanted:
             self.begin()
 

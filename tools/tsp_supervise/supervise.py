@@ -6,21 +6,25 @@ both, and the status is then 0. A daemon that ends before it ever answered ends 
 again, but where that is no use. SIGHUP reads the hosts file again.
 """
 import os
-import random
 import signal
 import sys
 
 sys.dont_write_bytecode = True
 sys.path.insert(0, os.path.dirname(os.path.dirname(os.path.realpath(__file__))))
 from tsp_daemon import hosts, learn, machine, sockets, usage, views  # noqa: E402
-from tsp_daemon.keeper import Keeper  # noqa: E402
-from tsp_daemon.loop import Loop  # noqa: E402
-from tsp_daemon.outlet import Outlet  # noqa: E402
-from tsp_daemon.output import Output  # noqa: E402
-from tsp_daemon.page import PageFile, Taken  # noqa: E402
-from tsp_daemon.reload import Reload  # noqa: E402
-from tsp_daemon.serving import Serving  # noqa: E402
-from tsp_daemon.systemd import Systemd  # noqa: E402
+from tsp_supervise import log, trail  # noqa: E402
+from tsp_supervise.absence import Address  # noqa: E402
+from tsp_supervise.applied import Applied  # noqa: E402
+from tsp_supervise.follow import Follow  # noqa: E402
+from tsp_supervise.keeper import Keeper  # noqa: E402
+from tsp_supervise.loop import Loop  # noqa: E402
+from tsp_supervise.news import News  # noqa: E402
+from tsp_supervise.outlet import Outlet  # noqa: E402
+from tsp_supervise.output import Output  # noqa: E402
+from tsp_supervise.page import PageFile, Taken  # noqa: E402
+from tsp_supervise.reload import Reload  # noqa: E402
+from tsp_supervise.serving import Serving  # noqa: E402
+from tsp_supervise.systemd import Systemd  # noqa: E402
 from tsp_texts import tool  # noqa: E402
 import tsp_clock  # noqa: E402
 
@@ -31,8 +35,6 @@ MOST_SAID = 65536
 DRIFT = 100
 # After how many seconds a page is tried again that another supervisor keeps.
 TRY_PAGE = 5
-# A daemon is started again to follow another master within so many seconds, and not again for so many.
-SPREAD, SELDOM = 10, 600
 # Seconds: between two looks at the machine, by how many the alarm for its waking is later, between two starts at least, between two tries at most,
 # after which a daemon has held, and for the last lines.
 LOOK, WAKING, APART, LONGEST_PAUSE, HELD, LAST_LINES = 1, 0.1, 1, 60, 60, 0.3
@@ -42,36 +44,54 @@ class Supervisor:
     """A daemon, and what becomes of it; `final` is the status to end with, once that is known."""
 
     def __init__(self, words):
-        self.words, self.local, self.host = words, words[2], words[2].split(':')[0]
+        self.words, self.local = words, words[2]
         self.names = os.environ.get('TSP_NAMES', '').split()
-        self.is_shown = os.environ.get('TSP_TRACE', 'on') == 'on'
+        self.is_shown = os.environ.get('TSP_TRACE', 'on') != 'off'
+        # (it only takes the trace of a daemon, and ends with it)
+        self.is_once = os.environ.get('TSP_ONCE') == 'on'
         self.loop = Loop()
         self.errors = Outlet(2, MOST_SAID)
-        self.lines = Output(os.environ.get('TSP_OUTPUT', ''), self.loop, self.say, self.give_up)
-        self.systemd = Systemd(self.loop, self.say)
+        self.log = log.Log(self.errors, 'tsp-launch')
+        self.news = News(self.loop, self.names or [words[3]], self.say)
+        self.address = Address(self.local.split(':')[0], self.loop.now, self.warn)
+        self.lines = self.trace_output()
+        self.systemd = Systemd(self.loop, self.warn)
         self.reload = Reload(self.loop, words, self.names, self.say, self.begin_anew)
         self.serving = self.sleep = self.final = None
         self.alarm = machine.Alarm()
         if self.alarm.file is not None:
             self.loop.watch(self.alarm.file, self.look)
         self.has_answered, self.was_switched, self.pause, self.started, self.left_out = False, False, APART, -APART, 0
-        self.unkept, self.followed = '', -SELDOM
+        self.is_told = False
+        self.unkept, self.follow = '', Follow()
         self.keeper = self.kept()
         # (where the rate is to be learned)
         self.learned = learn.Kept(learn.path_of(), self.say) if os.environ.get('TSP_RATE') == learn.WORD else None
+        self.applied = Applied(self.learned.learning, self.drift(), self.news.seldom.say, self.note) if self.learned else None
+
+    def trace_output(self):
+        """Where the trace goes: into a file of bounded size, a file that others rotate, or standard output."""
+        place, path = os.environ.get('TSP_TRACE', 'on'), os.environ.get('TSP_OUTPUT', '')
+        if path or not place.startswith('/'):
+            return Output(path, self.loop, self.warn_of_trace, self.give_up)
+        return trail.Trail(place, self.loop, self.warn_of_trace, int(os.environ.get('TSP_KEEP') or trail.KEEP) * trail.MIB)
+
+    def warn_of_trace(self, text):
+        """Something is wrong with the trace's file, which may last."""
+        self.news.seldom.say('trace', text, log.WARNING)
 
     def kept(self):
         """What keeps the page of the network's time, where there is a place for it. One that another supervisor keeps is tried again."""
         path = os.environ.get('TSP_CLOCK') or tsp_clock.PATH
         os.environ.pop('TSP_PAGE', None)
-        if not os.environ.get('TSP_CLOCK') and not os.path.isdir(os.path.dirname(path)):
+        if not os.environ.get('TSP_CLOCK') and (self.is_once or not os.path.isdir(os.path.dirname(path))):
             return None
         try:
             page = PageFile(path)
         except OSError as fault:
             if self.unkept != str(fault):
                 self.unkept = str(fault)
-                self.say(f'programs can\'t read the time: {path}: {fault.strerror}')
+                self.say(f'programs can\'t read the time: {path}: {fault.strerror}', log.WARNING)
             if isinstance(fault, Taken):
                 self.loop.after('get-page', TRY_PAGE, self.keep)
             return None
@@ -83,7 +103,12 @@ class Supervisor:
                 networks[-1].append(hosts.pair_of(word))
         names = self.names or [word for word in self.words[3:4] + self.words[6:] if word != '+']
         os.environ['TSP_PAGE'] = path
-        return Keeper(self.loop, page, networks, names, int(os.environ.get('TSP_DRIFT', DRIFT)), self)
+        return Keeper(self.loop, page, networks, names, self.drift(), self)
+
+    @staticmethod
+    def drift():
+        """By how many parts in a million counters may be wrong."""
+        return int(os.environ.get('TSP_DRIFT', DRIFT))
 
     def keep(self):
         """Tries to get the page that another supervisor kept. The daemon has to start again to write it."""
@@ -105,25 +130,53 @@ class Supervisor:
 
     def other_leads(self, master, other):
         """The daemon follows a master that is gone, and another one leads. By the rules it would wait for its own election, and each one that is held
-        lets all others wait anew: so it is started again, and finds the other one. (not all hosts at once, and not often)"""
-        if os.environ.get('TSP_FOLLOW') == 'wait' or self.loop.now() - self.followed < SELDOM or 'follow' in self.loop.times:
-            return
-        self.followed = self.loop.now()
-        why = f'{master}, which the daemon follows, doesn\'t lead any more, and {other} does'
-        self.loop.after('follow', random.uniform(0, SPREAD), lambda: self.begin_again(why))
+        lets all others wait anew: so it is started again, and finds the other one."""
+        wait = None if os.environ.get('TSP_FOLLOW') == 'wait' else self.follow.wait(self.loop.now())
+        if wait is not None:
+            why = f'{master}, which the daemon follows, doesn\'t lead any more, and {other} does'
+            self.loop.after('follow', wait, lambda: self.begin_again(why))
+
+    def stood_still(self, seconds):
+        """The machine stood still, and its own clocks with it: what the daemon shows is too early, and what came meanwhile may be old."""
+        self.begin_again(f'by other hosts\' clocks the machine stood still for {seconds:.0f} s, as when its hypervisor stops it')
+
+    def rate_changed(self, tick, rate):
+        """From this tick on the daemon counts with this rate."""
+        if self.applied:
+            self.applied.changed(tick, rate)
 
     @property
     def learning(self):
         """What is learned of the counter, where that is asked for."""
         return self.learned.learning if self.learned else None
 
-    def say(self, text):
+    def master_answers(self, master):
+        """The master that the daemon follows answered."""
+        self.news.master_answers(master)
+
+    def master_silent(self, master):
+        """The master that the daemon follows is silent, or leads no more."""
+        self.news.master_silent(master)
+
+    def say(self, text, level=log.NOTICE):
         """A line on standard error, for which nobody waits."""
-        self.errors.put(f'tsp-launch: {tool.one_line(text)}\n'.encode('utf-8', 'replace'))
+        self.log.say(text, level)
+
+    def warn(self, text):
+        """A warning."""
+        self.say(text, log.WARNING)
+
+    def note(self, text):
+        """A line that belongs to the trace: it goes with it into a file, and else onto standard error."""
+        if self.is_shown and self.lines.path:
+            self.lines.put(f'tsp-launch: {tool.one_line(text)}\n'.encode('ascii', 'replace'))
+        elif self.is_shown:
+            self.say(text, log.DEBUG)
 
     def run(self):
         """Runs the daemon, and gives the status to end with."""
-        for number, call in ((signal.SIGTERM, self.stop), (signal.SIGINT, self.stop), (signal.SIGHUP, self.hang_up), (signal.SIGCHLD, self.look)):
+        hang_up = self.stop if self.is_once else self.hang_up
+        for number, call in ((signal.SIGTERM, self.stop), (signal.SIGINT, self.stop), (signal.SIGHUP, hang_up), (signal.SIGCHLD, self.look)):
             self.loop.on(number, call)
         signal.pthread_sigmask(signal.SIG_UNBLOCK, (signal.SIGINT, signal.SIGHUP))
         self.start()
@@ -146,9 +199,10 @@ class Supervisor:
 
     def start(self):
         """Starts the daemon."""
-        if self.names and self.is_shown:
+        if self.names:
             peers = ''.join(f', {number} {name}' for number, name in enumerate(self.names) if number)
-            self.say(f'in the trace peer 0 is {self.names[0]}{peers}')
+            self.note(f'in the trace peer 0 is {self.names[0]}{peers}')
+        self.news.begin()
         self.sleep, self.started = machine.Sleep(), self.loop.now()
         self.apply_rate()
         if self.keeper:
@@ -171,11 +225,18 @@ class Supervisor:
         """The rate with which the daemon that starts is to count. It reads that from the environment."""
         rate = self.learned.begin() if self.learned else int(os.environ.get('TSP_RATE', 0))
         os.environ['TSP_RATE'] = str(rate)
+        if self.keeper:
+            self.keeper.learned = rate
+        if self.applied:
+            self.applied.begin(rate)
         if rate:
-            self.say(f'the daemon counts {rate} parts in 10^9 faster than the machine')
-        drift = int(os.environ.get('TSP_DRIFT', DRIFT))
+            text = f'the daemon counts {rate} parts in 10^9 faster than the machine'
+            self.say(text, log.INFO)
+            if self.lines.path:
+                self.note(text)
+        drift = self.drift()
         if abs(rate) > 1000 * drift:
-            self.say(f'that is more than TSP_DRIFT, {drift} parts in a million, allows a counter to be wrong: are intervals wide enough?')
+            self.say(f'that is more than TSP_DRIFT, {drift} parts in a million, allows a counter to be wrong: are intervals wide enough?', log.WARNING)
 
     def hear(self, lines, left_out):
         """Hands lines on. The questions of supervisors are left out, and only counted."""
@@ -184,6 +245,10 @@ class Supervisor:
             note = f'... {self.left_out} lines of supervisors left out\n'.encode() if self.left_out else b''
             self.lines.put(note + lines)
             self.left_out = 0
+        if not self.is_told and b' trace on\n' in lines:
+            self.is_told = True
+            self.news.started(self.local, os.environ.get('TSP_DIGEST'))
+        self.news.hear(lines)
 
     def changed(self, change):
         """The daemon's state changed: systemd is told of it, and the page."""
@@ -193,6 +258,8 @@ class Supervisor:
             self.systemd.tell('READY=1', f'STATUS={views.summary(self.serving.state)}')
         if change.kind == 'learned' and self.learned:
             self.learned.write()
+        elif change.kind == 'correction' and self.applied and self.keeper:
+            self.applied.ask(self.keeper)
 
     def note_trace(self, is_on):
         """The daemon traces, so it answers; or somebody switched that off."""
@@ -200,7 +267,7 @@ class Supervisor:
             self.was_switched = True
         elif self.was_switched:
             self.was_switched = False
-            self.say('somebody switched the trace off; it is on again')
+            self.news.seldom.say('switched', 'somebody switched the trace off; it is on again', log.WARNING)
         self.has_answered = self.has_answered or is_on
 
     def look(self):
@@ -209,9 +276,9 @@ class Supervisor:
         if self.serving is None:
             return
         status, slept = self.serving.status(), self.sleep.seconds()
-        if self.has_answered and not machine.has_address(self.host):
+        if self.has_answered and self.address.is_given_up(status is None and not slept):
             self.end_daemon()
-            self.say(f'{self.host} is no address of this machine any more; the daemon is started again when it is')
+            self.address.give_up()
             self.wait_for_address()
         elif status is not None:
             self.ended(status)
@@ -224,8 +291,10 @@ class Supervisor:
     def end_daemon(self):
         """Ends the daemon, if it runs."""
         self.loop.cancel('watch', 'start', 'follow')
+        self.is_told = False
         if self.serving:
             self.serving.end()
+        self.news.end()
         if self.keeper:
             self.keeper.end()
         self.serving = None
@@ -251,8 +320,8 @@ class Supervisor:
 
     def wait_for_address(self):
         """Starts the daemon when its address is there."""
-        if machine.has_address(self.host):
-            self.say(f'{self.host} is an address of this machine again')
+        if self.address.is_there():
+            self.say(f'{self.address.host} is an address of this machine again')
             self.start()
         else:
             self.loop.after('start', LOOK, self.wait_for_address)
@@ -261,9 +330,10 @@ class Supervisor:
         """The daemon ended by itself: it is started again, where it ever answered and that is of use."""
         self.end_daemon()
         why = self.why(status)
-        if not self.has_answered or status in (NO_WORDS, BAD_WALL):
+        if not self.has_answered or self.is_once or status in (NO_WORDS, BAD_WALL):
             self.give_up(why, status)
         elif status == DONE:
+            self.news.seldom.say('done', 'all turns of the daemon are taken; it is started again', log.INFO)
             self.loop.at('start', max(self.loop.now(), self.started + APART), self.start)
         else:
             self.try_later(why or f'the daemon ended with status {status}')
@@ -272,14 +342,14 @@ class Supervisor:
         """Starts the daemon again after a pause, which grows while it doesn't hold."""
         self.pause = APART if self.loop.now() - self.started > HELD else min(2 * self.pause, LONGEST_PAUSE)
         text = f'{why}; the daemon is started again in {self.pause} s'
-        self.say(text)
+        self.say(text, log.WARNING)
         self.systemd.tell(f'STATUS={text}')
         self.loop.after('start', self.pause, self.start)
 
     def give_up(self, why, status):
         """Ends with this status, and says why."""
         if why:
-            self.say(why)
+            self.say(why, log.FAULT)
         self.final = status
 
     def why(self, status):

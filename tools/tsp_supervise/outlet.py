@@ -2,17 +2,18 @@
 import os
 import threading
 
-from tsp_daemon.backlog import Backlog
+from tsp_supervise.backlog import Backlog
 
 
 class Outlet:
-    """A file's number, the lines that wait for it, and why it takes no more; `failed` is called where it doesn't."""
+    """A file's number, the lines that wait for it, and why it takes no more; `failed` is called where it doesn't. `shape` is what becomes of lines there."""
 
-    def __init__(self, number, most, failed=lambda: None, lost=0):
-        self.number, self.failed = number, failed
+    def __init__(self, number, most, failed=lambda: None, lost=0, shape=bytes):
+        self.number, self.failed, self.shape = number, failed, shape
         self.backlog, self.fault, self.is_writing, self.is_closing = Backlog(most, lost), None, False, False
         self.changed = threading.Condition()
-        threading.Thread(target=self.write_on, daemon=True).start()
+        self.thread = threading.Thread(target=self.write_on, daemon=True)
+        self.thread.start()
 
     def put(self, octets):
         """Takes whole lines, and doesn't wait. Where the stream takes no more they are lost."""
@@ -30,7 +31,7 @@ class Outlet:
                 self.changed.wait_for(lambda: self.is_closing or self.backlog.holds())
                 if not self.backlog.holds():
                     break
-                octets, self.is_writing = self.backlog.take(), True
+                octets, self.is_writing = self.shape(self.backlog.take()), True
             self.write(octets)
             with self.changed:
                 self.is_writing = False

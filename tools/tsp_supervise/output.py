@@ -1,14 +1,18 @@
 """Where a trace goes: standard output, or a file that is opened anew where that is asked for, or where it took nothing."""
+import errno
 import os
 import stat
 
-from tsp_daemon.outlet import Outlet
+from tsp_supervise import log
+from tsp_supervise.outlet import Outlet
 from tsp_daemon.usage import NOT_WRITTEN
 from tsp_texts.tool import Fault
 
 # How many octets wait for a slow reader, and after how many seconds a file that took nothing is tried again.
 MOST, AGAIN = 4 << 20, 10
 FLAGS = os.O_APPEND | os.O_CREAT | os.O_CLOEXEC
+# Why a file takes nothing that may take something later.
+FULL = errno.ENOSPC, errno.EDQUOT, errno.EFBIG, errno.EIO
 
 
 def way_of(path):
@@ -20,7 +24,7 @@ def way_of(path):
 
 
 class Output:
-    """`path` is empty for standard output; where that takes nothing, `give_up` is called."""
+    """`path` is empty for standard output; where that takes nothing for good, `give_up` is called."""
 
     def __init__(self, path, loop, say, give_up):
         self.path, self.loop, self.say, self.give_up = path, loop, say, give_up
@@ -31,8 +35,10 @@ class Output:
 
     def opened(self, lost):
         """The stream, behind so many lines that were lost."""
-        number = os.open(self.path, FLAGS | way_of(self.path), 0o640) if self.path else 1
-        outlet = Outlet(number, MOST, lambda: self.loop.soon(('failed', number), lambda: self.failed(outlet)), lost)
+        number = os.open(self.path, FLAGS | way_of(self.path), 0o640) if self.path else os.dup(1)
+        # (a person doesn't read a trace in the journal)
+        shape = log.marked if not self.path and log.is_journal(1) else bytes
+        outlet = Outlet(number, MOST, lambda: self.loop.soon(('failed', number), lambda: self.failed(outlet)), lost, shape)
         return outlet
 
     def put(self, lines):
@@ -47,10 +53,10 @@ class Output:
         """A stream takes nothing: the one that is written, and not one before it."""
         if outlet is not self.outlet:
             return
-        if not self.path:
+        if not self.path and outlet.fault.errno not in FULL:
             self.give_up(f'standard output takes nothing: {outlet.fault.strerror}', NOT_WRITTEN)
             return
-        self.say(f'{self.path}: {outlet.fault.strerror}; lines are dropped until it can be written')
+        self.say(f'{self.path or "standard output"}: {outlet.fault.strerror}; lines are dropped until it can be written')
         self.loop.after('output', AGAIN, self.reopen)
 
     def is_same_pipe(self):
@@ -63,7 +69,7 @@ class Output:
 
     def reopen(self):
         """Opens the file at this path anew. What waits for the old one still goes there."""
-        if not self.path or self.is_same_pipe():
+        if (not self.path and self.outlet.fault is None) or self.is_same_pipe():
             return
         old = self.outlet
         try:

@@ -2,13 +2,15 @@
 import re
 from collections import deque
 
+from tsp_texts.grammar import OF_DAEMON
+
 # Whoever may send a datagram writes these lines: what came from a stranger, and what was sent to one.
-OF_STRANGERS = re.compile(rb'^[0-9]+ 0 [0-3] [0-9]+ (?:took|post [0-9]+) - .*\n', re.MULTILINE)
+OF_STRANGERS = re.compile(f'^{OF_DAEMON}(?:took|post [0-9]+) - .*\n'.encode(), re.MULTILINE)
 # And these whoever may send with a peer's address. All others are the daemon's own.
-OF_ANYBODY = re.compile(rb'^[0-9]+ 0 [0-3] [0-9]+ (?:took|post) .*\n', re.MULTILINE)
+OF_ANYBODY = re.compile(f'^{OF_DAEMON}(?:took|post) .*\n'.encode(), re.MULTILINE)
 SIFTS = (OF_STRANGERS, OF_ANYBODY)
-# The line that stands for lines that were dropped.
-TOLD = re.compile(rb'\.\.\. ([0-9]+) lines dropped\n')
+# The line that stands for lines that were dropped. (the journal takes a priority before it)
+TOLD = re.compile(rb'(?:<[0-7]>)?\.\.\. ([0-9]+) lines dropped\n')
 # Pieces are put together up to this size.
 PIECE = 65536
 

@@ -6,7 +6,9 @@ import signal
 import socket
 import subprocess
 
-from tsp_daemon import child, hosts, state, stamps
+from tsp_daemon import child, hosts, state
+from tsp_supervise import stamps
+from tsp_texts.grammar import OF_DAEMON
 from tsp_witness.datagram import octets_of
 
 # As much as the system lets a user's pipe hold: what comes in a tenth of a second at 100,000 datagrams a second.
@@ -16,7 +18,7 @@ MUCH, GATHERING = 8192, 0.003
 # A line of a trace has less; more without a line feed is no line.
 LONGEST = 4096
 TELLING = (b' become ', b' close ', b' correct ', b' settime ', b' trace ')
-TOLD = re.compile(rb'^[0-9]+ 0 [0-3] [0-9]+ (?:become|close|correct|trace|took [0-9]+ settime) .*$', re.MULTILINE)
+TOLD = re.compile(f'^{OF_DAEMON}(?:become|close|correct|trace|took [0-9]+ settime) .*$'.encode(), re.MULTILINE)
 TRACE_ON = octets_of(('traceon', '1', 'tsp-launch'))
 # How many seconds a daemon that starts is given for an answer before it is asked again, and how long one whose trace was switched off stays so.
 ASKING, AGAIN = 0.1, 1
