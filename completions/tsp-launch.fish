@@ -5,9 +5,10 @@ function __tsp_column --description 'A column of the list of hosts: 2 has names,
 end
 
 complete -c tsp-launch -s n -l print -d 'prints the words and starts nothing'
-complete -c tsp-launch -l lint -d 'starts nothing, and ends with 78 where the file can'\''t work'
+complete -c tsp-launch -l lint -d 'starts nothing, prints a digest of the file, which is the same where ..'
 complete -c tsp-launch -s l -l list -d 'lists the hosts of the file'
 complete -c tsp-launch -l firewall -x -a 'nft systemd' -d 'prints rules that let in what the daemon needs, and questions from ..'
+complete -c tsp-launch -l wireguard -x -a 'keys netdev network nft wg-quick' -d 'prints this host'\''s part of a tunnel of WireGuard, whose addresses are ..'
 complete -c tsp-launch -s f -l file -r -F -d 'the hosts file'
 complete -c tsp-launch -s s -l self -x -a '(__tsp_column 2)' -d 'the name of this host'
 complete -c tsp-launch -l turns -x -d 'how many turns the daemon takes'

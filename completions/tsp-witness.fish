@@ -4,6 +4,8 @@ function __tsp_column --description 'A column of the list of hosts: 2 has names,
     PATH="$PATH:/usr/sbin" tsp-launch --list 2>/dev/null | cut -d ' ' -f $argv[1]
 end
 
+complete -c tsp-witness -l since -x -d 'fetched are lines from the last start before TIME on'
+complete -c tsp-witness -l ssh -x -a '(__fish_complete_command)' -d 'how another host is reached'
 complete -c tsp-witness -l check -d 'judges'
 complete -c tsp-witness -l audit -d 'judges, and has the history audited too, for a second opinion'
 complete -c tsp-witness -s f -l file -r -F -d 'the hosts file'

@@ -78,7 +78,15 @@ _tsp_sim() {
     case $(_tsp_before "$3") in
     --program | -p) mapfile -t COMPREPLY < <(compgen -c -- "$2") ;;
     '<') _tsp_any_file "$2" ;;
-    *) mapfile -t COMPREPLY < <(compgen -W '--help --version --nodes --slaves --drift --wall --latency --loss --twice --cut --reboot --net --until --seed --program' -- "$2") ;;
+    *) mapfile -t COMPREPLY < <(compgen -W '--help --version --nodes --slaves --drift --wall --latency --loss --twice --cut --reboot --net --follow --until --seed --program' -- "$2") ;;
+    esac
+}
+
+_tsp_demo() {
+    case $(_tsp_before "$3") in
+    --program | -p) mapfile -t COMPREPLY < <(compgen -c -- "$2") ;;
+    --speed) ;;
+    *) mapfile -t COMPREPLY < <(compgen -W '--speed --lines --program --version --help' -- "$2") ;;
     esac
 }
 
@@ -91,7 +99,7 @@ _tsp_launch() {
     --turns | --wait | -w | --spread) ;;
     --rate) mapfile -t COMPREPLY < <(compgen -W 'learn 0' -- "$2") ;;
     *)
-        mapfile -t COMPREPLY < <(compgen -W '--print --lint --list --firewall --file --self --turns --wait --spread --rate --trace --supervise --output --program --version --help' -- "$2")
+        mapfile -t COMPREPLY < <(compgen -W '--print --lint --list --firewall --wireguard --file --self --turns --wait --spread --rate --trace --supervise --output --program --version --help' -- "$2")
         ;;
     esac
 }
@@ -120,7 +128,7 @@ _tsp_elect() {
 _tsp_watch() {
     case $(_tsp_before "$3"):$2 in
     --prometheus:* | --learn:*) mapfile -t COMPREPLY < <(compgen -f -- "$2") ;;
-    *:-*) mapfile -t COMPREPLY < <(compgen -W '--json --prometheus --learn --version --help' -- "$2") ;;
+    *:-*) mapfile -t COMPREPLY < <(compgen -W '--json --prometheus --learn --own --lines --since --version --help' -- "$2") ;;
     *) mapfile -t COMPREPLY < <(compgen -f -- "$2") ;;
     esac
 }
@@ -160,7 +168,7 @@ _tsp_witness() {
     esac
     case $2 in
     =) mapfile -t COMPREPLY < <(compgen -f) ;;
-    -*) mapfile -t COMPREPLY < <(compgen -W '--check --audit --file --drift --altered --schedule --claims --program --version --help' -- "$2") ;;
+    -*) mapfile -t COMPREPLY < <(compgen -W '--since --ssh --check --audit --file --drift --altered --schedule --claims --program --version --help' -- "$2") ;;
     *)
         compopt -o nospace +o filenames 2>/dev/null
         mapfile -t COMPREPLY < <(compgen -S = -W "$(_tsp_hosts 2)" -- "$2")
@@ -170,6 +178,7 @@ _tsp_witness() {
 
 shopt -s extglob
 complete -F _tsp tsp
+complete -F _tsp_demo tsp-demo
 complete -o filenames -F _tsp_lint tsp-lint
 complete -o filenames -F _tsp_plot tsp-plot
 complete -F _tsp_sim tsp-sim

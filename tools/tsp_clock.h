@@ -109,7 +109,9 @@ typedef struct {
 typedef struct {
     const tsp_page *page;
     const char *path;
-    int64_t tried; /* when it was opened last, in nanoseconds */
+    int64_t tried;   /* when it was opened last, in nanoseconds */
+    tsp_halves kept; /* the last copy of the page, */
+    int is_kept;     /* if there is one, and if a daemon and a supervisor can have written it */
 } tsp_clock;
 
 #define TSP_PAGE_SIZE 4096
@@ -149,11 +151,13 @@ static inline int64_t tsp_width(int64_t drift, int64_t passed)
     return (int64_t)(((uint64_t)drift * (uint64_t)passed + 999999) / 1000000 + 1);
 }
 
-/* By how many microseconds two clocks may have parted since the own counter was so many microseconds back. */
+/* By how many microseconds two clocks may have parted since the own counter was so many microseconds back: twice the width after a width more, or after
+ * two. (what that width adds is mostly less than a microsecond, and then nothing is divided a second time) */
 static inline int64_t tsp_spread(int64_t drift, int64_t passed)
 {
-    int64_t width = tsp_width(drift, passed);
-    return 2 * tsp_width(drift, passed + (passed > TSP_RECKONED ? 2 * width : width));
+    uint64_t parts = (uint64_t)drift * (uint64_t)passed + 999999, width = parts / 1000000 + 1;
+    uint64_t more = parts % 1000000 + (uint64_t)drift * (passed > TSP_RECKONED ? 2 * width : width);
+    return (int64_t)(2 * (more < 1000000 ? width : width + more / 1000000));
 }
 
 /* By how much a number of a page is above the least that it may be, if none is farther from 0 than the most. */
@@ -233,12 +237,12 @@ static inline int tsp_is_stale(const tsp_daemon *d, tsp_time *time)
     return TSP_STALE;
 }
 
-/* The time that a page gives at a nanosecond of the daemon's clock. */
-static inline int tsp_time_of(const tsp_halves *page, int64_t now, tsp_time *time)
+/* The time that a page gives at a nanosecond of the daemon's clock, if a daemon and a supervisor can have written it. */
+static inline int tsp_time_by(const tsp_halves *page, int64_t now, tsp_time *time)
 {
     const tsp_daemon *d = &page->daemon;
     int64_t tick;
-    if (now < 0 || now >> 62 != 0 || !tsp_is_sound(d) || !tsp_is_sound_look(&page->look))
+    if ((uint64_t)now >> 62 != 0)
         return tsp_is_stale(d, time);
     tick = tsp_tick_at(d, now);
     if ((uint64_t)tick > (uint64_t)TSP_LAST_TICK || d->alive > (uint64_t)tick || (uint64_t)tick - d->alive > (uint64_t)TSP_LASTS)
@@ -248,6 +252,12 @@ static inline int tsp_time_of(const tsp_halves *page, int64_t now, tsp_time *tim
     time->role = d->role <= TSP_LEADS ? (int)d->role : TSP_NOBODY;
     time->shown = tsp_shown_at(d, tick);
     return time->status = tsp_interval_of(page, tick, time);
+}
+
+/* The time that any page gives at a nanosecond of the daemon's clock. */
+static inline int tsp_time_of(const tsp_halves *page, int64_t now, tsp_time *time)
+{
+    return tsp_is_sound(&page->daemon) && tsp_is_sound_look(&page->look) ? tsp_time_by(page, now, time) : tsp_is_stale(&page->daemon, time);
 }
 
 /* Copies a field of a page that another process may write meanwhile. */
@@ -319,6 +329,7 @@ static inline void tsp_clock_close(tsp_clock *clock)
     if (clock->page != NULL)
         munmap((void *)(uintptr_t)clock->page, TSP_PAGE_SIZE);
     clock->page = NULL;
+    clock->is_kept = 0;
 }
 
 /* Maps the page at the clock's path; -1, and errno, where there is none. */
@@ -358,17 +369,30 @@ static inline int tsp_clock_open(tsp_clock *clock, const char *path)
     return tsp_clock_map(clock);
 }
 
-/* The time by the page that is mapped. */
-static inline int tsp_clock_look(const tsp_clock *clock, tsp_time *time)
+/* Whether a page still is as it was copied: no writer begins with a sequence that another one had, and each write takes the next. */
+static inline int tsp_is_kept(const tsp_clock *clock)
 {
-    tsp_halves copy, again;
+    return __atomic_load_n(&clock->page->daemon.sequence, __ATOMIC_RELAXED) == clock->kept.daemon.sequence
+        && __atomic_load_n(&clock->page->look.sequence, __ATOMIC_RELAXED) == clock->kept.look.sequence;
+}
+
+/* The time by the page that is mapped, which is copied and looked through only if it was written since the last time. */
+static inline int tsp_clock_look(tsp_clock *clock, tsp_time *time)
+{
     int64_t now;
-    if (clock->page != NULL && tsp_read_once(clock->page, &copy, &now))
-        return tsp_time_of(&copy, now, time);
-    if (clock->page != NULL && tsp_read(clock->page, &again, &now))
-        return tsp_time_of(&again, now, time);
-    memset(time, 0, sizeof *time);
-    return TSP_STALE;
+    if (clock->is_kept) {
+        now = tsp_nanoseconds_by(clock->kept.daemon.counter);
+        __atomic_thread_fence(__ATOMIC_ACQUIRE);
+        if (tsp_is_kept(clock))
+            return tsp_time_by(&clock->kept, now, time);
+    }
+    clock->is_kept = 0;
+    if (clock->page == NULL || !tsp_read(clock->page, &clock->kept, &now)) {
+        memset(time, 0, sizeof *time);
+        return TSP_STALE;
+    }
+    clock->is_kept = tsp_is_sound(&clock->kept.daemon) && tsp_is_sound_look(&clock->kept.look);
+    return clock->is_kept ? tsp_time_by(&clock->kept, now, time) : tsp_is_stale(&clock->kept.daemon, time);
 }
 
 /* The network's time now; its status is given too. */

@@ -79,9 +79,11 @@ class Daemon(NamedTuple):
 
     def shown_at(self, tick):
         """What the daemon's clock shows."""
-        moved = max(tick - self.tick, 0) // SLEW
-        rest = max(self.rest - moved, 0) if self.rest > 0 else min(self.rest + moved, 0)
-        return max(self.target_at(tick) - rest, self.least)
+        return max(self.target_at(tick) - eased(self.rest, max(tick - self.tick, 0)), self.least)
+
+
+# Where no daemon runs.
+NOBODY_WRITES = Daemon(alive=-1)
 
 
 class Look(NamedTuple):
@@ -128,6 +130,12 @@ class Now(NamedTuple):
     steps: int = 0
     role: int = NOBODY
     master: str = ''
+
+
+def eased(rest, passed):
+    """What is still to be slewed after so many ticks, of so much."""
+    moved = passed // SLEW
+    return max(rest - moved, 0) if rest > 0 else min(rest + moved, 0)
 
 
 def width(drift, passed):
@@ -179,7 +187,7 @@ def read_once(octets_at):
     now = time.clock_gettime_ns(MONOTONIC if daemon.counter == MONOTONIC else RAW)
     if sequences() != before or any(number % 2 for number in before):
         return None
-    return Page(daemon if before[0] else Daemon(), look), now
+    return Page(daemon if before[0] else NOBODY_WRITES, look), now
 
 
 def read(octets_at):

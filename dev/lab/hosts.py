@@ -33,11 +33,12 @@ class Unlike(Failed):
 
 class Daemon:
     """A host: its name, whether it may be master, how many microseconds its wall clock is ahead, and by how many parts in a million
-    its clock is fast; its daemon counts faster than that by `rate` parts in 10^9; `step` says when the wall clock is set, and by how much; `addresses` are those that it has, by network."""
+    its clock is fast; its daemon counts faster than that by `rate` parts in 10^9; `step` says when the wall clock is set, and by how much; `slew` by how many parts in a million
+    its clocks but the raw one are slewed, from when on and how long, in nanoseconds; `addresses` are those that it has, by network."""
 
     def __init__(self, name, role, ahead=0, drift=0, spoils=None, rate=0):
         self.name, self.role, self.ahead, self.drift, self.spoils, self.rate = name, role, ahead, drift, spoils, rate
-        self.step, self.addresses, self.local = (0, 0), {}, None
+        self.step, self.slew, self.addresses, self.local = (0, 0), (0, 0, 0), {}, None
         self.process, self.trace = None, []
 
     @property

@@ -1,4 +1,4 @@
-"""Hosts that learn the rates of their counters from each other: a model of their rounds, and of what they keep over their restarts.
+"""Hosts that learn the rates of their counters from each other: a model of their rounds, in which rates act at once, and of what they keep over restarts.
 
 Times are microseconds, and rates parts in 10^9.
 """
@@ -23,7 +23,7 @@ class Host:
     def __init__(self, fast):
         self.fast, self.ahead, self.learning = fast, 0.0, Learning()
         self.since = self.silent_until = 0
-        self.is_new = True
+        self.is_new, self.is_steady = True, False
 
     @property
     def rate(self):
@@ -33,16 +33,30 @@ class Host:
     def start(self, now, ahead):
         """Its daemon starts, with what it has learned."""
         self.learning.begin(self.learning.kept.rate if self.learning.kept else 0)
-        self.ahead, self.since, self.silent_until, self.is_new = ahead, now, now + QUIET, True
+        self.ahead, self.since, self.silent_until, self.is_new, self.is_steady = ahead, now, now + QUIET, True, False
+
+    def tick(self, now):
+        """How far its daemon has counted, but for what its rate does."""
+        return int((now - self.since) * (1 + self.fast / BILLION))
 
     def tell(self, now, kind, **values):
         """Its trace tells something, from which it learns."""
-        self.learning.change(Change(int((now - self.since) * (1 + self.rate / BILLION)), 0, kind, values))
+        self.learning.change(Change(self.tick(now), 0, kind, values))
 
     def correct(self, now, amount, way='slew'):
-        """Its clock is corrected."""
+        """Its clock is corrected, and its daemon takes the rate that it learns of that."""
         self.ahead += amount
         self.tell(now, 'correction', amount_us=amount, way=way, shown_us=0)
+        if self.learning.wanted is not None:
+            self.learning.applies(self.tick(now), self.learning.wanted)
+
+
+class Round(NamedTuple):
+    """A round: when it was, how far the two counters are apart after it that are so the most, and how far the two clocks were before it, of those that the
+    round before corrected, too."""
+    at: int
+    counters: float
+    clocks: float
 
 
 class Restart(NamedTuple):
@@ -75,7 +89,8 @@ class Network:
     def __init__(self, count, most, jitter, seed):
         self.chance, self.jitter = random.Random(f'{seed} {count}'), jitter
         self.hosts = [Host(self.chance.uniform(-most, most)) for _ in range(count)]
-        self.now, self.master, self.next_round, self.restarts, self.course = 0, None, 0, [], []
+        self.now, self.master, self.next_round, self.restarts, self.course, self.rounds = 0, None, 0, [], [], []
+        self.first = self.apart()
         for number in range(count):
             self.start(number)
 
@@ -119,6 +134,7 @@ class Network:
         """A round: each clock that was measured is corrected to the mean of those that agree."""
         master = self.hosts[self.master]
         slaves = [host for host in self.hosts if host is not master and host.silent_until < self.now]
+        steady = [host.ahead for host in (master, *slaves) if host.is_steady] or [0]
         for host in slaves:
             if host.is_new:
                 host.is_new = False
@@ -130,6 +146,8 @@ class Network:
         master.tell(self.now, 'round', clocks=len(group), width_us=group[-1] - group[0], mean_us=mean)
         for host in (master, *slaves):
             host.correct(self.now, mean - offsets.get(host, 0))
+            host.is_steady = True
+        self.rounds.append(Round(self.now, self.apart(), max(steady) - min(steady)))
         self.course.append(mean_of([host.rate for host in (master, *slaves) if group[0] <= offsets.get(host, 0) <= group[-1]]))
         self.next_round = self.now + ROUND
 

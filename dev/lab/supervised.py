@@ -15,11 +15,12 @@ import tsp_clock  # noqa: E402
 
 
 class Supervised(Namespaces):
-    """Hosts whose daemons run under tsp-launch, which writes a page for each. `drift` is what readers are told of all clocks."""
+    """Hosts whose daemons run under tsp-launch, which writes a page for each. `drift` is what readers are told of all clocks, `counter` the clock that
+    daemons count by, as TSP_COUNTER has it; `learns` says whether supervisors learn its rate."""
 
-    def __init__(self, drift, *rest, **more):
+    def __init__(self, drift, *rest, counter='raw', learns=False, **more):
         super().__init__(*rest, **more)
-        self.drift, self.began = drift, {}
+        self.drift, self.counter, self.learns, self.began = drift, counter, learns, {}
         # (in whole microseconds, in which daemons count)
         self.begun -= self.begun % 1000
         # (the daemon reads both of its clocks at one moment, so that the lab knows its first reading)
@@ -33,6 +34,11 @@ class Supervised(Namespaces):
         """The path of a host's page."""
         return os.path.join(self.folder, f'{daemon.name}.page')
 
+    @staticmethod
+    def slewed(daemon):
+        """What fast time is told of how a host's clocks are slewed."""
+        return dict(zip(('slew', 'slews', 'slewn'), daemon.slew)) if daemon.slew[0] else {}
+
     def now(self, daemon):
         """The network's time on a host, by its page and its own clock. (this process isn't in fast time)"""
         found, passed = tsp_clock.Clock(self.page(daemon)).read(), (time.monotonic_ns() - self.begun) * self.rate
@@ -43,8 +49,12 @@ class Supervised(Namespaces):
         self.starts += 1
         path = os.path.join(self.folder, f'{daemon.name}-{self.starts}.trace')
         at, step = daemon.step
-        environment = self.environment(daemon.ahead, drift=daemon.drift, at=at * 1000, step=step * 1000)
+        environment = self.environment(daemon.ahead, drift=daemon.drift, at=at * 1000, step=step * 1000, **self.slewed(daemon))
         environment.update(TSP_CLOCK=self.page(daemon), TSP_DRIFT=str(self.drift), TSP_SPREAD='0', TSP_RATE=str(daemon.rate), TSP_PROGRAM=self.held)
+        if self.learns:
+            environment.update(TSP_RATE='learn', TSP_LEARN=os.path.join(self.folder, f'{daemon.name}.rate'))
+        if self.counter != 'raw':
+            environment['TSP_COUNTER'] = self.counter
         command = [*self.at(daemon.name), LAUNCH, '-f', self.hosts, '-s', daemon.name, '--supervise', '--trace']
         with open(path, 'wb') as trace:
             daemon.process = subprocess.Popen(command, stdout=trace, stderr=subprocess.STDOUT, env=environment)

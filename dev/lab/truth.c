@@ -1,13 +1,14 @@
 /* Reads the pages of a lab's hosts side by side, and compares what they give with what the lab knows: `truth FROM RATE SECONDS HOST..`
  *
- * HOST is PAGE,WALL,STEP,DRIFT,RATE,NAME: a page, what the host's wall clock showed when fast time began, in microseconds since 1970, by how many it is
- * set at some time, by how many parts in a million its clocks are fast, by how many in 10^9 its daemon counts faster than they, and the master's name
- * in pages. Fast time is that of fastclock.c.
+ * HOST is PAGE,WALL,STEP,DRIFT,SLEW,SLEWS,SLEWN,COUNTED,NAME: a page, what the host's wall clock showed when fast time began, in microseconds since 1970, by
+ * how many it is set at some time, by how many parts in a million its clocks are fast, by how many in a million all but its raw clock are slewed, from which
+ * nanosecond of the host's time on and for how many, whether its daemon counts by a slewed one, and the master's name in pages. Fast time is that of
+ * tsp_fast.c. A life begins at tick 0 at the moment that its wall clock tells; from then on each of its rates counts from where the last one had come to.
  *
  * Each sample is judged a while after it was read, when all is known of the corrections before it. It writes a line for each host: its name, how many
  * readings it gave with an interval, how many of these had the master's clock outside, how many were between a correction of the master and the
- * next look at it (of a host that leads: until it has written that) and aren't judged, how long that took at most, how often a shown value fell, and the widths of the interval at the
- * median and at 99 in 100; all times are microseconds.
+ * next look at it (of a host that leads: until it has written that) and aren't judged, how long that took at most, how often a shown value fell, the widths of
+ * the interval at the median and at 99 in 100, and how often a rate changed; all times are microseconds.
  */
 #define _POSIX_C_SOURCE 200809L
 #include "tsp_clock.h"
@@ -32,12 +33,19 @@ typedef struct {
     int64_t tick, target;
 } segment;
 
+/* A rate of a daemon in parts in 10^9, from a tick on, which was at a microsecond of its own clock. */
+typedef struct {
+    int64_t at, tick, rate;
+} pace;
+
 typedef struct {
     const char *path, *name;
-    int64_t wall, step, drift, rate, first; /* when the daemon's tick was 0, in microseconds of its own clock, as the lab knows */
+    int64_t wall, step, drift, slew, slew_from, slew_for, is_slewed;
     tsp_clock clock;
     segment segments[KEPT];
-    int count;
+    pace paces[KEPT];
+    int count, paced;
+    long rates; /* how often the rate changed in a life */
     uint64_t life, steps;
     int64_t shown;
     long readings, outside, between, falls;
@@ -63,49 +71,123 @@ static void over(int number)
     is_over = 1;
 }
 
-/* A host's raw clock in nanoseconds, at a nanosecond of the machine's monotonic one. */
+/* So many parts in a million of a time. */
+static int64_t parts_of(int64_t time, int64_t parts)
+{
+    return time / MILLION * parts + time % MILLION * parts / MILLION;
+}
+
+/* What a host's slewed clocks show when its raw one has moved on by so many nanoseconds, in nanoseconds since fast time began. */
+static int64_t slewed(const host *h, int64_t passed)
+{
+    int64_t since = passed - h->slew_from;
+    return since <= 0 ? passed : passed + parts_of(since < h->slew_for ? since : h->slew_for, h->slew);
+}
+
+/* By how many nanoseconds a host's raw clock has moved on when its slewed ones show this. */
+static int64_t unslewed(const host *h, int64_t shown)
+{
+    int64_t since = shown - h->slew_from, most = parts_of(h->slew_for, h->slew);
+    if (since <= 0)
+        return shown;
+    if (since >= h->slew_for + most)
+        return shown - most;
+    return h->slew_from + (int64_t)((long double)since * MILLION / (MILLION + h->slew));
+}
+
+/* The clock that a host's daemon counts by in nanoseconds, at a nanosecond of the machine's monotonic one. */
 static int64_t own_time(const host *h, int64_t at)
 {
     int64_t passed = (at - from) * rate;
-    return passed + passed / MILLION * h->drift + passed % MILLION * h->drift / MILLION + from;
+    passed += parts_of(passed, h->drift);
+    return (h->is_slewed ? slewed(h, passed) : passed) + from;
 }
 
-/* The machine's nanosecond at one of a host's raw clock. */
+/* The machine's nanosecond at one of the clock that a host's daemon counts by. */
 static int64_t machine_time(const host *h, int64_t own)
 {
-    return from + (int64_t)((double)(own - from) * MILLION / (MILLION + (double)h->drift) / (double)rate);
+    int64_t passed = h->is_slewed ? unslewed(h, own - from) : own - from;
+    return from + (int64_t)((double)passed * MILLION / (MILLION + (double)h->drift) / (double)rate);
 }
 
-/* How far a daemon has counted when its own clock has moved on by so many microseconds; it rounds down. */
-static int64_t ticks_of(const host *h, int64_t passed)
+/* What a daemon counts at a rate while its own clock moves on by so many microseconds; it rounds down. */
+static int64_t counted(int64_t passed, int64_t parts)
 {
-    return passed + tsp_floor(passed % BILLION * h->rate, BILLION) + passed / BILLION * h->rate;
+    return passed + tsp_floor(passed % BILLION * parts, BILLION) + passed / BILLION * parts;
 }
 
-/* After how many microseconds of its own clock a daemon has counted so many. */
-static int64_t passed_at(const host *h, int64_t tick)
+/* The rate with which a daemon counted at a microsecond of its own clock; at one before all that are known, the first one. */
+static const pace *pace_at(const host *h, int64_t at)
 {
-    int64_t passed = (int64_t)((long double)tick * BILLION / (BILLION + h->rate));
-    while (ticks_of(h, passed) < tick)
+    int number = h->paced - 1, first = h->paced > KEPT ? h->paced - KEPT : 0;
+    while (number > first && h->paces[number % KEPT].at > at)
+        number--;
+    return &h->paces[number % KEPT];
+}
+
+/* How far a daemon has counted at a microsecond of its own clock. */
+static int64_t tick_at(const host *h, int64_t at)
+{
+    const pace *p = pace_at(h, at);
+    return p->tick + counted(at - p->at, p->rate);
+}
+
+/* At which microsecond of its own clock a daemon had counted so far. */
+static int64_t counted_at(const host *h, int64_t tick)
+{
+    int number = h->paced - 1, first = h->paced > KEPT ? h->paced - KEPT : 0;
+    const pace *p;
+    int64_t passed;
+    while (number > first && h->paces[number % KEPT].tick > tick)
+        number--;
+    p = &h->paces[number % KEPT];
+    passed = (int64_t)((long double)(tick - p->tick) * BILLION / (BILLION + p->rate));
+    while (counted(passed, p->rate) < tick - p->tick)
         passed++;
-    return passed;
+    return p->at + passed;
 }
 
-/* When a daemon's tick was 0, by the first page of its life: its wall clock was set before that, or wasn't; the page's origin is much nearer to one. */
+/* When a daemon's tick was 0, if its wall clock was ahead by so much then. */
+static int64_t first_by(const host *h, const tsp_daemon *d, int64_t wall)
+{
+    int64_t passed = (d->target - (int64_t)d->tick - wall) * THOUSAND;
+    return ((h->is_slewed ? passed : unslewed(h, passed)) + from) / THOUSAND;
+}
+
+/* The same, by the first page of its life: its wall clock was set before that, or wasn't; the page's origin is much nearer to one. */
 static int64_t first_of(const host *h, const tsp_daemon *d)
 {
-    int64_t plain = d->target - (int64_t)d->tick - h->wall + from / THOUSAND, set = plain - h->step;
+    int64_t plain = first_by(h, d, h->wall), set = first_by(h, d, h->wall + h->step);
     return llabs(plain - d->origin / THOUSAND) <= llabs(set - d->origin / THOUSAND) ? plain : set;
+}
+
+/* Notes from when on a daemon counts with a rate. */
+static void note_pace(host *h, int64_t at, int64_t tick, int64_t parts)
+{
+    h->paces[h->paced % KEPT] = (pace){at, tick, parts};
+    h->paced++;
+}
+
+/* Notes the rate of a daemon, where its life begins or the rate is another one. */
+static void note_rate(host *h, const tsp_daemon *d, int is_new)
+{
+    int64_t tick = (int64_t)d->origin_tick;
+    if (is_new && d->moved == 0 && d->steps == 0 && tick == 0) {
+        h->paced = 0;
+        note_pace(h, first_of(h, d), 0, d->rate);
+    } else if (h->paced > 0 && h->paces[(h->paced - 1) % KEPT].tick < tick) {
+        note_pace(h, counted_at(h, tick), tick, d->rate);
+        h->rates++;
+    }
 }
 
 /* Notes a daemon's clock that differs from the last one of its host. */
 static void note(host *h, const tsp_daemon *d)
 {
     segment *last = h->count > 0 ? &h->segments[(h->count - 1) % KEPT] : NULL;
+    note_rate(h, d, last == NULL || last->life != d->life);
     if (last != NULL && last->life == d->life && last->tick == (int64_t)d->tick && last->target == d->target)
         return;
-    if (d->moved == 0 && d->steps == 0)
-        h->first = first_of(h, d);
     h->segments[h->count % KEPT] = (segment){d->life, (int64_t)d->tick, d->target};
     h->count++;
 }
@@ -113,8 +195,11 @@ static void note(host *h, const tsp_daemon *d)
 /* A host's target at a moment, when that was corrected last, and at which tick; 0 where it isn't known. */
 static int truth(const host *h, int64_t at, int64_t *target, int64_t *corrected, int64_t *changed)
 {
-    int64_t tick = ticks_of(h, tsp_floor(own_time(h, at), THOUSAND) - h->first);
+    int64_t tick;
     int number;
+    if (h->paced == 0)
+        return 0;
+    tick = tick_at(h, tsp_floor(own_time(h, at), THOUSAND));
     for (number = h->count - 1; number >= 0 && number > h->count - KEPT; number--) {
         const segment *s = &h->segments[number % KEPT];
         if (s->life != h->segments[(h->count - 1) % KEPT].life)
@@ -122,7 +207,7 @@ static int truth(const host *h, int64_t at, int64_t *target, int64_t *corrected,
         if (s->tick <= tick) {
             *target = s->target + tick - s->tick;
             *changed = s->tick;
-            *corrected = machine_time(h, (passed_at(h, s->tick) + h->first) * THOUSAND);
+            *corrected = machine_time(h, counted_at(h, s->tick) * THOUSAND);
             return 1;
         }
     }
@@ -254,7 +339,10 @@ int main(int count, char **words)
         h->wall = atoll(strtok(NULL, ","));
         h->step = atoll(strtok(NULL, ","));
         h->drift = atoll(strtok(NULL, ","));
-        h->rate = atoll(strtok(NULL, ","));
+        h->slew = atoll(strtok(NULL, ","));
+        h->slew_from = atoll(strtok(NULL, ","));
+        h->slew_for = atoll(strtok(NULL, ","));
+        h->is_slewed = atoll(strtok(NULL, ","));
         h->name = strtok(NULL, ",");
         h->widths = calloc(WIDEST, sizeof *h->widths);
         if (h->widths == NULL)
@@ -264,7 +352,8 @@ int main(int count, char **words)
     run(tsp_nanoseconds() + atoll(words[3]) * INT64_C(1000000000));
     for (number = 0; number < hosts_count; number++) {
         const host *h = &hosts[number];
-        printf("%s %ld %ld %ld %lld %ld %ld %ld\n", h->name, h->readings, h->outside, h->between, (long long)h->longest, h->falls, width_at(h, 50), width_at(h, 99));
+        printf("%s %ld %ld %ld %lld %ld %ld %ld %ld\n", h->name, h->readings, h->outside, h->between, (long long)h->longest, h->falls, width_at(h, 50),
+               width_at(h, 99), h->rates);
     }
     return 0;
 }

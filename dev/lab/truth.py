@@ -15,7 +15,8 @@ class Truth:
         words = ['cc', '-std=c99', '-O2', '-Wall', '-I', TOOLS, '-o', path, os.path.join(HERE, 'truth.c')]
         if shutil.which('cc') is None or subprocess.run(words, check=False).returncode:
             raise OSError('there is no cc that makes the readers')
-        hosts = [f'{lab.page(daemon)},{start + daemon.ahead},{daemon.step[1]},{daemon.drift},{daemon.rate},{daemon.name}' for daemon in lab.daemons]
+        hosts = [','.join(map(str, (lab.page(daemon), start + daemon.ahead, daemon.step[1], daemon.drift, *daemon.slew, int(lab.counter != 'raw'), daemon.name)))
+                 for daemon in lab.daemons]
         self.process = subprocess.Popen([path, str(lab.begun), str(lab.rate), str(seconds // lab.rate + 60), *hosts], stdout=subprocess.PIPE)
 
     def end(self):

@@ -17,9 +17,10 @@ sys.dont_write_bytecode = True
 sys.path[:0] = TOOLS, HERE
 import tsp_clock  # noqa: E402
 from tsp_clock import DAEMON_AT, DAEMON_FIELDS, LOOK_AT, LOOK_FIELDS, SEQUENCE, SIZE, Daemon, Look, Page  # noqa: E402
-from tsp_daemon import page as pages, trace  # noqa: E402
-from tsp_daemon.keeper import Keeper, Listener  # noqa: E402
-from tsp_daemon.page import NoPage, PageFile, Taken  # noqa: E402
+from tsp_daemon import trace  # noqa: E402
+from tsp_supervise import page as pages  # noqa: E402
+from tsp_supervise.keeper import Keeper, Listener  # noqa: E402
+from tsp_supervise.page import NoPage, PageFile, Taken  # noqa: E402
 from tsp_witness.datagram import octets_of  # noqa: E402
 import made_page  # noqa: E402
 
@@ -257,11 +258,16 @@ class Still:
         return lambda *_: 0
 
 
-class Asked:
-    """Questions that are answered at once, by a master whose clock is ahead by so much, and whom it names."""
+# The port of the master that is asked.
+MASTER = 10
 
-    def __init__(self, page, ahead, names):
-        self.page, self.ahead, self.names, self.between, self.other = page, ahead, names, None, ()
+
+class Asked:
+    """Questions that are answered at once, by a master whose clock is ahead by so much, and whom it names; and by others who are ahead by so much, or don't
+    answer."""
+
+    def __init__(self, page, ahead, names, others=None):
+        self.page, self.ahead, self.names, self.others, self.between, self.other = page, ahead, names, others, None, ()
 
     @staticmethod
     def now():
@@ -270,10 +276,14 @@ class Asked:
     def stop(self):
         pass
 
-    def ask(self, _, heard):
+    def ask(self, address, heard):
+        ahead = self.ahead if address[1] == MASTER else self.others
+        if ahead is None:
+            heard()
+            return
         daemon = self.page.page().daemon
         sent = self.now()
-        reading = daemon.target_at(daemon.tick_at(self.now())) + self.ahead
+        reading = daemon.target_at(daemon.tick_at(self.now())) + ahead
         heard(reading, sent, self.now())
 
     def ask_master(self, address, heard):
@@ -293,7 +303,7 @@ def looks():
     told = []
     listener = Listener()
     listener.other_leads = lambda *names: told.append(names)
-    keeper = Keeper(Still(), page, [[('127.0.0.1', 9), ('127.0.0.1', 10)], [('127.0.0.1', 9)]], ['a', 'b', 'c', 'd'], 50, listener)
+    keeper = Keeper(Still(), page, [[('127.0.0.1', 9), ('127.0.0.1', MASTER)], [('127.0.0.1', 9)]], ['a', 'b', 'c', 'd'], 50, listener)
     follows = made_page.following(10 ** 15, 2)
     ahead = 5000
 
@@ -332,6 +342,32 @@ def looks():
     wanted(abs(after.latest - before.latest) < 10 ** 6 and after.status == tsp_clock.SYNCHRONISED, f'a correction makes {after} of {before}')
     leads = seen((), daemon=follows.daemon._replace(role=tsp_clock.LEADS, master=0))
     wanted((leads.had, leads.low, leads.high, leads.master, leads.name.rstrip(b'\0')) == (1, 0, 0, 0, b'a'), f'a leader\'s look is {leads}')
+    page.close()
+
+
+def stood_still():
+    """A master that is ahead at once, by far more than drift explains and for two looks, tells that this machine stood still, unless other hosts aren't ahead,
+    or the daemon was corrected in between."""
+    path, told = os.path.join(FOLDER, 'stood'), []
+    page, listener = PageFile(path), Listener()
+    listener.stood_still = told.append
+    follows = made_page.following(10 ** 15, 2).daemon
+    peers, names = [('127.0.0.1', 9), ('127.0.0.1', MASTER), ('127.0.0.1', 11)], ['a', 'b', 'c', 'd']
+    other_moved = follows._replace(moved=follows.moved + 1)
+    # (by how much the master is ahead at each look, and by how much the others then are; the daemon then; and whether it stood still)
+    for aheads, others, daemon, wants in (
+            ((0, 5_000_000, 5_000_000), 5_000_000, follows, True), ((0, 5_000_000, 5_000_000), None, follows, True),
+            ((0, 5_000_000, 5_000_000), 0, follows, False), ((0, 5_000_000), 5_000_000, follows, False),
+            ((0, 5_000_000, 0, 5_000_000), 5_000_000, follows, False), ((0, 5_000_000, 5_000_000), 5_000_000, other_moved, False),
+            ((0, -5_000_000, -5_000_000), -5_000_000, follows, False), ((0, 400_000, 900_000), 5_000_000, follows, False),
+            ((5_000_000, 5_000_000, 5_000_000), 5_000_000, follows, False)):
+        told.clear()
+        keeper = Keeper(Still(), page, [peers], names, 50, listener)
+        for number, ahead in enumerate(aheads):
+            made_page.change(path, daemon=daemon if number else follows)
+            keeper.stamps = Asked(page, ahead, ('c',), others)
+            keeper.look()
+        wanted(bool(told) == wants and all(4.9 < seconds < 5 for seconds in told), f'where the master is ahead by {aheads} and others by {others} it tells {told}')
     page.close()
 
 
@@ -401,6 +437,7 @@ def main():
     compared, found = formula(), in_c()
     reckoned()
     looks()
+    stood_still()
     files()
     print(f'{compared} moments as in replay, {found} pages in C as in Python, {torn()}')
 

@@ -20,11 +20,13 @@ sed -n '/^#include <tsp_clock.h>/,/^ *printf/p' README.md >"$out/shown"
 { printf '#include <stdio.h>\n'; sed -n 1p "$out/shown"; printf 'int main(void)\n{\n'; sed 1d "$out/shown"; printf 'return 0;\n}\n'; } >"$out/readme.c"
 # (man's example escapes its backslashes)
 sed -n '/^#define _POSIX_C_SOURCE/,/^}/p' man/tsp_clock.3 | sed 's/\\\\/\\/g' >"$out/page.c"
-for shown in readme page; do
+sed -n '/^#define _POSIX_C_SOURCE/,/^}/p' docs/PROGRAMS.md >"$out/programs.c"
+for shown in readme page programs; do
     # shellcheck disable=SC2086
     cc -std=gnu99 $flags -o "$out/$shown" "$out/$shown.c" || fail "what $shown shows is no program"
 done
 sed -n '/^import tsp_clock/,/^ *print/p' README.md >"$out/readme.py"
+sed -n '/^import tsp_clock/,/^ *print/p' docs/PROGRAMS.md >"$out/programs.py"
 [ "$(wc -l <"$out/shown") $(wc -l <"$out/readme.py")" = '4 4' ] || fail 'the README shows no four lines'
 # Writes a page, as tools/tests/made_page.py makes it.
 made() {
@@ -39,7 +41,7 @@ for leads in 2 1; do
     2) made 'made_page.leading(10 ** 15)' ;;
     *) made 'tsp_clock.Page(made_page.counting(10 ** 15))' ;;
     esac
-    for command in "$out/readme" 'python3 -B '"$out/readme.py" "$out/page"; do
+    for command in "$out/readme" 'python3 -B '"$out/readme.py" "$out/page" "$out/programs" 'python3 -B '"$out/programs.py"; do
         TSP_CLOCK="$out/led" PYTHONPATH=tools $command >"$out/said" || [ "$leads" -eq 1 ] || fail "'$command' fails"
         [ "$(grep -cE '^1[0-9]{15} to 1[0-9]{15}( us)?$' "$out/said")" -eq "$((leads - 1))" ] || fail "'$command' says $(cat "$out/said")"
     done
@@ -49,12 +51,28 @@ made 'made_page.following(10 ** 15, width=150000)'
 for longest in 9223372036854775807:1 9223372036854775:1 9223372036854776:1 4611686018427387:1 10000000:1 0:0 -1:0 -9223372036854775808:0; do
     "$out/reader" after "$out/led" "${longest%:*}" >"$out/said" && [ "$(cat "$out/said")" = "${longest#*:}" ] || fail "a wait for ${longest%:*} us says $(cat "$out/said")"
 done
+# Where no daemon runs the status is 0, also on a machine that has been up for less than a page lasts.
+made 'made_page.leading(10 ** 15)'
+python3 -B - "$out/led" >"$out/said" <<'END'
+import sys
+import time
+sys.path[:0] = 'tools', 'tools/tests'
+import made_page
+import tsp_clock
+made_page.end(sys.argv[1])
+time.clock_gettime_ns = lambda _: 5 * 10 ** 9
+print(tsp_clock.Clock(sys.argv[1]).now().status)
+END
+[ "$(cat "$out/said")" = 0 ] || fail "a machine that has just come up, without a daemon, has the status $(cat "$out/said")"
+# What was kept of a read is used only as long as nobody has written the page since.
+made 'made_page.following(10 ** 15, rest=1000000)'
+"$out/reader" kept "$out/led" 100000 >"$out/said" && [ "$(cat "$out/said")" = 100000 ] || fail "a read by what was kept: $(cat "$out/said")"
 # If there is no room for a page there is none, and the system ends neither its writer nor its readers.
 cat >"$out/roomless" <<'END'
 import sys
 sys.path.insert(0, 'tools')
 import tsp_clock
-from tsp_daemon.page import PageFile
+from tsp_supervise.page import PageFile
 for made in PageFile, tsp_clock.Clock:
     try:
         made(sys.argv[1])

@@ -5,6 +5,8 @@
  *          of as many reads that don't look at the locks
  *   now    reads the page once, and writes its status and the microseconds that this took
  *   after  waits for so many microseconds until each later time is after the latest that it is now, and writes whether it is
+ *   kept   changes a copy of the page so often, and reads it with and without what was kept of the read before; writes how often both were the same, and
+ *          fails at the first that aren't
  *   cost   writes the nanoseconds that a read takes, those of clock_gettime right after it, and how many times as long the read takes: each at
  *          the median of many rounds of COUNT
  */
@@ -82,6 +84,52 @@ static int after(tsp_clock *clock, int64_t longest)
     return 0;
 }
 
+/* Changes a half as its writer does, in a field that readers tell of; nothing at each third time. */
+static void change(tsp_page *page, long number)
+{
+    if (number % 3 == 0) {
+        page->daemon.sequence += 2;
+        page->daemon.steps++;
+        page->daemon.target += number % 2000 - 1000;
+    } else if (number % 3 == 1) {
+        page->look.sequence += 2;
+        page->look.low -= number % 7;
+        page->look.had = number % 5 != 0;
+    }
+}
+
+/* Reads a page as if it were for the first time. */
+static void read_anew(const tsp_clock *clock, tsp_time *time)
+{
+    tsp_clock fresh = *clock;
+    fresh.is_kept = 0;
+    tsp_clock_look(&fresh, time);
+}
+
+static int kept(const tsp_clock *opened, long count)
+{
+    tsp_page page = *opened->page;
+    tsp_clock clock = *opened;
+    long number;
+    clock.page = &page;
+    for (number = 0; number < count; number++) {
+        tsp_time before, between, later;
+        change(&page, number);
+        read_anew(&clock, &before);
+        tsp_clock_look(&clock, &between);
+        read_anew(&clock, &later);
+        if (between.status != later.status || between.life != later.life || between.steps != later.steps || between.role != later.role
+            || between.shown < before.shown || between.shown > later.shown || between.latest < before.latest || between.latest > later.latest
+            || between.age < before.age || between.age > later.age || !clock.is_kept) {
+            printf("read %ld: status %d, steps %llu, shown %lld, and anew %d, %llu, %lld\n", number, between.status, (unsigned long long)between.steps,
+                   (long long)between.shown, later.status, (unsigned long long)later.steps, (long long)later.shown);
+            return 1;
+        }
+    }
+    printf("%ld\n", number);
+    return 0;
+}
+
 static int by_size(const void *a, const void *b)
 {
     double first = *(const double *)a, second = *(const double *)b;
@@ -135,5 +183,7 @@ int main(int count, char **words)
         return torn(&clock, (long)number);
     if (strcmp(words[1], "after") == 0)
         return after(&clock, number);
+    if (strcmp(words[1], "kept") == 0)
+        return kept(&clock, (long)number);
     return strcmp(words[1], "cost") == 0 ? cost(&clock, (long)number) : now(&clock);
 }

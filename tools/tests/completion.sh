@@ -69,7 +69,7 @@ wants ' ' tsp-launch -s ''
 complete_words tsp '' | cmp -s - "$out/commands" || fail 'the commands are others than those of tsp --help'
 
 # The options are those of each tool's help.
-for tool in tsp-lint tsp-plot tsp-sim tsp-launch tsp-status tsp-elect tsp-watch tsp-now tsp-feed tsp-run tsp-witness; do
+for tool in tsp-demo tsp-lint tsp-plot tsp-sim tsp-launch tsp-status tsp-elect tsp-watch tsp-now tsp-feed tsp-run tsp-witness; do
     # (nobody is to set a date by the tabulator)
     "tools/$tool" --help | grep -o -e '--[a-z][a-z-]*' | grep -v -x -e --set | sort -u >"$out/options"
     complete_words "$tool" -- >"$out/completed"
@@ -140,7 +140,7 @@ wants_in_fish() {
     [ "$found" = "$1" ] || fail "'$2' is completed by '$found' in fish"
 }
 if has fish; then
-    for tool in tsp-lint tsp-plot tsp-sim tsp-launch tsp-status tsp-elect tsp-watch tsp-now tsp-feed tsp-run tsp-witness; do
+    for tool in tsp-demo tsp-lint tsp-plot tsp-sim tsp-launch tsp-status tsp-elect tsp-watch tsp-now tsp-feed tsp-run tsp-witness; do
         "tools/$tool" --help | grep -o -e '--[a-z][a-z-]*' | grep -v -x -e --set | sort -u >"$out/options"
         complete_in_fish "$tool --" >"$out/completed"
         cmp -s "$out/options" "$out/completed" || fail "the options in fish are others than those of $tool --help"

@@ -32,7 +32,7 @@ awk -F , 'NR > 1 && ($4 < -1000 || $4 > 1000 || $5 <= 0) { exit 1 }' "$out/said"
 
 # The trace is that of a node, and says what was asked.
 ! grep -v '^[1-9][0-9]* 0 0 [0-9]* [a-z]' "$out/a.trace" || fail 'that is no line of a trace'
-grep -q ' took - traceon [0-9]* timedc$' "$out/a.trace" || fail 'the question for the trace is not traced'
+grep -q ' took - traceon [0-9]* tsp-launch$' "$out/a.trace" || fail 'the question for the trace is not traced'
 grep -q ' post [0-9]* - ack [0-9]* a$' "$out/a.trace" || fail 'its answer is not traced'
 grep -q 'in the trace peer 0 is b, 1 a, 2 c' "$out/b.log" || fail 'the peers are not named'
 "$program" trace "127.0.0.1:$one" off >"$out/said" || fail 'the trace is not switched off'
@@ -55,22 +55,25 @@ echo "d 127.0.0.1:$four slave" >"$out/fourth"
 tools/tsp-launch -f "$out/fourth" -s d --turns 1 >"$out/said" 2>"$out/told" || fail "a daemon whose turns are done ends with status $?"
 [ ! -s "$out/said" ] || fail 'a daemon that does not trace writes something'
 
-# A daemon that is supervised ends with 0.
-tools/tsp-launch --supervise -f "$out/fourth" -s d >"$out/said" 2>"$out/told" &
-supervised=$!
-tries=0
-until tools/tsp-now --offset --timeout 1 -f "$out/fourth" d >"$out/said" 2>/dev/null; do
-    tries=$((tries + 1))
-    [ "$tries" -lt 10 ] || fail "a supervised daemon doesn't answer: $(cat "$out/told")"
+# A daemon that is supervised ends with 0, and one by itself as a program that is told to end.
+for case in '0 --supervise' '143'; do
+    # shellcheck disable=SC2086  # words
+    tools/tsp-launch ${case#"${case%% *}"} -f "$out/fourth" -s d >"$out/said" 2>"$out/told" &
+    alone=$!
+    tries=0
+    until tools/tsp-now --offset --timeout 1 -f "$out/fourth" d >"$out/asked" 2>/dev/null; do
+        tries=$((tries + 1))
+        [ "$tries" -lt 10 ] || fail "a daemon doesn't answer: $(cat "$out/told")"
+    done
+    kill "$alone"
+    status=0
+    wait "$alone" 2>/dev/null || status=$?
+    [ "$status" -eq "${case%% *}" ] || fail "a daemon that is told to end ends with status $status, and not with ${case%% *}"
 done
-kill "$supervised"
-wait "$supervised" || fail "a supervised daemon that is told to end ends with status $?"
 
-# One that is told to end does, and is then silent.
+# One whose trace goes into a file does, and is then silent.
 kill "$first"
-status=0
-wait "$first" 2>/dev/null || status=$?
-[ "$status" -eq 143 ] || fail "a daemon that is told to end ends with status $status"
+wait "$first" || fail "a daemon that traces, and is told to end, ends with status $?"
 status=0
 tools/tsp-status -t 1 -f "$out/hosts" >"$out/said" 2>"$out/told" || status=$?
 [ "$status" -eq 1 ] && [ "$(paste -sd , "$out/told")" = 'tsp-status: nobody leads,tsp-status: silent: a' ] || fail "a daemon that is gone gives status $status, '$(cat "$out/told")'"

@@ -180,7 +180,7 @@ if has cc; then
     grep -q "the daemon doesn't run$" "$out/said" || fail "the packed example says $(cat "$out/said")"
 fi
 cmp -s "$out/root/etc/default/tsp" daemon/tsp.default || fail 'other variables of the daemon are packed'
-[ "$(sort "$out/control/conffiles" | paste -sd ' ')" = '/etc/default/tsp /etc/needrestart/conf.d/tsp.conf' ] || fail "what is kept of the administrator's is $(cat "$out/control/conffiles")"
+[ "$(sort "$out/control/conffiles" | paste -sd ' ')" = '/etc/apparmor.d/tsp /etc/default/tsp /etc/needrestart/conf.d/tsp.conf' ] || fail "what is kept of the administrator's is $(cat "$out/control/conffiles")"
 [ -d "$out/root/etc/tsp" ] && [ ! -e "$out/root/etc/tsp/hosts" ] || fail 'there is a hosts file that nobody wrote'
 for script in postinst prerm postrm; do
     sh -n "$out/control/$script" && [ -x "$out/control/$script" ] || fail "$script can't be run"
@@ -229,7 +229,7 @@ if in_system --install "$package"; then
     ln -s /usr/lib/systemd/system/tsp-metrics.timer "$out/system/etc/systemd/system/timers.target.wants"
     ln -s /usr/lib/systemd/system/tsp-feed.service "$out/system/etc/systemd/system/multi-user.target.wants"
     for file in tsp-clock.prom tsp.prom; do : >"$out/system/var/lib/prometheus/node-exporter/$file"; done
-    for folder in tsp_texts tsp_daemon tsp_witness; do
+    for folder in tsp_texts tsp_daemon tsp_supervise tsp_demo tsp_witness; do
         for module in "$out/system/usr/share/tsp/$folder"/*.py; do
             name=$(basename "$module" .py)
             ls "$out/system/usr/share/tsp/$folder/__pycache__/$name".*.pyc >/dev/null || fail "$name is not compiled"

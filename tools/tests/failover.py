@@ -74,7 +74,7 @@ class Failover:
         self.says(self.tool(1, 'tsp-elect', 'c'), 'c is `slave` in the hosts file')
         self.lab.sleep(90)
         said = self.tool(1, 'tsp-elect', '--trace', self.b.trace[-1], 'b')
-        self.says(said, 'b doesn\'t lead', 'and stands once it is up for 300')
+        self.says(said, 'b doesn\'t lead', 'and may stand once it is up for 300; nobody tells it again, so call again in ')
 
     def hands_over(self):
         """One leads; it is the other one's turn then, once its machine says so."""
@@ -129,7 +129,7 @@ class Failover:
 
 
 def main():
-    library = preload.made('fastclock', FOLDER)
+    library = preload.made('tsp_fast', FOLDER)
     if library is None:
         sys.exit('failover: there is no cc')
     failover = Failover(library)

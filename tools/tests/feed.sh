@@ -75,7 +75,7 @@ rm "$out/socket" "$out/bin/chronyc"
 
 # The unit and the example: the unit is off until it is turned on, asks chronyd with all rights, and has none itself.
 unit=daemon/tsp-feed.service
-for line in 'ExecCondition=+/usr/sbin/tsp-feed --status' 'ExecStart=/usr/sbin/tsp-feed --asked' 'User=root' 'CapabilityBoundingSet=' 'ProtectSystem=strict' 'PrivateNetwork=yes' 'RestrictAddressFamilies=AF_UNIX' 'SystemCallFilter=@system-service' 'RestartSec=5' 'After=chrony.service tsp.service'; do
+for line in 'ExecCondition=+/usr/sbin/tsp-feed --status' 'ExecStart=/usr/sbin/tsp-feed --asked' 'User=root' 'CapabilityBoundingSet=' 'ProtectSystem=strict' 'PrivateNetwork=yes' 'RestrictAddressFamilies=AF_UNIX' 'SystemCallFilter=@system-service' 'RestartSec=30' 'After=chrony.service tsp.service'; do
     grep -qx -e "$line" "$unit" || fail "$unit hasn't '$line'"
 done
 grep -q "^refclock SOCK $(python3 -B -c 'import sys; sys.path.insert(0, "tools"); from tsp_daemon import chrony; print(chrony.SOCKET, "refid", chrony.REFID)') " daemon/tsp-chrony.conf || fail 'the example has another socket'

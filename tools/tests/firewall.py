@@ -3,8 +3,12 @@
 
 The daemon is in this namespace, and those who ask it are in another one.
 """
+import fcntl
 import os
 import re
+import select
+import socket
+import struct
 import subprocess
 import sys
 import time
@@ -14,6 +18,16 @@ TOOLS = os.path.dirname(HERE)
 LAUNCH = os.path.join(TOOLS, 'tsp-launch')
 PROGRAM, FOLDER = sys.argv[1:3]
 DAEMON, PEER, STRANGER, ASKER = '192.0.2.11', '192.0.2.12', '192.0.2.13', '198.51.100.7'
+# Those of a tunnel's two ends.
+NEAR, FAR = '10.99.0.1', '10.99.0.2'
+TUN, SET_NAME, IS_TUN_WITHOUT_HEADER = '/dev/net/tun', 0x400454ca, 0x1001
+QUESTION = bytes([128, 1]) + bytes(26)
+# Sends an octet string, in hexadecimal, as a packet of IP.
+SEND = '''
+import socket, sys
+link = socket.socket(socket.AF_INET, socket.SOCK_RAW, socket.IPPROTO_RAW)
+link.sendto(bytes.fromhex(sys.argv[1]), (sys.argv[2], 0))
+'''
 # Asks so many times from an address and a port as this user, and prints how many answers came.
 ASK = '''
 import os, socket, sys, time
@@ -50,7 +64,7 @@ class Others:
     """The other namespace, joined by a cable, with these addresses."""
 
     def __init__(self, *addresses):
-        self.process = subprocess.Popen(['unshare', '-n', 'sleep', '60'])
+        self.process = subprocess.Popen(['unshare', '-n', 'sleep', '600'])
         self.at = ['nsenter', '-t', str(self.process.pid), '-n']
         time.sleep(0.3)
         run('ip', 'link', 'set', 'lo', 'up')
@@ -86,6 +100,66 @@ def counters():
     return [int(count) for count in re.findall(r'counter packets ([0-9]+)', run('nft', 'list', 'table', 'inet', 'tsp'))]
 
 
+def packet(source, target):
+    """A packet of IP with a question for a daemon's clock, from port 525."""
+    datagram = struct.pack('>HHHH', 525, 525, 8 + len(QUESTION), 0) + QUESTION
+    head = struct.pack('>BBHHHBBH4s4s', 0x45, 0, 20 + len(datagram), 1, 0, 64, 17, 0, socket.inet_aton(source), socket.inet_aton(target))
+    total = sum(struct.unpack('>10H', head))
+    total = (total & 0xffff) + (total >> 16)
+    return head[:10] + struct.pack('>H', ~total & 0xffff) + head[12:] + datagram
+
+
+class Tunnel:
+    """A tunnel whose other end is this process; None of its datagrams are on a wire."""
+
+    def __init__(self):
+        self.file = os.open(TUN, os.O_RDWR | os.O_NONBLOCK)
+        fcntl.ioctl(self.file, SET_NAME, struct.pack('16sH22x', b'tsp', IS_TUN_WITHOUT_HEADER))
+        run('ip', 'address', 'add', f'{NEAR}/24', 'dev', 'tsp')
+        run('ip', 'link', 'set', 'tsp', 'up')
+
+    def answers(self, seconds=0.4):
+        """How many answers of the daemon came out of it."""
+        found, until = 0, time.monotonic() + seconds
+        while time.monotonic() < until:
+            if select.select([self.file], [], [], 0.05)[0]:
+                octets = os.read(self.file, 2048)
+                found += octets[12:16] == socket.inet_aton(NEAR) and octets[9:10] == b'\x11'
+        return found
+
+    def asks(self):
+        """Whether a question that comes by it is answered."""
+        os.write(self.file, packet(FAR, NEAR))
+        return self.answers() == 1
+
+
+def try_tunnel(others, hosts):
+    """A daemon at a tunnel's address hears the other end, and with the rules nobody who sends with that one's address on the wire beneath."""
+    try:
+        tunnel = Tunnel()
+    except OSError:
+        return 'there is no tun, so rules with a tunnel aren\'t tried'
+    with open(hosts, 'w', encoding='ascii') as file:
+        file.write(f'alpha {NEAR} master\nbeta {FAR} slave\n')
+    run(*others.at, 'ip', 'route', 'add', NEAR, 'via', DAEMON)
+
+    def forged():
+        run(*others.at, sys.executable, '-c', SEND, packet(FAR, NEAR).hex(), NEAR)
+        return tunnel.answers()
+
+    daemon = subprocess.Popen([PROGRAM, 'serve', f'{NEAR}:525', 'alpha', 'm', '1000000', f'{FAR}:525'])
+    try:
+        time.sleep(0.3)
+        run('nft', 'delete', 'table', 'inet', 'tsp')
+        wanted(tunnel.asks() and forged() == 1, 'without rules the tunnel\'s other end isn\'t answered, or one on the wire with its address')
+        load(hosts)
+        wanted(tunnel.asks(), 'with rules the tunnel\'s other end isn\'t answered')
+        wanted(forged() == 0, 'with rules one on the wire with the address of the tunnel\'s other end is answered')
+    finally:
+        daemon.kill()
+    return 'with a tunnel its other end is answered, and nobody on the wire who has that one\'s address'
+
+
 def main():
     hosts = os.path.join(FOLDER, 'hosts')
     with open(hosts, 'w', encoding='ascii') as file:
@@ -109,7 +183,8 @@ def main():
             users = ', a service on it and not nobody'
         peers, asked, dropped, *local = counters()
         wanted(peers >= 2 and 1000 <= asked <= 4000 and dropped >= 6000 and (not users or local[-1] >= 1), f'the counters are {counters()}')
-        print(f'a peer, its machine, a named network and root on this machine{users} are answered, and a stranger is not; of 10,000 questions at once {asked} come in')
+        print(f'a peer, its machine, a named network and root on this machine{users} are answered, and a stranger is not; of 10,000 questions at once {asked} come in; '
+              + try_tunnel(others, hosts))
     finally:
         daemon.kill()
         others.process.kill()

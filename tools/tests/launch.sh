@@ -87,7 +87,7 @@ lints() {
     printf '%s\n' "$@" | sed "s|^|tsp-launch: $out/linted:|" >"$out/faults"
     [ $# -gt 0 ] || : >"$out/faults"
     ends "$wanted" --lint -f "$out/linted"
-    [ ! -s "$out/said" ] && cmp -s "$out/told" "$out/faults" || fail "of a file that can't work it says '$(cat "$out/said" "$out/told")'"
+    grep -qx '[0-9a-f]\{16\}' "$out/said" && cmp -s "$out/told" "$out/faults" || fail "of a file that can't work it says '$(cat "$out/said" "$out/told")'"
     name=$(sed -n '/^[a-z]/{s/ .*//p;q;}' "$out/linted")
     ends 0 -n -f "$out/linted"
     cmp -s "$out/told" "$out/faults" && [ "$(cut -d ' ' -f 3 "$out/said")" = "$name" ] || fail "of a file that can't work -n says '$(cat "$out/said" "$out/told")'"
@@ -116,7 +116,16 @@ given=TSP_SELF=elsewhere
 printf '%s\n' 'a 192.0.2.11 master' >"$out/linted"
 ends 0 --lint -f "$out/linted"
 given=''
-! tools/tsp-launch --lint -f daemon/hosts -s alpha 2>&1 | grep . || fail 'the example of a hosts file has a fault'
+! tools/tsp-launch --lint -f daemon/hosts -s alpha 2>&1 >"$out/digest" | grep . || fail 'the example of a hosts file has a fault'
+# The digest: what counts changes it, and what doesn't doesn't. It is the beginning of a sum that anybody can make of what is listed.
+[ "$(cat "$out/digest")" = "$(tools/tsp-launch -l -f daemon/hosts | sha256sum | cut -c 1-16)" ] || fail "the digest is $(cat "$out/digest")"
+{ echo '# another one'; sed 's/#.*//; s/  */ /g; s/$/  # and more/' daemon/hosts; } >"$out/alike"
+[ "$(tools/tsp-launch --lint -f "$out/alike" -s alpha)" = "$(cat "$out/digest")" ] || fail 'comments and spaces change the digest'
+for change in 's/gamma/delta/' 's/192.0.2.12/192.0.2.14/' 's/5525/5526/' '/gamma/s/slave/master/' '/beta/{h;d};/gamma/G' '/beta/i +'; do
+    sed "$change" daemon/hosts >"$out/other"
+    digest=$(tools/tsp-launch --lint -f "$out/other" -s alpha 2>"$out/told") || fail "'$change' makes a file that can't work: $(cat "$out/told")"
+    [ "$digest" != "$(cat "$out/digest")" ] || fail "'$change' doesn't change the digest"
+done
 
 # A host in two networks is a gateway. Its words have a + between its networks.
 gives gate 'serve 192.0.2.1:525 gate m 1000000000 192.0.2.11:525 192.0.2.12:526 + 198.51.100.7:525'
@@ -197,6 +206,11 @@ refuses_words "wait 'x': a number of seconds from 0 to 86400" -n -f "$hosts" -s 
 for spread in 01 3601 x 0.5; do
     refuses_words "spread '$spread': a number of seconds from 0 to 3600" -n -f "$hosts" -s alpha --spread="$spread"
 done
+for gone in x -1 86401; do
+    status=0
+    TSP_GONE=$gone tools/tsp-launch -n -f "$hosts" -s alpha >"$out/said" 2>"$out/told" || status=$?
+    [ "$status" -eq 2 ] && grep -qx "tsp-launch: gone '$gone': a number of seconds from 0 to 86400" "$out/told" || fail "of TSP_GONE=$gone it says '$(cat "$out/told")', status $status"
+done
 printf 'alpha 192.0.2.11 master\nbeta\0 192.0.2.12 slave\n' >"$out/hosts"
 refuses "$out/hosts:2: the line has a NUL" -l -f "$out/hosts"
 printf 'alpha 192.0.2.11 master # \0\n' >"$out/hosts"
@@ -206,7 +220,26 @@ refuses "$out/hosts: it has more than 2097152 octets" -l -f "$out/hosts"
 refuses_words '-q: tsp-launch --help says which words there are' -q
 refuses_words '-f: a word is missing behind it' -n -f
 given=TSP_TRACE=yes
-refuses_words "trace 'yes': on or off" -n -f "$hosts" -s alpha
+refuses_words "trace 'yes': off, on, journal, or the path of a file, which begins with /" -n -f "$hosts" -s alpha
+for trace in journal "$out/trace"; do
+    given=TSP_TRACE=$trace
+    ends 0 -n -f "$hosts" -s alpha
+    refuses_words "trace '$trace' is for --supervise" -f "$hosts" -s alpha
+done
+for keep in 0 x 1.5 1000001; do
+    given=TSP_KEEP=$keep
+    refuses_words "keep '$keep': a number of MiB from 1 to 1000000" -n -f "$hosts" -s alpha
+done
+given=TSP_LOG=syslog
+refuses_words "log 'syslog': journal or plain" -n -f "$hosts" -s alpha
+# (a line has its priority if the journal takes it)
+given=TSP_LOG=journal
+status=0
+env $given tools/tsp-launch -l -f "$out/none" >"$out/said" 2>"$out/told" || status=$?
+[ "$status" -eq 78 ] && [ "$(cat "$out/told")" = "<3>tsp-launch: $out/none: there is no such file" ] || fail "with priorities it says '$(cat "$out/told")'"
+stream=$(stat -c %d:%i "$out/told")
+JOURNAL_STREAM=$stream tools/tsp-launch -l -f "$out/none" >"$out/said" 2>>"$out/told" || :
+[ "$(tail -n 1 "$out/told")" = "<3>tsp-launch: $out/none: there is no such file" ] || fail "into the journal it says '$(cat "$out/told")'"
 given=''
 refuses "there is no program $out/none" -f "$hosts" -s alpha -p "$out/none"
 
@@ -244,15 +277,22 @@ for STATUS in 0 1 2 4 5 8; do
     ends "$STATUS" -f "$hosts" -s gamma -p "$out/fake"
     [ "$(cat "$CALLS")" = 'serve 198.51.100.7:525 gamma s 1000000000 192.0.2.1:525' ] || fail "the program is called as '$(cat "$CALLS")'"
 done
+# (without python3, with which a supervisor takes the trace from the daemon)
+mkdir "$out/without"
+for each in awk cat cut date dirname env getent grep head od readlink sed seq sh sleep sort tr uname wc; do
+    ln -s "$(command -v "$each")" "$out/without/$each"
+done
+held='tsp-launch: there is no python3: a reader of the trace that takes nothing stops the daemon, and a full disk ends it'
 : >"$CALLS"
-given='WANTED=3 STATUS=0'
+given="PATH=$out/without WANTED=3 STATUS=0"
 ends 0 -f "$hosts" -s alpha -p "$out/fake" --trace
 printf '%s\n' 'serve 192.0.2.11:525 alpha m 1000000000 192.0.2.12:526 192.0.2.1:525' 'trace 192.0.2.11:525 on' 'trace 192.0.2.11:525 on' >"$out/wanted"
 sort "$CALLS" | cmp -s - "$out/wanted" || fail "the daemon is asked to trace as '$(cat "$CALLS")'"
-[ "$(cat "$out/told")" = 'tsp-launch: in the trace peer 0 is alpha, 1 beta, 2 gate' ] || fail "$(cat "$out/told")"
+[ "$(cat "$out/told")" = "$held
+tsp-launch: in the trace peer 0 is alpha, 1 beta, 2 gate" ] || fail "$(cat "$out/told")"
 [ ! -s "$out/said" ] || fail 'what the questions answer is printed'
 : >"$CALLS"
-given='WANTED=9 PATIENCE=2 STATUS=5 TSP_TRACE=on'
+given="PATH=$out/without WANTED=9 PATIENCE=2 STATUS=5 TSP_TRACE=on"
 ends 5 -f "$hosts" -s alpha -p "$out/fake"
 given=''
 calls=$(wc -l <"$CALLS")
@@ -323,16 +363,19 @@ python3 "$out/notify" "$out/link" tools/tsp-launch -f "$hosts" -s gamma -p "$out
 grep -v '^[12] 0 0 ' "$out/said" | paste -sd ';' >"$out/notified"
 [ "$(cat "$out/notified")" = 'main READY=1 STATUS=follows gate;main STOPPING=1;0' ] || fail "systemd is told '$(cat "$out/notified")'"
 [ "$(grep -c '^[12] 0 0 [12] ' "$out/said")" -eq 2 ] || fail 'the trace is not handed on'
-[ "$(cat "$out/told")" = 'tsp-launch: in the trace peer 0 is gamma, 1 gate' ] || fail "$(cat "$out/told")"
+printf 'tsp-launch: %s\n' 'in the trace peer 0 is gamma, 1 gate' "gamma runs and answers at 198.51.100.7:525, by a hosts file with the digest $(tools/tsp-launch \
+    -l -f "$hosts" | sha256sum | cut -c 1-16); after 80 s it asks who leads" 'follows gate' >"$out/wanted"
+cmp -s "$out/told" "$out/wanted" || fail "$(cat "$out/told")"
 
 # A daemon that listens at all addresses is asked over the loopback.
 : >"$CALLS"
-given='WANTED=3 STATUS=0'
+given="PATH=$out/without WANTED=3 STATUS=0"
 ends 0 -f "$two" -s b -p "$out/fake" --trace
 given=''
 printf '%s\n' 'serve 0.0.0.0:525 b m 1000000000 192.0.2.1:525 192.0.2.3:525 + 198.51.100.2:525 198.51.100.3:525' 'trace 127.0.0.1:525 on' 'trace 127.0.0.1:525 on' >"$out/wanted"
 sort "$CALLS" | cmp -s - "$out/wanted" || fail "a daemon at all addresses is asked to trace as '$(cat "$CALLS")'"
-[ "$(cat "$out/told")" = 'tsp-launch: in the trace peer 0 is b, 1 a, 2 c, 3 c, 4 d' ] || fail "$(cat "$out/told")"
+[ "$(cat "$out/told")" = "$held
+tsp-launch: in the trace peer 0 is b, 1 a, 2 c, 3 c, 4 d" ] || fail "$(cat "$out/told")"
 
 # The example of a hosts file is a good one.
 ends 0 -n -f daemon/hosts -s printer

@@ -1,15 +1,19 @@
 #!/bin/sh
-# What hosts learn of their counters' rates: in a simulation of days with restarts and kills, and of the traces of nodes that run by the rules.
+# What hosts learn of their counters' rates, by which they count at once: by made corrections, in a simulation of days with restarts and kills, and of the
+# traces of nodes that run by the rules.
 . "$(dirname "$0")/common.sh"
 program=${TSP_PROGRAM:-crates/tsp_cli/out/tsp_cli}
 [ -n "${TSP_PROGRAM:-}" ] || ./tsp show </dev/null || fail "the program isn't there"
 
-# Days in small: after three restarts all counters are within 1 part in a million, and no restart made anything worse.
+# What is learned acts at once, on the page of a daemon that runs.
+python3 -B tools/tests/applied.py "$out" >"$out/told" 2>&1 || fail "$(cat "$out/told")"
+
+# Days in small: after a day all counters are within 1 part in a million, and no restart made anything worse.
 dev/learning --days 6 --hosts 3,8 --kills 1 >"$out/table" || fail "$(cat "$out/table")"
 [ "$(wc -l <"$out/table")" -eq 5 ] || fail "the table is $(cat "$out/table")"
 # (a network whose datagrams are late by up to 100 ms doesn't give so much, and that is seen)
 ! dev/learning --days 5 --hosts 8 --jitter 100000 >"$out/table" 2>"$out/told" || fail 'rates of a poor network are said to be good'
-grep -qx "learning: after three restarts counters aren't within 1 part in a million, or a restart made something worse" "$out/told" || fail "$(cat "$out/told")"
+grep -qx "learning: after a day counters aren't within 1 part in a million, or a restart made something worse" "$out/told" || fail "$(cat "$out/told")"
 for words in '--days 4' '--hosts 1' '--kills 2' '--rates x' 'more'; do
     # shellcheck disable=SC2086  # words
     ! dev/learning $words >"$out/said" 2>"$out/told" || fail "'$words' is accepted"

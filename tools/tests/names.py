@@ -3,7 +3,7 @@ import ast
 import importlib
 import sys
 
-OWN = ('tsp_clock', 'tsp_daemon', 'tsp_texts', 'tsp_witness', 'tsp_build', 'lab', 'jobs')
+OWN = ('tsp_clock', 'tsp_daemon', 'tsp_supervise', 'tsp_demo', 'tsp_texts', 'tsp_witness', 'tsp_build', 'lab', 'jobs')
 
 
 def is_module(name):

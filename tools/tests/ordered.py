@@ -200,7 +200,7 @@ class Run:
 
 
 def main():
-    library = preload.made('fastclock', FOLDER)
+    library = preload.made('tsp_fast', FOLDER)
     chance = random.Random(SEED)
     daemons = [Daemon(name, role, chance.randint(-5_000_000, 5_000_000), chance.randint(-DRIFT, DRIFT)) for name, role in (('a', 'm'), ('b', 'm'), ('c', 's'))]
     daemons[2].step = STEP

@@ -15,7 +15,7 @@ text_of() {
     LC_ALL=C.UTF-8 MANWIDTH=240 man -P cat -l "$1" | sed 's/.\x08//g'
 }
 
-for tool in tsp-lint tsp-plot tsp-sim tsp-launch tsp-status tsp-elect tsp-watch tsp-now tsp-feed tsp-run tsp-witness; do
+for tool in tsp-demo tsp-lint tsp-plot tsp-sim tsp-launch tsp-status tsp-elect tsp-watch tsp-now tsp-feed tsp-run tsp-witness; do
     page=$(echo "man/$tool".[1-8])
     "tools/$tool" --help | grep -o -e '--[a-z][a-z-]*' | sort -u >"$out/options"
     text_of "$page" | sed -n '/^OPTIONS/,/^EXIT STATUS/p' | grep -o -e '--[a-z][a-z-]*' | sort -u >"$out/told"
@@ -23,7 +23,7 @@ for tool in tsp-lint tsp-plot tsp-sim tsp-launch tsp-status tsp-elect tsp-watch 
 done
 
 # The page of all statuses has those of each tool's own page. (tsp-launch has those of the daemon too)
-for tool in tsp-elect tsp-feed tsp-lint tsp-now tsp-plot tsp-sim tsp-status tsp-watch tsp-witness; do
+for tool in tsp-demo tsp-elect tsp-feed tsp-lint tsp-now tsp-plot tsp-sim tsp-status tsp-watch tsp-witness; do
     sed -n '/^\.SH EXIT STATUS/,/^\.\(SH [^E]\|PP\)/p' "$(echo "man/$tool".[18])" | awk '/^\.TP/ { getline; sub(/^\.B /, ""); print }' | grep -v -x -e 0 -e 130 >"$out/own"
     sed -n "s/^$tool  *\([0-9].*\)/\1/p" man/tsp-statuses.7 | tr ',' '\n' | awk '{ print $1 }' >"$out/table"
     cmp -s "$out/own" "$out/table" || fail "tsp-statuses has other statuses of $tool than its page: $(paste -sd ' ' "$out/table"), and not $(paste -sd ' ' "$out/own")"

@@ -2,6 +2,7 @@
 import glob
 import unittest
 
+import tsp_clock
 from tsp_texts import claims, history, schedule, trace, verdict
 
 FOLDER = 'tools/tests/plot/'
@@ -223,7 +224,7 @@ class Clock(unittest.TestCase):
         self.assertEqual(trace.tick_at(schedule.Node('a', 100, 0, True), 9999), 9999)
 
     def test_width(self):
-        self.assertEqual(trace.width(100, 10000000), 1001)
+        self.assertEqual(tsp_clock.width(100, 10000000), 1001)
 
 
 if __name__ == '__main__':

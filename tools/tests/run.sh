@@ -112,7 +112,7 @@ page -3000000 0 2
 { sleep 0.6; page -3000000 0 0; sleep 0.5; page 2000000 3000 2 2; } &
 tools/tsp-run python3 -B "$out/compare" >"$out/restarted" 2>"$out/told" || fail "a restart: $(cat "$out/told")"
 wait
-if cc -O2 -Wall -shared -fPIC -o "$out/stepped.so" dev/lab/fastclock.c 2>"$out/told"; then
+if cc -O2 -Wall -shared -fPIC -o "$out/stepped.so" tools/tsp_fast.c 2>"$out/told"; then
     # Runs a command whose wall clock is set by an hour 1.5 seconds later.
     stepped() {
         now=$(python3 -c 'import time; print("FAST_FROM=%d FAST_WALL=%d" % (time.monotonic_ns(), time.time_ns()))')

@@ -35,7 +35,7 @@ while IFS= read -r name; do
     [ -x "tools/tests/$name.sh" ] || fail ".ci/real-time names $name, which is no check"
     grep -qE 'sleep|serving_program|timeout|systemd' "tools/tests/$name.sh" || fail ".ci/real-time names $name, which doesn't wait"
 done <"$out/again"
-for name in audit bad_inputs commands completion deb documents first-master forecast gate gateway hostile icmp learning limits lint pages plain plot premises replay round scripts sim unit wireshark; do
+for name in audit bad_inputs commands completion deb documents first-master forecast gate gateway hostile icmp learning limits lint next-master pages plain plot premises replay round scripts sim unit wireshark; do
     ! grep -qx "$name" "$out/again" || fail ".ci/real-time names $name, which has nothing to wait for"
 done
 echo "$check: $(wc -l <"$out/shell") of shell and $(wc -l <"$out/python") of Python"

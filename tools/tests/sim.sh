@@ -67,8 +67,38 @@ done
 [ "$(datagrams | count '($2 == 0 && $3 == 2) || ($2 == 2 && $3 == 0)')" -eq 0 ] || fail 'two nodes without a network between them send to each other'
 tools/tsp-lint "$out/run.tsp" || fail 'tsp-lint refuses a schedule with networks'
 
+# Prints how many seconds after another node leads than node 0, which is gone, all of five follow it, and how many boots there were.
+succession() {
+    awk '
+        FNR == 1 { file++ }
+        file == 1 && $1 == "at" { at[++events] = $2 / 1000000; boots += $3 == "boot"; next }
+        file == 2 && $5 == "become" && $2 != 0 && at[$1] > 800 {
+            role[$2] = $6 == "follow" ? $7 : $6
+            if ($6 == "master" && leader == "") { leader = $2; led = at[$1] }
+            count = 0
+            for (node in role) count += leader != "" && role[node] == leader
+            if (count == 3 && !joined) joined = at[$1] - led
+        }
+        END { print int(joined), boots + 0 }
+    ' "$out/run.tsp" "$out/run.trace"
+}
+
+# With supervisors, all others follow the next master soon after it leads, each of them started again once. Without, some wait for their own elections.
+simulate --follow --seed 2 --nodes 5 --cut 0@800-5000 --until 3000
+succession >"$out/joined"
+read -r joined boots <"$out/joined"
+[ "$joined" -gt 80 ] && [ "$joined" -lt 120 ] && [ "$boots" -eq 8 ] || fail "with supervisors all follow after $joined s, by $boots boots"
+tools/tsp-lint "$out/run.tsp" || fail 'tsp-lint refuses a schedule with supervisors'
+simulate --seed 2 --nodes 5 --cut 0@800-5000 --until 3000
+succession >"$out/joined"
+read -r joined boots <"$out/joined"
+[ "$joined" -gt 300 ] && [ "$boots" -eq 5 ] || fail "without supervisors all follow after $joined s, by $boots boots"
+# Whoever hears no answer of its master doesn't start again while nobody else leads.
+simulate --follow --seed 2 --nodes 5 --loss 0.3 --until 1500
+[ "$(grep -c ' boot ' "$out/run.tsp")" -eq 5 ] || fail 'a node starts again though nobody else leads'
+
 # Faulty words are refused.
-for words in '--nodes 0' '--loss 2' '--reboot 3@5' '--cut 0@9-8' '--latency 9 8' '--net 0,1' '--net 0,1,2,3'; do
+for words in '--nodes 0' '--loss 2' '--reboot 3@5' '--cut 0@9-8' '--latency 9 8' '--net 0,1' '--net 0,1,2,3' '--follow --net 0,1,2'; do
     # shellcheck disable=SC2086  # words
     ! tools/tsp-sim $words >/dev/null 2>&1 || fail "$words is accepted"
 done

@@ -4,8 +4,10 @@
 usage: stalled.py PROGRAM
 
 It needs root, of this machine or of a user namespace of its own (`unshare -rn`). The daemon is in a network namespace with a link whose
-queue sends 8 kbit in a second. A stranger at the far end of that link asks it 2,000 times who leads, which is more than its socket and
-that queue hold. Meanwhile a program on the daemon's own machine asks it twenty times by the loopback, each time for half a second at most.
+queue sends 8 kbit in a second, and then with one whose queue sends nothing (8 bit in a second, so that a datagram takes a minute). A
+stranger at the far end of that link asks it who leads: 2,000 times, which is more than its socket and the slow queue hold, and 400 times,
+which is more than a socket holds that didn't ask for room. Meanwhile a program on the daemon's own machine asks it twenty times by the
+loopback, each time for half a second at most. It writes how often that was answered beside each of the two links.
 """
 import contextlib
 import os
@@ -15,7 +17,8 @@ import sys
 import time
 
 PORT = 5251
-FLOOD = 2000
+# How fast a link is, and how often the stranger asks.
+LINKS = (("8kbit", 2000), ("8bit", 400))
 ASKED = 20
 WAIT = 0.5
 MSITE = 19
@@ -43,8 +46,8 @@ def namespace():
         process.wait()
 
 
-def link(far):
-    """A link to the namespace of the process `far`, whose near end sends 8 kbit in a second."""
+def link(far, rate):
+    """A link to the namespace of the process `far`, whose near end sends at this rate."""
     inside = ("nsenter", "-t", str(far), "-n")
     call("ip", "link", "set", "lo", "up")
     call("ip", "link", "add", "near", "address", NEAR, "type", "veth", "peer", "name", "far", "address", FAR)
@@ -56,16 +59,16 @@ def link(far):
     # (so that no question for an address has to pass the queue)
     call("ip", "neighbour", "replace", "10.9.0.2", "lladdr", FAR, "dev", "near")
     call(*inside, "ip", "neighbour", "replace", "10.9.0.1", "lladdr", NEAR, "dev", "far")
-    call("tc", "qdisc", "add", "dev", "near", "root", "tbf", "rate", "8kbit", "burst", "2000", "limit", "2000000")
+    call("tc", "qdisc", "add", "dev", "near", "root", "tbf", "rate", rate, "burst", "2000", "limit", "2000000")
 
 
-def flood(far):
-    """Asks from the far end, as fast as that can."""
+def flood(far, times):
+    """Asks so often from the far end, as fast as that can."""
     text = (
         "import socket, sys, time\n"
         "link = socket.socket(socket.AF_INET, socket.SOCK_DGRAM)\n"
         f"question = bytes.fromhex('{msite(1).hex()}')\n"
-        f"for _ in range({FLOOD}):\n"
+        f"for _ in range({times}):\n"
         f"    link.sendto(question, ('10.9.0.1', {PORT}))\n"
         "    time.sleep(0.0005)\n"
     )
@@ -84,22 +87,27 @@ def answered(times):
     return count
 
 
-def main():
-    program = sys.argv[1]
+def beside(rate, times):
+    """How many questions by the loopback are answered beside a link of this rate, after so many questions by that link."""
     with namespace() as far:
-        link(far)
-        daemon = subprocess.Popen([program, "serve", f"0.0.0.0:{PORT}", "a", "m", "1000000000"])
+        link(far, rate)
+        daemon = subprocess.Popen([sys.argv[1], "serve", f"0.0.0.0:{PORT}", "a", "m", "1000000000"])
         try:
             until = time.monotonic() + 5
             while not answered(1):
                 if time.monotonic() > until:
                     sys.exit("stalled: the daemon doesn't answer")
-            flood(far)
-            count = answered(ASKED)
+            flood(far, times)
+            return answered(ASKED)
         finally:
             daemon.kill()
             daemon.wait()
-    print(count)
+            # (so that the next link has its name)
+            call("ip", "link", "del", "near")
+
+
+def main():
+    print(*(beside(rate, times) for rate, times in LINKS))
 
 
 if __name__ == "__main__":

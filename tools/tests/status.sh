@@ -173,8 +173,8 @@ cat >"$out/by_unit.py" <<'END'
 import runpy
 import sys
 sys.path.insert(0, 'tools')
-from tsp_daemon import traced
-traced.VARIABLES, sys.argv = sys.argv[1], ['tools/tsp-status', *sys.argv[2:]]
+from tsp_daemon import kept
+kept.VARIABLES, sys.argv = sys.argv[1], ['tools/tsp-status', *sys.argv[2:]]
 runpy.run_path(sys.argv[0], run_name='__main__')
 END
 # Wants this of tsp-status if the unit's variables are these lines: whether rates are shown, and the status.
@@ -205,7 +205,7 @@ by_journal() {
     [ "$status" -eq "$wanted" ] || fail "with the journal $seen it ends with status $status: $(cat "$out/said" "$out/told")"
 }
 by_journal 0 /dev/null
-tells 'tsp-status: no rates are shown, since journalctl gives no trace: Hint: You are currently not seeing messages from other users.'
+tells 'tsp-status: no rates are shown: journalctl gives no trace: Hint: You are currently not seeing messages from other users.'
 by_journal 0 /dev/null --check
 tells ''
 by_journal 1 "$out/named"
@@ -334,7 +334,7 @@ answers 192.0.2.11:525 'master alpha' '5 5'
 
 # A tsp-launch that can't be run, which lists the hosts.
 mkdir "$out/tools"
-cp -R tools/tsp-status tools/tsp-launch tools/tsp_texts tools/tsp_daemon "$out/tools"
+cp -R tools/tsp-status tools/tsp-launch tools/tsp_texts tools/tsp_daemon tools/tsp_supervise "$out/tools"
 chmod -x "$out/tools/tsp-launch"
 status=0
 "$out/tools/tsp-status" --check --program "$out/fake" --file "$out/hosts" >"$out/said" 2>"$out/told" || status=$?

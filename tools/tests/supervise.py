@@ -20,10 +20,13 @@ TOOLS = os.path.dirname(HERE)
 DEV = os.path.join(os.path.dirname(TOOLS), 'dev')
 sys.dont_write_bytecode = True
 sys.path[:0] = TOOLS, DEV
-from lab import preload  # noqa: E402
-from tsp_daemon import machine, outlet, output, systemd  # noqa: E402
-from tsp_daemon.loop import Loop  # noqa: E402
-from tsp_daemon.systemd import Systemd  # noqa: E402
+from lab import fast, preload  # noqa: E402
+from tsp_daemon import machine  # noqa: E402
+from tsp_supervise import outlet, output, systemd  # noqa: E402
+from tsp_supervise.follow import Follow  # noqa: E402
+from tsp_supervise.loop import Loop  # noqa: E402
+from tsp_supervise.systemd import Systemd  # noqa: E402
+from tsp_texts.grammar import KINDS  # noqa: E402
 import tsp_clock  # noqa: E402
 from tsp_witness.datagram import octets_of  # noqa: E402
 
@@ -80,6 +83,7 @@ def let_through():
 
 class Supervised:
     """A daemon under tsp-launch, at an address; its lines go to files, unless streams are named."""
+    HOW = '--supervise'
 
     def __init__(self, *words, address='127.0.0.1', turns=1_000_000_000, stdout=None, stderr=None, before=(), **variables):
         self.address = address, free_port()
@@ -87,8 +91,8 @@ class Supervised:
         self.write_hosts()
         self.out, self.err, self.is_read = self.path('out'), self.path('err'), not stdout and '--output' not in words
         environment = {name: value for name, value in os.environ.items() if not name.startswith('TSP_')}
-        environment.update(TSP_SPREAD='0', TSP_TRACE='on', TSP_CLOCK=self.path('clock'), **variables)
-        command = [*before, LAUNCH, '-f', self.hosts, '-s', 'a', '--turns', str(turns), '-p', PROGRAM, '--supervise', *words]
+        environment.update({'TSP_SPREAD': '0', 'TSP_TRACE': 'on', 'TSP_CLOCK': self.path('clock'), **variables})
+        command = [*before, LAUNCH, '-f', self.hosts, '-s', 'a', '--turns', str(turns), '-p', PROGRAM, self.HOW, *words]
         with open(self.out, 'wb') as out, open(self.err, 'wb') as err:
             self.process = subprocess.Popen(command, stdout=stdout or out, stderr=stderr or err, env=environment, preexec_fn=let_through)
         self.link = socket.socket(socket.AF_INET, socket.SOCK_DGRAM)
@@ -199,6 +203,60 @@ def blocked():
     server.end()
     os.close(end)
     os.close(into)
+
+
+class Traced(Supervised):
+    """A daemon that was only told to trace."""
+    HOW = '--trace'
+
+
+def traced():
+    """A daemon that is told to trace goes on, though nobody reads that. It isn't started again: its end is that of all, and so is a signal."""
+    for status, ends in ((0, lambda server: server.process.terminate()), (0, lambda server: server.process.send_signal(signal.SIGHUP)),
+                         (128 + signal.SIGKILL, lambda server: os.kill(server.daemon(), signal.SIGKILL))):
+        end, into = os.pipe()
+        fcntl.fcntl(into, fcntl.F_SETPIPE_SZ, 4096)
+        server = Traced(stdout=into)
+        daemon = server.ready()
+        # (a bare daemon answers some forty, until 4 KiB are full)
+        answered = flood(server, 400, 400)
+        wanted(answered >= 300, f'{answered} of 400 questions are answered beside a reader that takes nothing')
+        ends(server)
+        found = server.process.wait(10)
+        wanted(found == status, f'it ends with status {found}, and {status} is wanted: {server.read()}')
+        until(lambda daemon=daemon: not is_there(daemon), 'the daemon outlives it', 1)
+        os.close(end)
+        os.close(into)
+    server = Traced(turns=50)
+    server.ready()
+    flood(server, 100, 200)
+    wanted(server.process.wait(10) == 0 and server.read(server.out).count(' trace on\n') == 1, 'its turns are over, and it goes on')
+
+
+def emptied():
+    """Standard output is a file on a disk that is full for a while: that ends nothing, lines are dropped and counted, and then the file has lines again."""
+    with open('/dev/full', 'wb') as disk:
+        server = Supervised(stdout=disk)
+        server.ready()
+        until(lambda: 'standard output: No space left on device; lines are dropped until it can be written\n' in server.read(), 'a full disk isn\'t told of')
+        wanted(flood(server, 20, 100) == 20, 'not all questions are answered beside a full disk')
+        server.end()
+        loop, said, path, mine, again, output.AGAIN = Loop(), [], Supervised.path('emptied'), os.dup(1), output.AGAIN, 0.01
+        os.dup2(disk.fileno(), 1)
+        trace = output.Output('', loop, said.append, None)
+        trace.put(b'1 0 0 1 trace on\n')
+        until(lambda: trace.outlet.fault, 'a full disk takes lines')
+    with open(path, 'wb') as file:
+        os.dup2(file.fileno(), 1)
+    steps(loop, 0.2)
+    trace.put(b'2 0 0 2 trace on\n')
+    trace.flush(5)
+    os.dup2(mine, 1)
+    output.AGAIN = again
+    signal.set_wakeup_fd(-1)
+    with open(path, encoding='ascii') as file:
+        found = file.read()
+    wanted(len(said) > 0 and found == '... 1 lines dropped\n2 0 0 2 trace on\n', f'it says {said}, and the file has {found!r}')
 
 
 def full():
@@ -423,6 +481,76 @@ def slept():
     server.end()
 
 
+class Peer:
+    """A host that this plays. `leads` is whether it tells a daemon that looks for a master that it is one, and `named` whom it names to a supervisor that asks: `%`
+    for nobody, and None where it is silent."""
+
+    def __init__(self, name, leads):
+        self.name, self.leads, self.named = name, leads, '%'
+        self.link = socket.socket(socket.AF_INET, socket.SOCK_DGRAM)
+        self.link.bind(('127.0.0.1', 0))
+        threading.Thread(target=self.play, daemon=True).start()
+
+    def play(self):
+        """Answers what comes."""
+        while True:
+            octets, sender = self.link.recvfrom(512)
+            kind, number = octets[0] - 1, int.from_bytes(octets[2:4], 'big')
+            if kind == KINDS.index('masterreq') and self.leads:
+                self.link.sendto(octets_of(('masterack', number, self.name)), sender)
+            elif kind == KINDS.index('msite') and self.named is not None:
+                self.link.sendto(octets_of(('ack', number, self.named)), sender)
+
+
+class Peered(Supervised):
+    """A daemon that has peers, in time that runs fast."""
+    RATE = 20
+
+    def __init__(self, peers, library, **variables):
+        self.peers = peers
+        settings = fast.environment(library, time.monotonic_ns(), self.RATE, time.time_ns() // 1000)
+        super().__init__(**{name: value for name, value in settings.items() if name.startswith(('FAST_', 'LD_'))}, **variables)
+
+    def write_hosts(self, *more):
+        super().write_hosts(*(f'{peer.name} 127.0.0.1:{peer.link.getsockname()[1]} master' for peer in self.peers), *more)
+
+    def followed(self):
+        """How often a daemon began to follow the first peer."""
+        return self.read(self.out).count(' become follow 1\n')
+
+    def kill(self):
+        """Kills it, and with it the daemon. (it would wait for its last lines by the machine's own time)"""
+        daemon = self.daemon()
+        self.process.kill()
+        self.process.wait()
+        until(lambda: not is_there(daemon), 'the daemon outlives it')
+
+
+def followed():
+    """The master is gone while another host leads: the daemon is started again, once in ten minutes; with TSP_FOLLOW=wait it isn't."""
+    rule = Follow(lambda least, most: (least, most))
+    wanted([rule.wait(now) for now in (0, 5, 599, 600, 1199)] == [(0, 10), None, None, (0, 10), None], 'it is started again more often than once in ten minutes')
+    library = preload.made('tsp_fast', FOLDER)
+    if library is None:
+        print('supervise: there is no cc, so another master isn\'t tried')
+        return
+    said = 'b, which the daemon follows, doesn\'t lead any more, and c does; the daemon is started again'
+    for policy, starts in (('next', 1), ('wait', 0)):
+        first, other = Peer('b', True), Peer('c', False)
+        server = Peered([first, other], library, TSP_FOLLOW=policy)
+        until(lambda: server.followed() == 1, 'the daemon doesn\'t follow', 20)
+        first.named = None
+        # (for 20 s of its time nobody leads)
+        time.sleep(20 / Peered.RATE)
+        wanted(said not in server.read(), 'the daemon is started again though nobody else leads')
+        other.named = 'c'
+        until(lambda: server.followed() == 1 + starts, 'the daemon isn\'t started again', 20)
+        # (the first one says to it again that it leads)
+        time.sleep(60 / Peered.RATE)
+        wanted(server.read().count(said) == starts, f'TSP_FOLLOW={policy}, and it says {server.read()}')
+        server.kill()
+
+
 def stood():
     """All stands still between two readings of clocks: that is no sleep."""
     real, pauses = time.clock_gettime, [1.5, 0, 0, 0, 0, 0, 0, 1.5]
@@ -457,12 +585,13 @@ def interrupted():
 
 
 def turned():
-    """The turns end, again and again: the daemon is started again, and it says nothing of that."""
+    """The turns end, again and again: the daemon is started again, and it says why."""
     # (the supervisor's own questions take 200 of them)
     server = Supervised(turns=300)
     first = server.ready()
     until(lambda: server.answers() and server.daemon() not in (None, first), 'the daemon isn\'t started again at its turns\' end', 10)
-    wanted(all(line.endswith('in the trace peer 0 is a') for line in server.read().splitlines()), f'it says {server.read()}')
+    known = 'in the trace peer 0 is a', ' after 80 s it asks who leads', 'all turns of the daemon are taken; it is started again'
+    wanted(known[2] in server.read() and all(line.endswith(known) for line in server.read().splitlines()), f'it says {server.read()}')
     server.end()
 
 
@@ -539,7 +668,10 @@ def reloaded():
     trace = Supervised.path('trace')
     server = Supervised('--output', trace)
     first = server.ready()
-    for more, text in ((('# nothing',), 'since it is started with the same words'), (('b 127.0.0.1:1 leader',), ':2: role \'leader\''),
+    digest = subprocess.run([LAUNCH, '--lint', '-f', server.hosts], stdout=subprocess.PIPE, check=True).stdout.decode('ascii').strip()
+    until(lambda: f', by a hosts file with the digest {digest}; ' in server.read(), f'it doesn\'t say the digest {digest}')
+    same = f'a hosts file with the digest {digest} was read: the daemon goes on, since it is started with the same words'
+    for more, text in ((('# nothing',), same), (('b 127.0.0.1:1 leader',), ':2: role \'leader\''),
                        (('b 127.0.0.1:1 slave',), 'the hosts file changed what the daemon is started with')):
         wanted(server.daemon() == first, f'the daemon is another one before {more}')
         server.write_hosts(*more)
@@ -555,10 +687,46 @@ def reloaded():
     second = server.daemon()
     server.write_hosts('c 127.0.0.1:1 slave')
     server.process.send_signal(signal.SIGHUP)
-    until(lambda: 'in the trace peer 0 is a, 1 c\n' in server.read(), 'another name of a peer isn\'t told')
+    until(lambda: 'in the trace peer 0 is a, 1 c\n' in server.read(trace), 'another name of a peer isn\'t told')
     until(lambda: server.daemon() not in (None, second) and server.answers(), 'the daemon isn\'t started again with another name of a peer')
     wanted(server.read(server.out) == '', 'the trace goes to standard output too')
     server.end()
+
+
+def trailed():
+    """TSP_TRACE names a file: the trace goes there with its starts, and the supervisor goes on if it can't be written yet. tsp-watch finds it."""
+    folder = Supervised.path('log')
+    trace = os.path.join(folder, 'trace')
+    server = Supervised(stdout=subprocess.DEVNULL, TSP_TRACE=trace, TSP_KEEP='1')
+    server.ready()
+    wanted(f'{trace}: No such file or directory; the trace is kept once it can be written' in server.read(), f'it says {server.read()}')
+    os.mkdir(folder)
+    until(lambda: os.path.exists(trace), 'the trace isn\'t kept once it can be', 15)
+    os.kill(server.daemon(), signal.SIGKILL)
+    until(lambda: server.read(trace).count(' trace on\n') > 0, 'the trace isn\'t written', 10)
+    flood(server, 6000, 2000)
+    until(lambda: os.path.exists(f'{trace}.000001.gz'), 'the file isn\'t put aside', 10)
+    server.end()
+    found = subprocess.run([os.path.join(TOOLS, 'tsp-watch'), '--lines'], env={**os.environ, 'TSP_TRACE': trace}, stdout=subprocess.PIPE, check=True).stdout
+    turns = [int(line.split()[0]) for line in found.split(b'tsp-launch: in the trace peer 0 is a\n')[-1].splitlines() if b' took ' in line or b' post ' in line]
+    wanted(sorted(set(turns)) == list(range(turns[0], turns[-1] + 1)) and len(turns) > 10_000, f'{len(turns)} lines of {turns[-1] - turns[0]} turns are in the files')
+
+
+def prioritised():
+    """The journal reads both streams: each line has its priority, those of the trace the least."""
+    with open(Supervised.path('journal'), 'wb+') as file:
+        found = os.fstat(file.fileno())
+        server = Supervised(stdout=file, stderr=file, JOURNAL_STREAM=f'{found.st_dev}:{found.st_ino}')
+        until(lambda: server.daemon() and server.answers(), 'the daemon doesn\'t answer')
+        until(lambda: ' trace on\n' in server.read(file.name), 'the daemon doesn\'t trace')
+        os.kill(server.daemon(), signal.SIGKILL)
+        until(lambda: server.read(file.name).count('runs and answers') > 1, 'the daemon isn\'t started again', 10)
+        server.end()
+    lines = server.read(file.name).splitlines()
+    wanted(all(re.fullmatch('<[3-7]>.+', line) for line in lines), f'lines are {lines[:5]}')
+    for level, text in ((7, 'in the trace peer 0 is a'), (7, ' trace on'), (5, ' after 80 s it asks who leads'),
+                        (4, 'the daemon ended with status 137; the daemon is started again in 2 s')):
+        wanted(any(line.startswith(f'<{level}>') and line.endswith(text) for line in lines), f'no line of priority {level} ends with {text}')
 
 
 def stubborn():
@@ -623,9 +791,9 @@ def rotated():
     with open(os.path.join(os.path.dirname(TOOLS), 'daemon', 'tsp.logrotate'), encoding='ascii') as file:
         text = file.read()
     told = 'systemctl kill --signal=HUP --kill-who=main tsp.service'
-    wanted(text.count('/var/log/tsp/trace {') == 1 and text.count(told) == 1, 'logrotate\'s example is another one')
+    wanted(text.count('/var/log/tsp/daily {') == 1 and text.count(told) == 1, 'logrotate\'s example is another one')
     with open(config, 'w', encoding='ascii') as file:
-        file.write(text.replace('/var/log/tsp/trace {', f'{trace} {{').replace(told, f'kill -HUP {server.process.pid}'))
+        file.write(text.replace('/var/log/tsp/daily {', f'{trace} {{').replace(told, f'kill -HUP {server.process.pid}'))
     for number in (1, 2):
         wanted(flood(server, 200, 2000) == 200, 'questions stay unanswered')
         server.link.setblocking(True)
@@ -671,22 +839,40 @@ def within(daemon, sent, reading, got):
 
 
 def gone():
-    """Its address is taken from the machine: the daemon ends, and is started again when the address is back. (in a network namespace)"""
+    """Its address is taken from the machine. The daemon goes on if the address is back within the grace, as a cable is; else it ends, and is started again
+    when the address is back. Without a grace it ends at once. (in a network namespace)"""
     def address(what):
         subprocess.run(['ip', 'address', what, '192.0.2.5/32', 'dev', 'lo'], check=True)
 
+    def comes_back(server, first, line):
+        # (it ends the daemon first, and then says why)
+        until(lambda: line in server.read(), 'the supervisor says nothing of the address')
+        address('add')
+        until(lambda: server.daemon() not in (None, first) and server.answers(), 'the daemon isn\'t started again when its address is back')
+        server.end()
+
     subprocess.run(['ip', 'link', 'set', 'lo', 'up'], check=True)
     address('add')
-    server = Supervised(address='192.0.2.5')
+    server = Supervised(address='192.0.2.5', TSP_GONE='3')
     first = server.ready()
     address('del')
-    until(lambda: server.daemon() is None, 'the daemon goes on without its address')
+    until(lambda: 'the daemon goes on, and ends if that lasts for 3 s\n' in server.read(), 'the supervisor says nothing')
+    wanted(not server.answers() and is_there(first), 'the daemon ends at once, or answers by an address that is gone')
+    address('add')
+    until(lambda: 'is an address of this machine again, after ' in server.read(), 'the supervisor doesn\'t see the address again')
+    wanted(server.answers() and server.daemon() == first, 'the daemon didn\'t go on')
+    begun = time.monotonic()
+    address('del')
+    until(lambda: server.daemon() is None, 'the daemon goes on without its address', 7)
+    wanted(time.monotonic() > begun + 3, f'the daemon ends after {time.monotonic() - begun:.1f} s')
     time.sleep(1)
     wanted(server.daemon() is None and server.process.poll() is None, 'it doesn\'t wait for the address')
-    address('add')
-    until(lambda: server.daemon() not in (None, first) and server.answers(), 'the daemon isn\'t started again when its address is back')
-    wanted('192.0.2.5 is no address of this machine any more' in server.read(), f'it says {server.read()}')
-    server.end()
+    comes_back(server, first, '192.0.2.5 is no address of this machine any more, and hasn\'t been for ')
+    server = Supervised(address='192.0.2.5', TSP_GONE='0')
+    first = server.ready()
+    address('del')
+    until(lambda: server.daemon() is None, 'the daemon goes on without its address, and without a grace', 3)
+    comes_back(server, first, '192.0.2.5 is no address of this machine any more; the daemon is started again when it is')
 
 
 def away():

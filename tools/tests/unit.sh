@@ -25,13 +25,13 @@ sed -n 's/^#\(TSP_[A-Z]*=.*\)/\1/p' daemon/tsp.default >"$out/defaults"
 { says Environment | tr ' ' '\n'; cat "$out/defaults"; } | sed 's/=.*//' | sort -u >"$out/set"
 {
     grep -o '\${TSP_[A-Z]*' tools/tsp-launch | sed 's/^..//'
-    grep -oh "environ.get('TSP_[A-Z]*" tools/tsp_daemon/*.py | sed "s/.*'//"
+    grep -oh "environ.get('TSP_[A-Z]*" tools/tsp_daemon/*.py tools/tsp_supervise/*.py | sed "s/.*'//"
 } | sort -u >"$out/read"
 comm -23 "$out/set" "$out/read" >"$out/unread"
 [ ! -s "$out/unread" ] || fail "tsp-launch does not read $(cat "$out/unread")"
 [ -z "$(sed 's/=.*//' "$out/defaults" | sort | uniq -d)" ] || fail "a variable stands twice in daemon/tsp.default: $(sed 's/=.*//' "$out/defaults" | sort | uniq -d)"
-# (the supervisor sets two of them itself, and the firewall's is for a call by hand)
-sed 's/=.*//' "$out/defaults" | sort | comm -13 - "$out/read" | grep -v -x -e TSP_ASKERS -e TSP_NAMES -e TSP_PAGE >"$out/lacking" || :
+# (tsp-launch sets three of them itself, and those of the firewall and the tunnel are for a call by hand)
+sed 's/=.*//' "$out/defaults" | sort | comm -13 - "$out/read" | grep -v -x -e TSP_ASKERS -e TSP_DIGEST -e TSP_KEY -e TSP_KEYS -e TSP_NAMES -e TSP_ONCE -e TSP_PAGE >"$out/lacking" || :
 [ ! -s "$out/lacking" ] || fail "daemon/tsp.default lacks $(paste -sd ' ' "$out/lacking")"
 # Each has there what it is if it is left out: by the unit, or else by tsp-launch.
 while IFS='=' read -r name value; do

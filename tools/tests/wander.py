@@ -9,7 +9,7 @@ import random
 import subprocess
 from collections import namedtuple
 
-from tsp_daemon import stamps
+from tsp_supervise import stamps
 from tsp_texts import grammar, schedule
 from tsp_witness.datagram import octets_of
 

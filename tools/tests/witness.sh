@@ -100,7 +100,12 @@ mkdir "$out/launched"
 for name in a b; do
     tools/tsp-launch --file "$out/hosts" --self "$name" --turns 6 --trace --spread 0 --program "$TSP_PROGRAM" >"$out/launched/$name" 2>&1 &
 done
-sleep 2
+tries=0
+until [ "$(cat "$out/launched/a" "$out/launched/b" | grep -c ' trace on$')" -eq 2 ]; do
+    tries=$((tries + 1))
+    [ "$tries" -lt 50 ] || fail "the daemons don't trace: $(cat "$out/launched/a" "$out/launched/b")"
+    sleep 0.1
+done
 for port in "$one" "$two"; do
     "$TSP_PROGRAM" clockdiff "127.0.0.1:$port" >"$out/clock" || fail "a daemon's clock isn't told"
 done

@@ -9,6 +9,8 @@ from functools import lru_cache
 # No line of a trace is longer.
 LONGEST = 1024
 NUMBER, SIGNED, WHO = '(?:0|[1-9][0-9]{0,19})', '(?:0|-?[1-9][0-9]{0,18})', '(?:-|0|[1-9][0-9]{0,19})'
+# How a line of a daemon's own trace begins: its turn, node 0, a port and the tick.
+OF_DAEMON = '[0-9]+ 0 [0-3] [0-9]+ '
 NAME = '(?:%|(?:[!-$&-~]|%[0-9a-f]{2}){1,255})'
 ALARM = '(?:quiet|search|elect|window|probe|close|resolve|round)'
 # The kinds of messages with a name in the order of their numbers, from 1 on, and those of them that have a time.

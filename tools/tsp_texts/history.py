@@ -2,6 +2,7 @@
 import bisect
 from collections import namedtuple
 
+import tsp_clock
 from tsp_texts import trace
 
 NUMBERED = ('adjtime', 'settime', 'election', 'conflict', 'quit')
@@ -43,7 +44,7 @@ class Bound(namedtuple('Bound', 'clock master follower close correct err reading
     __slots__ = ()
 
     def width_at(self, at):
-        return self.err + 2 * trace.width(self.drift, at - self.reading_at)
+        return self.err + 2 * tsp_clock.width(self.drift, at - self.reading_at)
 
 
 class Chain(namedtuple('Chain', 'bounds begin end lasts')):

@@ -6,7 +6,7 @@ import signal
 import stat
 import sys
 
-VERSION = '0.1'
+VERSION = '0.1.4'
 # The status for wrong words, which all tools have in common.
 BAD_WORDS = 2
 CUT_OFF = 141

@@ -4,8 +4,7 @@ All times are microseconds. `at` is true time, `tick` a node's own count.
 """
 from collections import namedtuple
 
-MILLION = 1_000_000
-SLEW = 200
+from tsp_clock import MILLION, SLEW, eased
 
 
 class Act(namedtuple('Act', 'place event node port tick at text')):
@@ -33,11 +32,6 @@ def tick_at(node, at):
     return at + at * node.rate // MILLION
 
 
-def width(drift, passed):
-    """By how much a clock may have gone wrong in so much true time, under this drift."""
-    return -(-drift * passed // MILLION) + 1
-
-
 class Clock(namedtuple('Clock', 'node base rest since')):
     """A node's clock from a boot or a correction on.
 
@@ -52,8 +46,7 @@ class Clock(namedtuple('Clock', 'node base rest since')):
 
     def shown(self, at):
         """The shown value less true time."""
-        left = max(abs(self.rest) - (tick_at(self.node, at) - self.since) // SLEW, 0)
-        return self.offset(at) - (left if self.rest > 0 else -left)
+        return self.offset(at) - eased(self.rest, tick_at(self.node, at) - self.since)
 
     def met_at(self):
         """The first true time at which the shown value is the target."""

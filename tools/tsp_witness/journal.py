@@ -1,6 +1,7 @@
 """Journals: the lines that a host's daemon wrote, life by life, as files or a journal have them."""
 import math
 
+from tsp_texts import told
 from tsp_texts.grammar import LONGEST, place_of_peer
 from tsp_witness import Unusable, lines
 
@@ -140,8 +141,9 @@ class Journal:
     def line(self, line, place):
         """One line: an act, what the launcher says at a start, or something else that is passed over."""
         if len(line) > LONGEST + BEFORE:
-            if lines.started(line):
-                self.check_peers(lines.started(line), place)
+            names = told.names_in(line)
+            if names:
+                self.check_peers(names, place)
                 self.begins = True
             return
         found = lines.line_of(line)
@@ -154,19 +156,25 @@ class Journal:
             self.unseen += int(lines.LEFT_OUT.search(line)[1])
         elif lines.ALMOST.search(line):
             self.note(f'{place}: this line is cut or changed, and is passed over')
-        elif lines.started(line):
-            self.check_peers(lines.started(line), place)
-            self.begins, self.rate = True, 0
-        elif lines.APPLIED.search(line):
-            self.rate = int(lines.APPLIED.search(line)[1])
+        else:
+            self.heard(line, place)
 
-    def check_peers(self, found, place):
+    def heard(self, line, place):
+        """A line of the launcher, or of anybody else."""
+        names, rate = told.names_in(line), told.rate_in(line)
+        if names:
+            self.check_peers(names, place)
+            self.begins, self.rate = True, 0
+        elif rate and not rate[1]:
+            self.rate = rate[0]
+
+    def check_peers(self, names, place):
         """The launcher names the daemon's peers: they are those of the network."""
         peers = self.network.peers[self.node]
         wanted = ', '.join(f'{number} {self.network.names[peer.node]}' for number, peer in peers.items())
-        told = f'0 {found[1]}{found[2]}'
-        if told != wanted:
-            raise Unusable(f'{place}: the daemon was started with the peers {told[:200]}; by the hosts file they are {wanted[:200]}')
+        said = ', '.join(f'{number} {name}' for number, name in enumerate(names))
+        if said != wanted:
+            raise Unusable(f'{place}: the daemon was started with the peers {said[:200]}; by the hosts file they are {wanted[:200]}')
 
     def act(self, number, tick, act, place):
         """An act of the last turn, of a new one, or of a new life."""

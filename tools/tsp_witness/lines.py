@@ -2,25 +2,16 @@
 import re
 
 from tsp_texts import grammar
+from tsp_texts.words import MOST_PORTS
 
-MOST_PORTS = 4
 # What looks like a line and isn't one was cut or changed.
-ALMOST = re.compile('(?:^|: )[1-9][0-9]* 0 [0-3] [0-9]+ ')
+ALMOST = re.compile(f'(?:^|: )(?!0){grammar.OF_DAEMON}')
 # What a daemon's supervisor says of questions for its clock, and their answers, which it didn't hand on.
 LEFT_OUT = re.compile(r'(?:^|: )\.\.\. ([1-9][0-9]{0,18}) lines of supervisors left out$')
-# What it says of a counter that runs at another rate than the machine's wall clock, in parts in 10^9.
-APPLIED = re.compile(r'(?:^|: )tsp-launch: the daemon counts (-?[0-9]{1,7}) parts in 10\^9 faster than the machine$')
-START, STARTED = 'in the trace peer 0 is ', re.compile(r'([!-~]+)((?:, [1-9][0-9]{0,2} [!-~]+)*)')
 # No line of a start that names 999 peers is longer; longer ones are passed over.
 LONGEST_START = 300_000
 # A number of a trace has at most 64 bits.
 GREAT_NUMBERS, MOST_NUMBER = re.compile('-?[0-9]{20,}'), 2**64 - 1
-
-
-def started(line):
-    """The names in the line with which the launcher tells of a start, or None. (what is before it is looked at once, however long it is)"""
-    _, told, names = line.rpartition(START)
-    return STARTED.fullmatch(names) if told else None
 
 
 def is_too_great(line):

@@ -3,13 +3,12 @@ import re
 from collections import namedtuple
 
 from tsp_texts import schedule, tool
+from tsp_texts.words import MOST_PEERS
 from tsp_witness import Unusable
 
 NAME = re.compile('[A-Za-z0-9._-]{1,255}')
 # As many as tsp-launch takes.
 MOST_OCTETS = 2 * 2**20
-# As many peers as a daemon has.
-MOST_PEERS = 999
 # The role of a host in the hosts file, and its flag in a schedule.
 FLAGS = {'master': 'm', 'slave': 's', 'strict': 'm'}
 

@@ -1,4 +1,4 @@
-/* Lets a program's time run faster, for dev/network. It is loaded before the C library by LD_PRELOAD.
+/* Lets a program's time run faster, for tsp-demo and for dev/. It is loaded before the C library by LD_PRELOAD.
  *
  *   FAST_FROM   the value of CLOCK_MONOTONIC at which fast time begins, in nanoseconds
  *   FAST_RATE   how many nanoseconds of fast time pass in one

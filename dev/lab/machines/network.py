@@ -1,0 +1,190 @@
+"""A network of machines: the package on each, one hosts file, and what is wanted of it."""
+import os
+import re
+import subprocess
+import sys
+import time
+from collections import namedtuple
+from concurrent.futures import ThreadPoolExecutor
+
+from lab.hosts import Failed
+from lab.machines import image, needs
+from lab.machines.machine import Gone, Machine
+from lab.machines.switch import Switch
+
+HERE = os.path.dirname(os.path.realpath(__file__))
+TOP = os.path.dirname(os.path.dirname(os.path.dirname(HERE)))
+# By how many parts in a million the hardware of each machine counts too fast.
+RATES = (40, -25, 5, 60, -50)
+SLAVE_FROM = 4
+# Seconds: after which a host may be told to stand, a network has a master, a host has joined it, a unit is up, and between two looks.
+MAY_STAND, LED, JOINED, UP, OFTEN = 300, 900, 240, 150, 2
+# The place of the role in a line of `tsp-status --csv`; and what a page says, by its numbers.
+ROLE = 7
+STATUSES, ROLES = ('stale', 'waiting', 'synchronised', 'holding'), ('nobody', 'follows', 'leads')
+
+
+class Seen(namedtuple('Seen', 'status role life')):
+    """What a page says."""
+    __slots__ = ()
+
+
+class Network:
+    """Machines on one switch, with a daemon each. `say` writes a line."""
+
+    def __init__(self, folder, count, say):
+        self.folder, self.say, self.begun = folder, say, time.monotonic()
+        self.by, line = needs.processor(folder)
+        say(line)
+        self.switch = Switch(os.path.basename(folder))
+        self.machines = [Machine(folder, number, self.switch, self.by, RATES[number - 1]) for number in range(1, count + 1)]
+        self.build()
+
+    def build(self):
+        """Makes the programs of the lab itself."""
+        for words in (('-shared', '-fPIC', '-o', 'rate.so', 'rate.c', '-ldl'), ('-o', 'answer', 'answer.c'), ('-static', '-o', 'sampler', 'sampler.c')):
+            words = [os.path.join(HERE, word) if word.endswith('.c') else word for word in words]
+            subprocess.run(['cc', '-O2', '-Wall', f'-I{os.path.join(TOP, "tools")}', *words], cwd=self.folder, check=True)
+
+    def __getitem__(self, number):
+        return self.machines[number - 1]
+
+    def seconds(self):
+        """The seconds since the lab began."""
+        return time.monotonic() - self.begun
+
+    def each(self, call, machines=None):
+        """Calls for several machines side by side, and gives what came of each."""
+        machines = machines or self.machines
+        with ThreadPoolExecutor(len(machines)) as pool:
+            return list(pool.map(call, machines))
+
+    def boot(self):
+        """Turns all machines on, and waits until they have booted."""
+        for machine in self.machines:
+            machine.make()
+            machine.start()
+        self.each(Machine.ready)
+        self.each(lambda machine: machine.put(os.path.join(self.folder, 'sampler'), '/srv/sampler', '755'))
+
+    def remove(self):
+        """Takes all away but the disk that machines share."""
+        for machine in self.machines:
+            machine.remove()
+        self.switch.remove()
+
+    def hosts(self, address=lambda machine: machine.address):
+        """The hosts file."""
+        return ''.join(f'{machine.name} {address(machine)} {"master" if machine.number < SLAVE_FROM else "slave"}\n' for machine in self.machines)
+
+    def install(self, package, machines=None):
+        """Installs a package."""
+        def one(machine):
+            machine.put(package, '/srv/tsp.deb')
+            # (the machines have no way to Debian: what a package needs is in their image)
+            machine.must('DEBIAN_FRONTEND=noninteractive dpkg -i /srv/tsp.deb', patience=600)
+        self.each(one, machines)
+
+    def set_up(self, package):
+        """From bare machines to a network that a host leads."""
+        self.install(package)
+        self.each(lambda machine: machine.write('/etc/tsp/hosts', self.hosts()))
+        self.each(lambda machine: machine.must('tsp-launch --lint; systemctl enable --now tsp', patience=UP))
+        self.led()
+
+    def led(self, longest=LED):
+        """Waits until a host leads and all others follow it; the first one is told to stand, as soon as it may."""
+        until = time.monotonic() + longest
+        while time.monotonic() < until:
+            seen = self.each(page_of)
+            roles = [one.role for one in seen]
+            if sorted(roles) == ['follows'] * (len(roles) - 1) + ['leads'] and all(one.status == 'synchronised' for one in seen):
+                return self.machines[roles.index('leads')]
+            if 'leads' not in roles and self.up(self[1]) > MAY_STAND:
+                self[1].says('tsp-elect m1')
+            time.sleep(OFTEN)
+        raise Failed(f'after {longest} s the hosts are {self.each(page_of)}')
+
+    @staticmethod
+    def up(machine):
+        """The seconds since a machine's daemon was started."""
+        found = machine.says('ps -o etimes= -C tsp').split()
+        return int(found[0]) if found else 0
+
+    @staticmethod
+    def roles_by(machine):
+        """The role of each host, as a machine sees it."""
+        lines = [line.split(',') for line in machine.says('tsp-status --csv 2>/dev/null').split('\n')[1:]]
+        return {line[0]: line[ROLE] for line in lines if len(line) > ROLE}
+
+    def master(self):
+        """The machine that leads, by its page, or None."""
+        return next((machine for machine, seen in zip(self.machines, self.each(page_of)) if seen.role == 'leads'), None)
+
+    def followers(self):
+        """The machines that don't lead."""
+        master = self.master()
+        return [machine for machine in self.machines if machine is not master]
+
+    def joined(self, machines, longest=JOINED):
+        """Waits until these hosts are synchronised, by their own pages; gives the seconds that this took."""
+        begun, left = time.monotonic(), list(machines)
+        while left and time.monotonic() - begun < longest:
+            left = [machine for machine in left if status_of(machine) != 'synchronised']
+            time.sleep(OFTEN if left else 0)
+        if left:
+            raise Failed(f'after {longest} s {", ".join(machine.name for machine in left)} isn\'t synchronised')
+        return time.monotonic() - begun
+
+
+    def joined_anew(self, machine, before, longest=JOINED):
+        """Waits until a host is synchronised in another life than before; gives the seconds that this took."""
+        begun = time.monotonic()
+        while life_of(machine) in ('', before) or status_of(machine) != 'synchronised':
+            if time.monotonic() - begun > longest:
+                raise Failed(f'after {longest} s {machine.name} isn\'t synchronised in another life: {status_of(machine)}, {journal(machine)}')
+            time.sleep(OFTEN)
+        return time.monotonic() - begun
+
+
+def page_of(machine):
+    """What a machine's page says: the status, the role, and the number of the daemon's life; all empty where nothing answers."""
+    try:
+        words = machine.says('/srv/sampler page').split()
+    except Gone:
+        words = []
+    if len(words) != 3 or not words[0].isdigit():
+        return Seen('', '', '')
+    return Seen(STATUSES[int(words[0])], ROLES[int(words[1])], words[2])
+
+
+def status_of(machine):
+    """What a machine's page says: synchronised, holding, waiting or stale."""
+    return page_of(machine).status
+
+
+def life_of(machine):
+    """The number of the daemon's life, which is another one at each start."""
+    return page_of(machine).life
+
+
+def journal(machine, words=''):
+    """The last lines of the unit's supervisor."""
+    return machine.says(f'journalctl -u tsp -o cat -n 4000 | grep tsp-launch: {words}| tail -n 8')
+
+
+def wanted(is_so, text):
+    """Ends a scenario where something isn't so."""
+    if not is_so:
+        raise Failed(text)
+
+
+def made(folder, count, say):
+    """A network in a folder, whose image is made first where it isn't there."""
+    needs.wanted()
+    os.makedirs(folder, exist_ok=True)
+    if not os.path.exists(os.path.join(folder, 'disk')):
+        say('the image of the machines is made, which takes some minutes')
+    image.made(folder)
+    sys.stdout.flush()
+    return Network(folder, count, say)

@@ -1,0 +1,55 @@
+"""The package on machines: install, upgrade and purge. Each function is a scenario, as in faults."""
+import re
+import time
+
+from lab.machines.network import life_of, page_of, status_of, wanted
+
+# What the package may leave behind, and what a purge has to take away.
+PLACES = ('/etc/tsp', '/etc/default/tsp', '/var/lib/tsp', '/var/lib/private/tsp', '/run/tsp', '/usr/lib/tsp', '/usr/share/tsp', '/usr/share/doc/tsp',
+          '/etc/systemd/system/multi-user.target.wants/tsp.service', '/etc/systemd/system/tsp.service.d', '/usr/lib/systemd/system/tsp.service')
+# An upgraded host is waited for, in seconds, as the pages say.
+FOLLOWS = 240
+
+
+def install(net):
+    """From bare machines by the pages alone: the package, the hosts file, one command for the unit. Each is up, one host leads, and all are synchronised."""
+    begun = time.monotonic()
+    net.set_up(net.package)
+    led = time.monotonic() - begun
+    net.joined(net.machines)
+    exposure = net[1].says('systemd-analyze security tsp --no-pager | tail -n 1')
+    found = re.search(r'[0-9]+\.[0-9]+', exposure)
+    return f'{net.master().name} leads {led:.0f} s after the first command, and all are synchronised; exposure {found.group() if found else exposure}'
+
+
+def upgrade(net):
+    """From the version before to this one, host by host, the master last: the package restarts no daemon, and one host leads in the end."""
+    wanted(net.earlier, 'an upgrade needs --earlier, the package of the version before')
+    begun, before = time.monotonic(), net[1].says('dpkg-query -W -f \'${Version}\' tsp')
+    followers, master = net.followers(), net.master()
+    for one in [*followers, master]:
+        life = life_of(one)
+        net.install(net.package, [one])
+        wanted(life_of(one) == life and status_of(one) == 'synchronised', f'the package restarted the daemon of {one.name}')
+        one.must('systemctl restart tsp', patience=200)
+        if one is not master:
+            net.joined_anew(one, life, FOLLOWS)
+    last = net.led()
+    after = net[1].says('dpkg-query -W -f \'${Version}\' tsp')
+    wanted(after != before, f'the version is {after}, as before')
+    return f'{before} to {after}, no daemon restarted by the package; {last.name} leads {time.monotonic() - begun:.0f} s after the first command'
+
+
+def purge(net):
+    """The package is purged from a slave: neither a process nor a file of it is left, and the other hosts go on."""
+    one = net.machines[-1]
+    master = net.master()
+    wanted(one is not master, f'{one.name} leads, and a slave is to be purged')
+    one.must('dpkg --purge tsp', patience=300)
+    left = one.says(f'ls -d {" ".join(PLACES)} 2>/dev/null; pgrep -a -x tsp; pgrep -af tsp-launch; systemctl list-units --all --no-legend "tsp*"')
+    wanted(not left, f'a purge leaves {left}')
+    wanted(net.master() is master and status_of(net[2]) == 'synchronised', f'the others don\'t go on: {net.each(page_of)}')
+    net.install(net.package, [one])
+    one.write('/etc/tsp/hosts', net.hosts())
+    one.must('systemctl enable --now tsp', patience=200)
+    return f'nothing is left; installed again, it is synchronised after {net.joined([one]):.0f} s'

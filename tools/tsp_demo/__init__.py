@@ -1,0 +1,1 @@
+"""What tsp-demo shows: three hosts whose time runs fast, what is seen of them, and how that is drawn."""
