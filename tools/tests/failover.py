@@ -17,7 +17,9 @@ from lab.trial import Trial  # noqa: E402
 
 PROGRAM, FOLDER = sys.argv[1:3]
 RATE = 25
-HOUR = 3_600_000_000
+# An hour and a minute: the boot words tell how long a host waits for its election, by the wall clock's place in five minutes, and those of two hosts have
+# to differ by more than a machine may be late.
+AHEAD = 3_660_000_000
 # Runs a tool in fast time, where a sleep would have its end in slow time.
 TOOL = f'''
 import runpy, select, sys, time
@@ -31,7 +33,7 @@ class Failover:
     """Three daemons, whose clocks are an hour apart at first, and what the tools say of them."""
 
     def __init__(self, library):
-        self.a, self.b, self.c = Daemon('a', 'm'), Daemon('b', 'm', HOUR), Daemon('c', 's', -1000)
+        self.a, self.b, self.c = Daemon('a', 'm'), Daemon('b', 'm', AHEAD), Daemon('c', 's', -1000)
         self.lab = Loopback([[self.a, self.b, self.c]], PROGRAM, library, RATE, FOLDER)
         self.trial = Trial(self.lab)
         self.hosts = self.lab.write_hosts()
@@ -68,7 +70,7 @@ class Failover:
         for daemon in self.a, self.b, self.c:
             self.lab.start(daemon)
         self.says(self.tool(1, 'tsp-status'), 'nobody leads', 'and 50.000 are allowed')
-        self.says(self.tool(2, 'tsp-status', '--check'), 'TSP CRITICAL: nobody leads; ', ' and b may be 3600')
+        self.says(self.tool(2, 'tsp-status', '--check'), 'TSP CRITICAL: nobody leads; ', ' and b may be 3660')
         self.says(self.tool(1, 'tsp-elect', 'a'), 'it hasn\'t been up for 80 s')
         self.says(self.tool(1, 'tsp-now', '--set', 'now'), 'nobody leads')
         self.says(self.tool(1, 'tsp-elect', 'c'), 'c is `slave` in the hosts file')
