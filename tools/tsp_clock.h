@@ -100,10 +100,17 @@ typedef struct {
     char master[256];
 } tsp_page;
 
-/* Both halves, copied from a page. */
+/* By how many microseconds two clocks may have parted after so many, and how many millionths of one they may part on until that is one more. */
+typedef struct {
+    int64_t passed, spread;
+    uint64_t room;
+} tsp_parting;
+
+/* Both halves, copied from a page, and how far the clocks had parted at the last read. */
 typedef struct {
     tsp_daemon daemon;
     tsp_look look;
+    tsp_parting parting;
 } tsp_halves;
 
 typedef struct {
@@ -152,12 +159,20 @@ static inline int64_t tsp_width(int64_t drift, int64_t passed)
 }
 
 /* By how many microseconds two clocks may have parted since the own counter was so many microseconds back: twice the width after a width more, or after
- * two. (what that width adds is mostly less than a microsecond, and then nothing is divided a second time) */
-static inline int64_t tsp_spread(int64_t drift, int64_t passed)
+ * two. That of the last time is given again as long as it is the same, so that a read takes little more than a look at the clock. (behind TSP_RECKONED the
+ * width is one more in any case, if there is a drift) */
+static inline int64_t tsp_spread(tsp_parting *last, int64_t drift, int64_t passed)
 {
-    uint64_t parts = (uint64_t)drift * (uint64_t)passed + 999999, width = parts / 1000000 + 1;
-    uint64_t more = parts % 1000000 + (uint64_t)drift * (passed > TSP_RECKONED ? 2 * width : width);
-    return (int64_t)(2 * (more < 1000000 ? width : width + more / 1000000));
+    uint64_t parts, width, more, used;
+    if ((uint64_t)drift * (uint64_t)(passed - last->passed) < last->room)
+        return last->spread;
+    parts = (uint64_t)drift * (uint64_t)passed + 999999;
+    width = parts / 1000000 + 1;
+    more = parts % 1000000 + (uint64_t)drift * (passed > TSP_RECKONED ? 2 * width : width);
+    used = more % 1000000 > parts % 1000000 ? more % 1000000 : parts % 1000000;
+    last->passed = passed;
+    last->room = 1000000 - used;
+    return last->spread = (int64_t)(2 * (width + more / 1000000));
 }
 
 /* By how much a number of a page is above the least that it may be, if none is farther from 0 than the most. */
@@ -194,37 +209,39 @@ static inline int64_t tsp_target_at(const tsp_daemon *d, int64_t tick)
     return d->target + (tick - (int64_t)d->tick);
 }
 
-/* What the daemon's clock shows at a tick. */
+/* What the daemon's clock shows at a tick: what it aims at, less what is still to be slewed of the last correction. */
 static inline int64_t tsp_shown_at(const tsp_daemon *d, int64_t tick)
 {
-    int64_t passed = tick - (int64_t)d->tick, moved = passed > 0 ? (int64_t)((uint64_t)passed / 200) : 0, rest = d->rest, shown;
-    if (rest > 0)
-        rest = rest > moved ? rest - moved : 0;
-    else
-        rest = rest < -moved ? rest + moved : 0;
-    shown = tsp_target_at(d, tick) - rest;
+    int64_t passed = tick - (int64_t)d->tick, shown = tsp_target_at(d, tick), moved;
+    if (d->rest != 0) {
+        moved = passed > 0 ? (int64_t)((uint64_t)passed / 200) : 0;
+        if (d->rest > moved)
+            shown += moved - d->rest;
+        else if (d->rest < -moved)
+            shown -= moved + d->rest;
+    }
     return shown < d->least ? d->least : shown;
 }
 
 /* The interval at a tick, by a look at the master, and what it is worth. */
-static inline int tsp_interval_of(const tsp_halves *page, int64_t tick, tsp_time *time)
+static inline int tsp_interval_of(tsp_halves *page, int64_t tick, tsp_time *time)
 {
     const tsp_daemon *d = &page->daemon;
     const tsp_look *l = &page->look;
-    int64_t target = tsp_target_at(d, tick), spread;
+    int64_t ahead, spread;
     time->age = 0;
     time->earliest = time->latest = 0;
     if (d->role == TSP_LEADS) {
-        time->earliest = time->latest = target;
+        time->earliest = time->latest = tsp_target_at(d, tick);
         return TSP_SYNCHRONISED;
     }
     if (l->had != 1 || l->life != d->life || l->looked > (uint64_t)tick)
         return TSP_WAITING;
     time->age = tick - (int64_t)l->looked;
-    spread = tsp_spread((int64_t)l->drift, time->age);
-    target -= d->moved - l->moved;
-    time->earliest = target + l->low - spread;
-    time->latest = target + l->high + spread;
+    spread = tsp_spread(&page->parting, (int64_t)l->drift, time->age);
+    ahead = tsp_target_at(d, 0) - (d->moved - l->moved);
+    time->earliest = tick + (ahead + l->low - spread);
+    time->latest = tick + (ahead + l->high + spread);
     return d->role == TSP_FOLLOWS && l->master == d->master && time->age <= TSP_LASTS ? TSP_SYNCHRONISED : TSP_HOLDING;
 }
 
@@ -238,7 +255,7 @@ static inline int tsp_is_stale(const tsp_daemon *d, tsp_time *time)
 }
 
 /* The time that a page gives at a nanosecond of the daemon's clock, if a daemon and a supervisor can have written it. */
-static inline int tsp_time_by(const tsp_halves *page, int64_t now, tsp_time *time)
+static inline int tsp_time_by(tsp_halves *page, int64_t now, tsp_time *time)
 {
     const tsp_daemon *d = &page->daemon;
     int64_t tick;
@@ -255,7 +272,7 @@ static inline int tsp_time_by(const tsp_halves *page, int64_t now, tsp_time *tim
 }
 
 /* The time that any page gives at a nanosecond of the daemon's clock. */
-static inline int tsp_time_of(const tsp_halves *page, int64_t now, tsp_time *time)
+static inline int tsp_time_of(tsp_halves *page, int64_t now, tsp_time *time)
 {
     return tsp_is_sound(&page->daemon) && tsp_is_sound_look(&page->look) ? tsp_time_by(page, now, time) : tsp_is_stale(&page->daemon, time);
 }
@@ -288,6 +305,7 @@ static inline void tsp_copy(tsp_halves *copy, const tsp_page *page)
     TSP_LOAD(look, master);
     TSP_LOAD(look, drift);
     TSP_LOAD(look, had);
+    copy->parting.room = 0;
 }
 
 #undef TSP_LOAD
@@ -376,16 +394,10 @@ static inline int tsp_is_kept(const tsp_clock *clock)
         && __atomic_load_n(&clock->page->look.sequence, __ATOMIC_RELAXED) == clock->kept.look.sequence;
 }
 
-/* The time by the page that is mapped, which is copied and looked through only if it was written since the last time. */
-static inline int tsp_clock_look(tsp_clock *clock, tsp_time *time)
+/* The time by the page that is mapped, which is copied and looked through. */
+static inline __attribute__((cold)) int tsp_clock_anew(tsp_clock *clock, tsp_time *time)
 {
     int64_t now;
-    if (clock->is_kept) {
-        now = tsp_nanoseconds_by(clock->kept.daemon.counter);
-        __atomic_thread_fence(__ATOMIC_ACQUIRE);
-        if (tsp_is_kept(clock))
-            return tsp_time_by(&clock->kept, now, time);
-    }
     clock->is_kept = 0;
     if (clock->page == NULL || !tsp_read(clock->page, &clock->kept, &now)) {
         memset(time, 0, sizeof *time);
@@ -395,20 +407,30 @@ static inline int tsp_clock_look(tsp_clock *clock, tsp_time *time)
     return clock->is_kept ? tsp_time_by(&clock->kept, now, time) : tsp_is_stale(&clock->kept.daemon, time);
 }
 
-/* The network's time now; its status is given too. */
+/* The same; and if nobody writes that page any more, by the one that stands at its path now, which is looked for once a second. */
+static inline __attribute__((cold)) int tsp_clock_seek(tsp_clock *clock, tsp_time *time)
+{
+    int status = tsp_clock_anew(clock, time);
+    int64_t now = tsp_nanoseconds();
+    if (status != TSP_STALE || now - clock->tried <= INT64_C(1000000000))
+        return status;
+    /* (a service that started again may have put another page there) */
+    clock->tried = now;
+    return tsp_clock_map(clock) == 0 ? tsp_clock_anew(clock, time) : TSP_STALE;
+}
+
+/* The network's time now; its status is given too. The page is copied only if it was written since the last time. */
 static inline int tsp_clock_now(tsp_clock *clock, tsp_time *time)
 {
+    int status;
     int64_t now;
-    if (tsp_clock_look(clock, time) != TSP_STALE)
-        return time->status;
-    now = tsp_nanoseconds();
-    if (now - clock->tried > INT64_C(1000000000)) {
-        /* (a service that started again may have put another page there) */
-        clock->tried = now;
-        if (tsp_clock_map(clock) == 0)
-            return tsp_clock_look(clock, time);
+    if (clock->is_kept) {
+        now = tsp_nanoseconds_by(clock->kept.daemon.counter);
+        __atomic_thread_fence(__ATOMIC_ACQUIRE);
+        if (tsp_is_kept(clock) && (status = tsp_time_by(&clock->kept, now, time)) != TSP_STALE)
+            return status;
     }
-    return TSP_STALE;
+    return tsp_clock_seek(clock, time);
 }
 
 /* Waits until each later time of the network is after this one: 1 when it is, and 0 if it isn't within so many microseconds. More than TSP_LONGEST

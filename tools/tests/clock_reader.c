@@ -30,6 +30,7 @@ static int times(const char *path)
     while (fread(&page, sizeof page, 1, file) == 1 && fread(&now, sizeof now, 1, file) == 1) {
         halves.daemon = page.daemon;
         halves.look = page.look;
+        halves.parting.room = 0;
         tsp_time_of(&halves, now, &time);
         printf("%d %lld %lld %lld %lld %d\n", time.status, (long long)time.shown, (long long)time.earliest, (long long)time.latest, (long long)time.age, time.role);
     }
@@ -103,7 +104,7 @@ static void read_anew(const tsp_clock *clock, tsp_time *time)
 {
     tsp_clock fresh = *clock;
     fresh.is_kept = 0;
-    tsp_clock_look(&fresh, time);
+    tsp_clock_now(&fresh, time);
 }
 
 static int kept(const tsp_clock *opened, long count)
@@ -116,7 +117,7 @@ static int kept(const tsp_clock *opened, long count)
         tsp_time before, between, later;
         change(&page, number);
         read_anew(&clock, &before);
-        tsp_clock_look(&clock, &between);
+        tsp_clock_now(&clock, &between);
         read_anew(&clock, &later);
         if (between.status != later.status || between.life != later.life || between.steps != later.steps || between.role != later.role
             || between.shown < before.shown || between.shown > later.shown || between.latest < before.latest || between.latest > later.latest
