@@ -69,7 +69,7 @@ _tsp_plot() {
     --title | --drift | -d) return ;;
     esac
     case $2 in
-    -*) mapfile -t COMPREPLY < <(compgen -W '--help --version --output --title --strangers --bounds --drift --program' -- "$2") ;;
+    -*) mapfile -t COMPREPLY < <(compgen -W '--help --version --output --linear --title --strangers --bounds --drift --program' -- "$2") ;;
     *) _tsp_files 'tsp|trace' "$2" ;;
     esac
 }

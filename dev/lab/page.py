@@ -1,18 +1,16 @@
-"""The page of dev/accuracy: a table of what was measured, and a picture."""
+"""The part of docs/ACCURACY.md that dev/accuracy writes: a table of what was measured, and a picture."""
 import math
 import os
 import textwrap
 
-WIDTH, LEFT, TOP, STEP, FOOT = 760, 230, 60, 22, 40
-INTERVALS = '## The interval that programs read\n'
-MARKS, LOWEST, HIGHEST = (0.01, 0.1, 1, 10, 100), 0.01, 200
+WIDTH, LEFT, TOP, STEP, FOOT = 760, 170, 84, 22, 52
+MEASURED, INTERVALS = '## Distances, beside what is promised of them\n', '## The interval that programs read\n'
+MARKS, LOWEST, HIGHEST = (0.1, 1, 10, 100), 0.05, 200
 # How wide a line of the page is, and how small numbers are written.
 COLUMNS = 160
 NUMBERS = 'no one two three four five six seven eight nine ten eleven twelve'.split()
-TEXT = '''# How well it keeps time
-
-How far apart corrected clocks were when measured, beside what is promised of them; and, further down, how narrow the interval is that programs read.
-This command wrote the first part and its picture:
+TEXT = MEASURED + '''
+How far apart corrected clocks were when measured, beside what is promised of them. This command wrote this part and its picture:
 
 ```
 dev/accuracy --minutes {minutes} --rate {rate} --seed {seed} --jobs {jobs}
@@ -106,25 +104,59 @@ def place(millis):
     return LEFT + (WIDTH - LEFT - 20) * (math.log10(min(max(millis, LOWEST), HIGHEST)) - low) / (high - low)
 
 
+def learned_of(case):
+    """How far clocks were apart with learned rates; without drift there is nothing to learn."""
+    return (case['learned'] or case['daemons'])['apart'] / 1000
+
+
+def title(cases):
+    """What the picture shows, as a sentence."""
+    with_rates, without = ([apart(case) for case in cases if case['drift']] for apart in (learned_of, lambda case: case['daemons']['apart'] / 1000))
+    return (f'With rates that were learned, the farthest two clocks were {min(with_rates):.1f} to {max(with_rates):.0f} ms apart, '
+            f'and without {min(without):.1f} to {max(without):.0f} ms')
+
+
+def signs():
+    """The legend."""
+    y = 58
+    return [f'<circle cx="18" cy="{y}" r="4" fill="#1b6ca8"/>', f'<text x="28" y="{y + 4}">with learned rates, as daemons count</text>',
+            f'<circle cx="264" cy="{y}" r="4.5" fill="none" stroke="#b03060" stroke-width="1.5"/>', f'<text x="276" y="{y + 4}">without them</text>',
+            f'<line x1="366" y1="{y}" x2="386" y2="{y}" stroke="#cfe0f2" stroke-width="10"/>', f'<text x="392" y="{y + 4}">promised without them</text>']
+
+
 def picture(cases):
     """A line for each case: what was promised as a bar, and the distances as a dot and a ring."""
     height = TOP + STEP * len(cases) + FOOT
     out = [f'<svg xmlns="http://www.w3.org/2000/svg" viewBox="0 0 {WIDTH} {height}" font-family="sans-serif" font-size="11">',
            f'<rect width="{WIDTH}" height="{height}" fill="white"/>',
-           '<text x="12" y="22" font-size="14">The greatest distance of two corrected clocks, in milliseconds</text>',
-           '<text x="12" y="40" fill="#555">dot: daemons; ring: simulated; bar: promised of the daemons; dashed: promised of the simulated nodes</text>']
-    for mark in MARKS:
-        out.append(f'<line x1="{place(mark):.1f}" y1="{TOP - 8}" x2="{place(mark):.1f}" y2="{height - FOOT}" stroke="#ddd"/>')
-        out.append(f'<text x="{place(mark):.1f}" y="{height - FOOT + 16}" text-anchor="middle">{mark:g}</text>')
+           f'<text x="12" y="22" font-size="13">{title(cases)}</text>',
+           '<text x="12" y="40" fill="#555">of each network of daemons, by how far counters drift (in parts in a million) and how late datagrams may be</text>', *signs()]
     for number, case in enumerate(cases):
         y = TOP + STEP * number + 6
-        daemons, simulated = case['daemons'], case['simulated']
+        if case['drift'] == 0 and case['jitter'] == cases[0]['jitter'] and number:
+            out.append(f'<line x1="12" y1="{y - STEP / 2}" x2="{WIDTH - 20}" y2="{y - STEP / 2}" stroke="#ccc"/>')
         out.append(f'<text x="12" y="{y + 4}">{name_of(case)}</text>')
-        out.append(f'<line x1="{LEFT}" y1="{y}" x2="{place(daemons["promised"] / 1000):.1f}" y2="{y}" stroke="#6ba6f2" stroke-width="8"/>')
-        out.append(f'<line x1="{LEFT}" y1="{y + 7}" x2="{place(simulated["promised"] / 1000):.1f}" y2="{y + 7}" stroke="#555" stroke-dasharray="3 2"/>')
-        out.append(f'<circle cx="{place(daemons["apart"] / 1000):.1f}" cy="{y}" r="4" fill="#1b6ca8"/>')
-        out.append(f'<circle cx="{place(simulated["apart"] / 1000):.1f}" cy="{y}" r="5" fill="none" stroke="#000"/>')
+        out.append(f'<line x1="{LEFT}" y1="{y}" x2="{place(case["daemons"]["promised"] / 1000):.1f}" y2="{y}" stroke="#cfe0f2" stroke-width="10"/>')
+    for mark in MARKS:
+        out.append(f'<line x1="{place(mark):.1f}" y1="{TOP - 8}" x2="{place(mark):.1f}" y2="{height - FOOT}" stroke="#bbb"/>')
+        out.append(f'<text x="{place(mark):.1f}" y="{height - FOOT + 16}" text-anchor="middle">{mark:g} ms</text>')
+    for number, case in enumerate(cases):
+        y = TOP + STEP * number + 6
+        out.append(f'<circle cx="{place(case["daemons"]["apart"] / 1000):.1f}" cy="{y}" r="4.5" fill="none" stroke="#b03060" stroke-width="1.5"/>')
+        out.append(f'<circle cx="{place(learned_of(case)):.1f}" cy="{y}" r="4" fill="#1b6ca8"/>')
+    out.append(f'<text x="{LEFT}" y="{height - FOOT + 36}" fill="#555">milliseconds on a logarithmic scale: each line is ten times as much as the one left of it</text>')
     return '\n'.join([*out, '</svg>', ''])
+
+
+def cases_of(path):
+    """The cases of a page's table, as far as a picture needs them."""
+    with open(path, encoding='utf-8') as file:
+        rows = [line.strip('| \n').split(' | ') for line in file if line.count('|') == 16 and line[2].isdigit()]
+    cases = []
+    for hosts, drift, jitter, _, apart, promised, _, _, learned, *_ in rows:
+        case = {'hosts': int(hosts), 'drift': int(drift), 'jitter': float(jitter) * 1000, 'learned': None if learned == '-' else {'apart': float(learned) * 1000}}
+        cases.append({**case, 'daemons': {'apart': float(apart) * 1000, 'promised': float(promised) * 1000}})
+    return cases
 
 
 def time_of(given):
@@ -132,23 +164,30 @@ def time_of(given):
     return f'for {given.minutes} minutes' if given.rate == 1 else f'for {given.minutes} minutes of its own time, which runs {given.rate} times as fast'
 
 
-def below(path):
-    """What other measurements wrote below those of this page."""
+def around(path):
+    """What stands above and below this part in the page; other measurements wrote it."""
     try:
         with open(path, encoding='utf-8') as file:
-            _, heading, text = file.read().partition(INTERVALS)
+            text = file.read()
     except FileNotFoundError:
-        return ''
-    return '\n' + heading + text if heading else ''
+        text = ''
+    above, found, rest = text.partition(MEASURED)
+    _, heading, below = rest.partition(INTERVALS)
+    return above if found else '# How well it keeps time\n\n', '\n' + heading + below if heading else ''
+
+
+def draw(folder, cases):
+    """Writes the picture."""
+    with open(os.path.join(folder, 'accuracy.svg'), 'w', encoding='utf-8') as file:
+        file.write(picture(cases))
 
 
 def write(folder, cases, given):
-    """Writes the page and its picture. What stands below the heading of the intervals stays."""
+    """Writes this part of the page, and the picture. What stands around it stays."""
     path = os.path.join(folder, 'ACCURACY.md')
-    rest = below(path)
+    above, below = around(path)
     known = textwrap.fill(f'`tsp-witness`, which knows neither: {judged(cases)}.', COLUMNS)
     told = {'rows': '\n'.join(map(row, cases)), 'sums': sums(cases), 'judged': known, 'time': time_of(given)}
     with open(path, 'w', encoding='utf-8') as file:
-        file.write(TEXT.format(minutes=given.minutes, rate=given.rate, seed=given.seed, jobs=given.jobs, **told) + rest)
-    with open(os.path.join(folder, 'accuracy.svg'), 'w', encoding='utf-8') as file:
-        file.write(picture(cases))
+        file.write(above + TEXT.format(minutes=given.minutes, rate=given.rate, seed=given.seed, jobs=given.jobs, **told) + below)
+    draw(folder, cases)

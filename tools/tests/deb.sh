@@ -97,7 +97,7 @@ done
 gzip -dc "$out/root/usr/share/doc/tsp/changelog.gz" | head -n 1 | grep -qF "tsp ($version) " || fail "Debian's list of changes doesn't begin with $version"
 
 # It has what its pages name, and tells of itself and not of a clone.
-for document in ACCURACY CHANGELOG FORMATS JUDGE NETWORK OPERATOR PROGRESS PROMISES PROOFS PROTOCOL README RELIABILITY; do
+for document in ACCURACY ANSWERS CHANGELOG FORMATS GUARANTEES JUDGE NETWORK OPERATOR PROGRAMS PROGRESS PROMISES PROOFS PROTOCOL README RELIABILITY; do
     [ -s "$out/root/usr/share/doc/tsp/$document.md" ] || fail "$document.md isn't packed"
 done
 cmp -s "$out/root/usr/share/doc/tsp/README.md" debian/README.md || fail 'another README is packed'

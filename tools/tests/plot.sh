@@ -29,9 +29,29 @@ for schedule in examples/*.tsp examples/schedules/*.tsp tools/tests/plot/*.tsp; 
     [ "$(drawn 'never taken</title>')" -eq "$never" ] || fail "$schedule: $never datagrams are never taken, and $(drawn 'never taken</title>') are drawn so"
     # Whatever fonts a machine has, they have these letters.
     ! sed 's/µ//g' "$out/picture.svg" | LC_ALL=C grep -q '[^ -~]' || fail "$schedule: the picture has a letter that a font may lack"
-    grep -q 'so time isn.t even' "$out/picture.svg" && grep -q 'clock less true time' "$out/picture.svg" || fail "$schedule: an axis has no name"
+    grep -q 'so time isn.t even\|true time, in minutes<' "$out/picture.svg" && grep -q 'clock less true time' "$out/picture.svg" || fail "$schedule: an axis has no name"
     count=$((count + 1))
 done
+
+# On linear scales rounded times and values stand evenly, with their units.
+python3 - <<'END' || fail 'linear scales are not linear, or their marks not rounded'
+import re
+text = open('examples/together.svg', encoding='utf-8').read()
+times = [(float(label), float(x)) for x, label in re.findall(r'<text x="([0-9.]+)" y="[0-9.]+" text-anchor="middle">([0-9.]+)</text>', text)]
+values = [(float(label or 0), float(y)) for y, label in re.findall(r'<text x="118.0" y="([0-9.]+)" text-anchor="end">(?:0|([-+][0-9]+) ms)</text>', text)]
+panels = [[mark for mark in values if mark[1] < 270], [mark for mark in values if mark[1] > 270]]
+for marks in [times, *panels]:
+    gaps = [(other[0] - one[0], other[1] - one[1]) for one, other in zip(marks, marks[1:])]
+    assert len(marks) >= 4 and len({gap[0] for gap in gaps}) == 1 and abs(gaps[0][0]) in (1, 2, 5, 10, 20, 50), marks
+    assert max(gap[1] for gap in gaps) - min(gap[1] for gap in gaps) < .3, marks
+assert times[0][0] == 0 and 'true time, in minutes<' in text
+END
+# A legend has what occurs, and where no clock moves there is no panel.
+for name in slew step 'never taken'; do
+    [ "$(grep -c ">$name</text>" examples/election.svg)" -eq "$([ "$name" = 'never taken' ] && echo 1 || echo 0)" ] || fail "the legend of an election: $name"
+    [ "$(grep -c ">$name</text>" examples/together.svg)" -eq "$([ "$name" = 'never taken' ] && echo 0 || echo 1)" ] || fail "the legend of two clocks: $name"
+done
+! grep -q '<polyline' examples/first.svg && grep -q 'the same throughout: a +1,000 ' examples/first.svg || fail 'a panel is drawn in which nothing moves'
 
 # A measurement is seen, however far the clocks are from true time: each of the gateway's is drawn 5 high or more.
 sed -n 's/^<line .*y1="\([0-9.]*\)" .*y2="\([0-9.]*\)" .*<title>.*measured by.*/\1 \2/p' examples/gateway.svg |

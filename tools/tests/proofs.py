@@ -1,11 +1,11 @@
 #!/usr/bin/env python3
-"""Compares the front pages of the crates, docs/PROOFS.md and docs/RELIABILITY.md with the crates.
+"""Compares the front pages of the crates, docs/PROOFS.md and docs/ANSWERS.md with the crates.
 
 Each crate has its row in docs/PROOFS.md, and what a front page names in parentheses under 'What is proved' is there.
 
 In `a`, `b` of `f`, `g` each of a and b is a clause of one of the calls f and g, or a call of the type f. A name alone is a clause, a
 call, a definition, a lemma or a file of the row's crate; a definition may be of another crate. Where a clause is a record, each fact of
-the record counts as a clause. In docs/RELIABILITY.md, the last three cells of a row
+the record counts as a clause. In docs/ANSWERS.md, the last three cells of a row
 are crates, calls and clauses: each crate has one of the calls, each call is there, and each clause is one of them; 'the one' is a clause without a name.
 """
 import re
@@ -99,10 +99,10 @@ def named(cells, crates):
     return faults + [f"{clause} is no clause of {calls} of {owners}" for clause in clauses if clause not in there]
 
 
-def reliability(crates):
-    """The faults of docs/RELIABILITY.md, and how many rows with crates it has."""
+def answers_of(crates):
+    """The faults of docs/ANSWERS.md, and how many rows with crates it has."""
     faults, count = [], 0
-    for line in (ROOT / "docs" / "RELIABILITY.md").read_text().splitlines():
+    for line in (ROOT / "docs" / "ANSWERS.md").read_text().splitlines():
         cells = [cell.strip() for cell in line.split(" | ")]
         if line.startswith("| ") and len(cells) == 5 and NAME.search(cells[2]):
             cells[-1] = cells[-1].rstrip(" |")
@@ -131,8 +131,8 @@ def main():
             count += len(NAME.findall(group))
             faults += [f"the front page of {name} names {word}, which isn't there" for word in missing(crate, group, defined)]
     faults += [f"{name} has a row and is no crate" for name in rows if name not in crates]
-    others, answers = reliability(crates)
-    faults += [f"docs/RELIABILITY.md: {fault}" for fault in others]
+    others, answers = answers_of(crates)
+    faults += [f"docs/ANSWERS.md: {fault}" for fault in others]
     for fault in faults:
         print(fault, file=sys.stderr)
     if not faults:

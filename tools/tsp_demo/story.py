@@ -14,8 +14,8 @@ LOOK, MOST, LEAST = 0.05, 2400, 1000
 class Story:
     """Starts hosts and looks at them. `show` is called after each look, with the story; `events` are lines of what happened, each with its time."""
 
-    def __init__(self, network, show):
-        self.network, self.show, self.events, self.seen, self.before = network, show, [], {}, {}
+    def __init__(self, network, show, is_proved=True):
+        self.network, self.show, self.is_proved, self.events, self.seen, self.before = network, show, is_proved, [], {}, {}
         self.intervals, self.outside, self.apart, self.master = 0, 0, None, None
         self.followed = {}
 
@@ -99,7 +99,7 @@ class Story:
         """All of it; gives the last line."""
         for host in self.network.hosts:
             self.network.start(host)
-        self.say('three hosts start, whose clocks differ')
+        self.say('three hosts start, whose clocks differ' + ('' if self.is_proved else '; their program is unproved'))
         self.until('all three run', lambda: all(self.seen.get(host) for host in self.network.hosts))
         at_first = self.apart
         first, elected, apart = self.lead()
@@ -111,4 +111,4 @@ class Story:
             raise Fault(f'in {self.outside} of {self.intervals} readings the master\'s clock was outside of the interval', NOT_SEEN)
         return (f'seen: clocks {milliseconds(at_first)} ms apart; {first.name} led after {span(round(elected * 1e6))}, and they were {milliseconds(apart)} ms apart; '
                 f'it was killed, {second.name} led {span(round(again * 1e6))} later, and they were {milliseconds(later)} ms apart; '
-                f'in all of {self.intervals} readings the master\'s clock lay in the interval')
+                f'in all of {self.intervals} readings the master\'s clock lay in the interval' + ('' if self.is_proved else '; unproved'))

@@ -1,12 +1,13 @@
 """The parts of a picture that show values: clocks less true time, and followers' clocks less their masters'."""
 from tsp_texts import premises
 from tsp_texts.history import Tree
-from tsp_texts.scale import Values, micros
 from tsp_texts.svg import wide
 
 MILLION = 1_000_000
 # Clocks that are all farther from true time, in microseconds, have that in common.
 FAR = 1_000_000_000
+# So many clocks that don't move are told with their values.
+SOME = 8
 # The premises that Agreed and Chained ask, as a schedule's text has them.
 NEEDED = ('Sealed', 'Prompt')
 NODES = ['#1b6ca8', '#b03060', '#2e7d32', '#8e44ad', '#c77700', '#00796b', '#5d4037', '#455a64']
@@ -28,14 +29,14 @@ class Panel:
 
     def __init__(self, frame, values, top, bottom):
         self.frame, self.history, self.x, self.drawing = frame, frame.history, frame.x, frame.drawing
-        self.y, self.top, self.bottom = Values(values, top, bottom), top, bottom
+        self.y, self.top, self.bottom = frame.scales.values(values, top, bottom), top, bottom
 
     def axis(self, name):
-        """Lines at powers of ten with their values, and what the values are."""
+        """Lines at some values, and what the values are."""
         self.drawing.text(self.frame.left, self.top - 8, name, ' fill="#555"')
         for value in self.y.marks():
             self.drawing.line(self.frame.left, self.y(value), self.frame.right, self.y(value), '#bbb' if value == 0 else '#eee')
-            self.drawing.text(self.frame.left - 6, self.y(value) + 4, micros(value), ' text-anchor="end"')
+            self.drawing.text(self.frame.left - 6, self.y(value) + 4, self.y.label(value), ' text-anchor="end"')
 
     def points(self, span, value):
         """The points of a value over a span; what lasts goes on as it is at the run's end."""
@@ -51,10 +52,21 @@ class Clocks(Panel):
         values = [span.value.offset(at) for span in spans for at in (span.begin, span.end)] + [span.value.shown(span.begin) for span in spans]
         self.common = common_of(values)
         super().__init__(frame, [value - self.common for value in values], top, bottom)
+        # (where no clock moves, a panel would have level lines alone)
+        self.moves = any(len({value for span in spans for value in (span.value.offset(span.begin), span.value.offset(span.end), span.value.shown(span.begin))}) > 1
+                         for spans in frame.history.clocks)
+
+    def still(self):
+        """Clocks that don't move, in words, if they are few."""
+        clocks = [(self.history.schedule.nodes[node].name, spans[0].value.offset(spans[0].begin) - self.common) for node, spans in enumerate(self.history.clocks) if spans]
+        return ': ' + ', '.join(f'{name} {value:+,} µs' if value else f'{name} 0' for name, value in clocks) if len(clocks) <= SOME else ''
 
     def draw(self):
         less = f' and less {self.common / MILLION:,.6f} s, which all have in common' if self.common else ''
-        self.axis(f'clock less true time{less}, at the logarithm of its size')
+        if not self.moves:
+            self.drawing.text(self.frame.left, self.top - 8, f'clock less true time{less}, the same throughout{self.still()}', ' fill="#555"')
+            return
+        self.axis(f'clock less true time{less}{self.frame.scales.of_values}')
         for node, spans in enumerate(self.history.clocks):
             points = [point for span in spans for point in self.points(span, lambda at, span=span: span.value.offset(at) - self.common)]
             self.drawing.path(points, f' stroke="{colour_of(node)}" stroke-width="1.6"')
@@ -85,7 +97,7 @@ class Followers(Panel):
         return sample.low - own, sample.high - own
 
     def draw(self):
-        self.axis('follower\'s clock less its master\'s, at the logarithm of its size')
+        self.axis(f'follower\'s clock less its master\'s{self.frame.scales.of_values}')
         for node in sorted({node for node, _ in self.lines}):
             self.promised(self.y, node)
             self.measurements(self.y, node)

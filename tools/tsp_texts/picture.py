@@ -3,7 +3,7 @@ from bisect import bisect_left
 from datetime import datetime, timedelta, timezone
 
 from tsp_texts.panels import Clocks, Followers, Legend, Trees, colour_of
-from tsp_texts.scale import Times, micros
+from tsp_texts.scale import Logarithmic
 from tsp_texts.svg import Drawing, wide
 
 ROLES = {'starting': '#c4c4c4', 'loose': '#f2d16b', 'follow': '#6ba6f2', 'candidate': '#f29b4b', 'master': '#d9534f'}
@@ -19,25 +19,30 @@ CROWDED = 10_000
 EPOCH = datetime(1970, 1, 1, tzinfo=timezone.utc)
 
 
+def amount_of(micros):
+    """By how much a clock was corrected, with its unit."""
+    return f'{micros / 1000:+,.1f} ms' if abs(micros) >= 1000 else f'{micros:+} µs'
+
+
 class Picture:
     """The picture of a history. With `bounds` it has a part for what the promises bound."""
 
-    def __init__(self, history, title, bounds=False, strangers=True):
-        self.history, self.title, self.is_crowded = history, title, len(history.acts) > CROWDED
+    def __init__(self, history, title, bounds=False, strangers=True, scales=Logarithmic):
+        self.scales, self.history, self.title, self.is_crowded = scales, history, title, len(history.acts) > CROWDED
         self.drawing = Drawing(self.is_crowded)
         self.events = [event for event in history.schedule.events if strangers or event.kind != 'bytes' or event.peer is not None]
-        self.left, self.right = LEFT, WIDTH - RIGHT
+        self.left, self.right, self.is_linear = LEFT, WIDTH - RIGHT, scales is not Logarithmic
         self.ports = sorted(history.roles) or [(node, 0) for node in range(len(history.schedule.nodes))]
         self.place = {port: place for place, port in enumerate(self.ports)}
         self.has_few = len(self.ports) <= FEW
         self.lane_height = HIGH_LANE if self.has_few else LOW_LANE
         slews = [span.value.met_at() for spans in history.clocks for span in spans if span.value.rest]
         times = [event.at for event in self.events] + [at for at in slews if at < history.last]
-        self.x = Times(times, LEFT, WIDTH - RIGHT - BEYOND)
+        self.x = scales.times(times, LEFT, WIDTH - RIGHT - BEYOND)
         self.clocks = Clocks(self, TOP, TOP + CLOCKS)
         # (a witnessed network's true time begins anywhere: times are told from its first second on)
         self.origin = times[0] // 1_000_000 * 1_000_000 if times and self.clocks.common else 0
-        below = TOP + CLOCKS + GAP
+        below = TOP + (CLOCKS + GAP if self.clocks.moves else GAP / 2)
         self.followers = Followers(self, below, below + FOLLOWERS)
         self.follows = any(self.followers.lines.values())
         below += FOLLOWERS + GAP if self.follows and self.has_few else 0
@@ -66,19 +71,30 @@ class Picture:
         return (node, 0) in self.place
 
     def times(self):
-        """The times of events, as many as there is room for, and what they are."""
+        """Times, as many as there is room for, and what they are."""
         bottom = self.height - 40
         free = LEFT - 40.0
-        events = [event.at for event in self.events]
-        # (of events that stand nearer than a tenth of a pixel, the first is looked at)
-        for at in self.x.between(events[0], events[-1], .1) if events else ():
-            x, label = self.x(at), f'{(at - self.origin) / 1e6:.12g}'
+        for at, label in self.marks():
+            x = self.x(at)
             half = wide(label) / 2 + 4
-            if free <= x - half and x + half <= WIDTH and events[bisect_left(events, at)] == at:
+            if free <= x - half and x + half <= WIDTH:
                 free = x + half
                 self.behind.line(x, TOP, x, bottom, '#eee')
                 self.drawing.text(x, bottom + 14, label, ' text-anchor="middle"')
-        self.drawing.text(LEFT, bottom + 30, f'true time of events, in seconds{self.since()}; a gap between two is drawn as long as its logarithm, so time isn\'t even', ' fill="#555"')
+        told = (f'true time, in {self.x.name}{self.since()}' if self.is_linear else
+                f'true time of events, in seconds{self.since()}; a gap between two is drawn as long as its logarithm, so time isn\'t even')
+        self.drawing.text(LEFT, bottom + 30, told, ' fill="#555"')
+
+    def marks(self):
+        """The times that may be marked, each with its label: rounded ones on a linear scale, and else those of events."""
+        if self.is_linear:
+            yield from self.x.marks()
+            return
+        events = [event.at for event in self.events]
+        # (of events that stand nearer than a tenth of a pixel, the first is looked at)
+        for at in self.x.between(events[0], events[-1], .1) if events else ():
+            if events[bisect_left(events, at)] == at:
+                yield at, f'{(at - self.origin) / 1e6:.6f}'.rstrip('0').rstrip('.')
 
     def since(self):
         """When the time 0 of the picture was by the clocks, where they are all far from true time."""
@@ -132,7 +148,7 @@ class Picture:
         for act in self.history.corrections:
             x, y, (_, amount, way, _) = self.x(act.at), self.lane(act.node, act.port), act.words
             self.correction(x, y, way == 'step', f'{way} {amount} µs')
-            words = f'{int(amount):+,}'
+            words = amount_of(int(amount)) if self.is_linear else f'{int(amount):+,}'
             side = x > WIDTH - RIGHT - wide(words)
             begins = x - 5 - wide(words) if side else x + 5
             if self.has_few and free.get(y, 0) <= begins:
@@ -142,16 +158,29 @@ class Picture:
     def correction(self, x, y, is_step, title=None):
         self.drawing.circle(x, y, 4 if self.has_few else 3, f' fill="{"#000" if is_step else "#fff"}" stroke="#000"', title)
 
+    def found(self):
+        """The signs that this picture has, of those for roles, corrections and datagrams."""
+        history = self.history
+        found = {span.value.name for spans in history.roles.values() for span in spans} | {act.words[2] for act in history.corrections}
+        for number, post in history.posts.items():
+            if post.to is not None and self.has_lane(post.act.node):
+                found.add('datagram, taken' if number in history.takes and self.has_lane(post.to) else 'never taken')
+        if any(event.kind == 'bytes' and self.has_lane(event.node) for event in self.events):
+            found.add('octets from outside')
+        return found
+
     def signs(self):
         """What the signs of this picture mean."""
         draw, legend = self.drawing, Legend(self.drawing, LEFT, WIDTH - RIGHT, self.legend_top)
+        found = self.found()
         for role, colour in ROLES.items():
-            legend.entry(lambda x, y, colour=colour: draw.rect(x, y - 6, 12, 12, f' fill="{colour}"'), role)
-        legend.entry(lambda x, y: self.correction(x + 6, y, True), 'step')
-        legend.entry(lambda x, y: self.correction(x + 6, y, False), 'slew')
-        legend.entry(lambda x, y: draw.line(x + 2, y + 6, x + 10, y - 6, '#333'), 'datagram, taken')
-        legend.entry(lambda x, y: draw.cross(x + 6, y, LOST), 'never taken')
-        legend.entry(lambda x, y: draw.triangle(x + 6, y + 3), 'octets from outside')
+            if role in found:
+                legend.entry(lambda x, y, colour=colour: draw.rect(x, y - 6, 12, 12, f' fill="{colour}"'), role)
+        for name, sign in (('step', lambda x, y: self.correction(x + 6, y, True)), ('slew', lambda x, y: self.correction(x + 6, y, False)),
+                           ('datagram, taken', lambda x, y: draw.line(x + 2, y + 6, x + 10, y - 6, '#333')), ('never taken', lambda x, y: draw.cross(x + 6, y, LOST)),
+                           ('octets from outside', lambda x, y: draw.triangle(x + 6, y + 3))):
+            if name in found:
+                legend.entry(sign, name)
         if any(span.value.rest for spans in self.history.clocks for span in spans):
             legend.entry(lambda x, y: draw.line(x, y, x + 14, y, '#333', ' stroke-dasharray="2 2"'), 'what a clock shows while it slews')
         if self.history.samples or self.history.groups:
@@ -162,7 +191,7 @@ class Picture:
             legend.entry(lambda x, y: draw.rect(x, y - 6, 14, 12, ' fill="#1b6ca8" fill-opacity=".2" stroke="#1b6ca8" stroke-dasharray="4 3"'),
                          'what is promised of a clock by one round (Agreed) or by several, one below the other (Chained)')
         if self.follows and not self.has_few:
-            low, high = (int(10**abs(end)) for end in (self.followers.y.low, self.followers.y.high))
+            low, high = self.followers.y.ends()
             legend.entry(lambda x, y: draw.line(x, y, x + 14, y, '#333'), f'in each lane: its clock less its master\'s, from -{low:,} to +{high:,} µs')
         self.lanes = legend.y + (24 if self.has_few else 30)
         self.height = self.lanes + self.lane_height * len(self.ports) + 50

@@ -47,6 +47,22 @@ def needed(named=None):
     return found
 
 
+def quick(named=None, failed=1):
+    """The program to run, and whether it is proved: in a clone whose own isn't built from these sources, it is compiled as it is."""
+    top = home()
+    if named or os.environ.get('TSP_PROGRAM') or top is None:
+        return needed(named), True
+    from tsp_build import crates, stamp
+    noted = stamp.Stamp(top, 'tsp_cli', crates.below(crates.read(top), 'tsp_cli'))
+    if noted.is_fresh():
+        return noted.program, True
+    import subprocess
+    made = subprocess.run([os.path.join(top, 'tsp'), '--try', '--path'], stdin=subprocess.DEVNULL, stdout=subprocess.PIPE, check=False)
+    if made.returncode:
+        raise Fault('there is no program: see above', failed)
+    return os.fsdecode(made.stdout.rstrip(b'\n')), False
+
+
 class Run:
     """A run of `replay`, which is over when it is left."""
 
