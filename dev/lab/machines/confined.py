@@ -37,7 +37,7 @@ def exercise(net, one):
     # (a trace that is full is put aside and compressed)
     one.must('systemctl stop tsp; head -c 9000000 /dev/zero | tr "\\0" x >>/var/log/tsp/trace; systemctl start tsp', patience=network.UP)
     until = time.monotonic() + network.UP
-    while 'trace.000001.gz' not in one.says('ls /var/log/tsp'):
+    while one.run('test -e /var/log/tsp/trace.000001.gz')[0]:
         wanted(time.monotonic() < until, f'a trace that is full isn\'t put aside: {one.says("ls -l /var/log/tsp")}')
         time.sleep(network.OFTEN)
     one.must('rm /var/log/tsp/trace.000001.gz')

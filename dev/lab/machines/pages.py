@@ -44,3 +44,10 @@ def commands():
             for command in COMMAND.findall(read(page)):
                 found.setdefault(' '.join(command.split()), set()).add(page)
     return found
+
+
+def edit(machine, command, lines):
+    """Calls `systemctl edit`, as on a terminal, with an editor that writes these lines."""
+    machine.write('/srv/edited', lines)
+    machine.write('/srv/editor', '#!/bin/sh\ncat /srv/edited >"$1"\n')
+    machine.must(f'chmod 755 /srv/editor; SYSTEMD_EDITOR=/srv/editor script -qec "{command}" /dev/null </dev/null', patience=300)

@@ -51,9 +51,8 @@ def by_wg_quick(one):
     """The tunnel by wg-quick, and the daemon behind it, by the commands of the operator's guide."""
     _, up, lines = pages.blocks(SECTION)
     one.must(up)
-    one.write('/srv/editor', '#!/bin/sh\ncat /srv/edited >"$1"\n')
-    one.write('/srv/edited', lines)
-    one.must('chmod 755 /srv/editor; SYSTEMD_EDITOR=/srv/editor systemctl edit tsp </dev/null; systemctl restart tsp', patience=network.UP)
+    pages.edit(one, 'systemctl edit tsp', lines)
+    one.must('systemctl restart tsp', patience=network.UP)
 
 
 def by_networkd(one):

@@ -10,8 +10,6 @@ from lab.machines import network, pages
 from lab.machines.network import is_another, life_of, status_of, wanted
 
 UNITS = '/etc/systemd/system'
-# `systemctl edit` calls an editor, which is to write these lines.
-EDITOR = '#!/bin/sh\ncat /srv/edited >"$1"\n'
 # Seconds: until metrics are there, a unit has started, and a command shows what is new.
 METRICS, STARTED, SOON = 150, 300, 60
 COLLECTED = '/var/lib/prometheus/node-exporter'
@@ -21,9 +19,16 @@ HEADERS = (('1', '975fbc1f'), ('2', '77bc3f38'))
 STALE, SYNCHRONISED = 0, 2
 
 
-class Step(namedtuple('Step', 'command before proof')):
-    """A command of the pages, what is done before it, and what is to be so afterwards: `proof` gives what was seen, and raises Failed."""
+class Step(namedtuple('Step', 'command before proof edited', defaults=('',))):
+    """A command of the pages, what is done before it, and what is to be so afterwards: `proof` raises Failed; and what is written in the editor that it calls."""
     __slots__ = ()
+
+    def call(self, one):
+        """Calls the command on a machine, where it is to end well."""
+        if self.edited:
+            pages.edit(one, self.command, self.edited)
+        else:
+            one.must(f'{self.command} </dev/null | cat; exit ${{PIPESTATUS[0]}}', patience=STARTED)
 
 
 def shows(command, pattern):
@@ -85,13 +90,6 @@ def sets_date(one, _):
     one.must('systemctl disable --now tsp-true.timer')
 
 
-def edit(one, lines):
-    """What `systemctl edit` is to write."""
-    one.write('/srv/editor', EDITOR)
-    one.must('chmod 755 /srv/editor')
-    one.write('/srv/edited', lines)
-
-
 def with_chrony(one):
     """chronyd without a source, as the guide has it, up to its restart."""
     one.write('/etc/chrony/chrony.conf', CHRONY)
@@ -122,10 +120,10 @@ STEPS = (
     Step('journalctl -u tsp -o cat -n 1 -q --no-pager -g "hosts file with the digest"', nothing,
          shows('journalctl -u tsp -o cat -n 1 -q -g "hosts file with the digest"', r'^[^\n]*the digest [0-9a-f]{16}')),
     Step('systemctl reload tsp', nothing, read_again),
-    Step('systemctl edit tsp', lambda one: edit(one, '[Unit]\nAfter=time-sync.target\n'), has_dropin('tsp', 'After=time-sync.target')),
+    Step('systemctl edit tsp', nothing, has_dropin('tsp', 'After=time-sync.target'), '[Unit]\nAfter=time-sync.target\n'),
     Step('systemctl daemon-reload', nothing, is_same),
-    Step('systemctl edit tsp-metrics', lambda one: edit(one, '[Service]\nEnvironment=TSP_METRICS_HOSTS=off\n'), has_dropin('tsp-metrics', 'HOSTS=off')),
-    Step('systemctl edit tsp-metrics.service', lambda one: edit(one, '[Service]\nEnvironment=TSP_METRICS_HOSTS=on\n'), has_dropin('tsp-metrics', 'HOSTS=on')),
+    Step('systemctl edit tsp-metrics', nothing, has_dropin('tsp-metrics', 'HOSTS=off'), '[Service]\nEnvironment=TSP_METRICS_HOSTS=off\n'),
+    Step('systemctl edit tsp-metrics.service', nothing, has_dropin('tsp-metrics', 'HOSTS=on'), '[Service]\nEnvironment=TSP_METRICS_HOSTS=on\n'),
     Step('systemctl enable --now tsp-metrics.timer', nothing, writes_metrics),
     Step('systemctl restart chrony', with_chrony, shows('chronyc -n sources', 'TSP')),
     Step('systemctl enable --now tsp-feed', nothing, is_on('tsp-feed')),
@@ -149,8 +147,7 @@ def printed(net):
     for step in STEPS:
         step.before(one)
         before = life_of(one)
-        status, said = one.run(f'SYSTEMD_EDITOR=/srv/editor {step.command} </dev/null | cat; exit ${{PIPESTATUS[0]}}', patience=STARTED)
-        wanted(status == 0, f'`{step.command}` ends with {status}: {said.decode("utf-8", "replace")[-300:]}')
+        step.call(one)
         try:
             step.proof(one, before)
         except Failed as fault:
