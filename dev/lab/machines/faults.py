@@ -11,6 +11,8 @@ from lab.machines.network import journal, life_of, status_of, wanted
 ASLEEP, STOPPED, SHORT, GRACE, LONG = 30, 60, 10, 600, 660
 AGAIN = 240
 CUTS, APART = 20, 90
+# Fills a disk without writing all of it.
+FILL = 'mkdir /var/filler; for size in 256M 32M 4M 512K 64K 4K; do while fallocate -l $size /var/filler/$((number++)) 2>/dev/null; do :; done; done; sync'
 
 
 def lives(machines):
@@ -25,7 +27,7 @@ def offset_ms(machine):
 
 def suspend(net):
     """A follower sleeps for 30 s: its daemon is started again as it wakes, and it is synchronised within 240 s."""
-    one = net.followers()[-1]
+    one = net.victim()
     before = life_of(one)
     one.says('systemd-run --on-active=1 --timer-property=AccuracySec=100ms sh -c "echo mem >/sys/power/state"')
     time.sleep(5)
@@ -43,7 +45,7 @@ def suspend(net):
 
 def stopped(net):
     """A follower is stopped by its hypervisor for 60 s: other hosts' clocks tell it, its daemon is started again, and it is synchronised within 240 s."""
-    one = net.followers()[-1]
+    one = net.victim()
     before = life_of(one)
     one.monitor('stop')
     time.sleep(STOPPED)
@@ -71,7 +73,7 @@ def out(net, machines, seconds):
 def cable_short(net):
     """A follower's cable is out for 10 s, then the master's, then that of all: no daemon is started again, the same host leads, and all are synchronised."""
     master, found = net.master(), []
-    for which, machines in (('a follower', [net.followers()[-1]]), ('the master', [master]), ('all', net.machines)):
+    for which, machines in (('a follower', [net.victim()]), ('the master', [master]), ('all', net.machines)):
         begun, before, _ = out(net, machines, SHORT)
         net.joined(net.machines)
         took = time.monotonic() - begun
@@ -83,7 +85,7 @@ def cable_short(net):
 
 def cable_long(net):
     """A follower's cable is out for 11 minutes, longer than the grace: its page holds over, its daemon is ended and started again, and it follows within 240 s."""
-    one = net.followers()[-1]
+    one = net.victim()
     before, held = life_of(one), []
     one.pull()
     until = time.monotonic() + LONG
@@ -117,7 +119,7 @@ def master_long(net):
 
 def step(net):
     """A machine's own clock is set ahead by 10 s: the network's time and the daemon don't move."""
-    one = net.followers()[-1]
+    one = net.victim()
     before, ahead = life_of(one), offset_ms(one)
     one.must('date -s @$(($(date +%s) + 10))')
     moved = offset_ms(one) - ahead
@@ -129,7 +131,7 @@ def step(net):
 
 def killed(net):
     """A follower's daemon is killed, and then its supervisor: each time it is up again by itself, and synchronised within 240 s."""
-    one, found = net.followers()[-1], []
+    one, found = net.victim(), []
     for what, command in (('the daemon', 'pkill -KILL -x tsp'), ('the supervisor', 'systemctl kill --kill-who=main -s KILL tsp')):
         before = life_of(one)
         one.must(command)
@@ -139,22 +141,23 @@ def killed(net):
 
 def full(net):
     """A disk is full while the unit runs, and when it starts: what runs goes on; what starts fails with 226, and is up by itself once there is room."""
-    one = net.followers()[-1]
+    one = net.victim()
     before = life_of(one)
-    one.must('cat /dev/zero >/var/filler 2>/dev/null; cat /dev/zero >/var/filler2 2>/dev/null; sync; ! touch /var/lib/tsp/x 2>/dev/null || rm /var/lib/tsp/x')
+    one.must(FILL, patience=600)
+    wanted(one.run('echo x >/var/lib/tsp/x')[0], f'the disk of {one.name} isn\'t full')
     time.sleep(30)
     wanted(life_of(one) == before and status_of(one) == 'synchronised', f'a full disk ends a daemon that runs: {journal(one)}')
     one.says('timeout 60 systemctl restart tsp')
     time.sleep(15)
     said = one.says('systemctl show -p ExecMainStatus --value tsp; systemctl is-active tsp')
-    one.must('rm -f /var/filler /var/filler2')
+    one.must('rm -rf /var/filler /var/lib/tsp/x')
     took = net.joined_anew(one, before)
     return f'what ran went on; a start by then: {" ".join(said.split())}; synchronised {took:.0f} s after there was room'
 
 
 def memory(net):
     """A program takes all of a machine's memory: whatever the system kills, the unit is up again by itself, and synchronised within 240 s."""
-    one = net.followers()[-1]
+    one = net.victim()
     one.says('systemd-run --quiet --collect --unit=hog sh -c "tail /dev/zero"; sleep 20')
     until = time.monotonic() + AGAIN
     while 'Out of memory' not in one.says('dmesg'):
@@ -167,7 +170,7 @@ def memory(net):
 
 def reboot(net):
     """A follower is started again: its unit is up by itself, and it is synchronised."""
-    one = net.followers()[-1]
+    one = net.victim()
     before = life_of(one)
     one.says('systemctl --no-block reboot')
     time.sleep(20)

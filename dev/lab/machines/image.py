@@ -5,7 +5,8 @@ import subprocess
 
 HERE = os.path.dirname(os.path.realpath(__file__))
 PACKAGES = ('systemd', 'systemd-sysv', 'dbus', 'udev', 'kmod', 'linux-image-amd64', 'initramfs-tools', 'chrony', 'nftables', 'wireguard-tools', 'python3',
-            'libfaketime', 'iproute2', 'iputils-ping', 'logrotate', 'procps', 'util-linux', 'stress-ng', 'e2fsprogs')
+            'libfaketime', 'iproute2', 'iputils-ping', 'logrotate', 'procps', 'util-linux', 'stress-ng', 'e2fsprogs', 'apparmor', 'apparmor-utils', 'needrestart',
+            'prometheus-node-exporter', 'curl')
 SUITE, SIZE = 'bookworm', '2G'
 UNWANTED = ('apt-daily.timer', 'apt-daily-upgrade.timer', 'fstrim.timer', 'e2scrub_all.timer', 'dpkg-db-backup.timer', 'e2scrub_reap.service', 'systemd-timesyncd.service',
             'systemd-binfmt.service', 'getty.target')
@@ -66,7 +67,7 @@ def unpack(folder):
     """Debian's files in a folder, which mmdebstrap makes once."""
     packed, root = os.path.join(folder, 'root.tar'), os.path.join(folder, 'root')
     if not os.path.exists(packed):
-        call('mmdebstrap', '--quiet', '--variant=apt', f'--include={",".join(PACKAGES)}', SUITE, f'{packed}.new')
+        call('mmdebstrap', '--quiet', '--format=tar', '--variant=apt', f'--include={",".join(PACKAGES)}', SUITE, f'{packed}.new')
         os.rename(f'{packed}.new', packed)
     shutil.rmtree(root, ignore_errors=True)
     os.makedirs(root)
@@ -87,8 +88,8 @@ def set_up(root):
     write(root, '/etc/machine-id', f'{os.urandom(16).hex()}\n', 0o444)
     call('chroot', root, 'systemctl', '--quiet', 'enable', 'machine-named', 'machine-agent', 'systemd-networkd', 'systemd-networkd-wait-online')
     call('chroot', root, 'systemctl', '--quiet', 'set-default', 'multi-user.target')
-    # (nothing of Debian's own work comes in between; the feed's scenario turns chronyd on)
-    call('chroot', root, 'systemctl', '--quiet', 'disable', 'chrony')
+    # (nothing of Debian's own work comes in between; scenarios turn on what they need)
+    call('chroot', root, 'systemctl', '--quiet', 'disable', 'chrony', 'prometheus-node-exporter')
     call('chroot', root, 'systemctl', '--quiet', 'mask', *UNWANTED)
     call('chroot', root, 'passwd', '--quiet', '-d', 'root')
 

@@ -3,6 +3,7 @@ import os
 import re
 import subprocess
 import sys
+import threading
 import time
 from collections import namedtuple
 from concurrent.futures import ThreadPoolExecutor
@@ -18,14 +19,14 @@ TOP = os.path.dirname(os.path.dirname(os.path.dirname(HERE)))
 RATES = (40, -25, 5, 60, -50)
 SLAVE_FROM = 4
 # Seconds: after which a host may be told to stand, a network has a master, a host has joined it, a unit is up, and between two looks.
-MAY_STAND, LED, JOINED, UP, OFTEN = 300, 900, 240, 150, 2
+MAY_STAND, LED, JOINED, UP, OFTEN = 300, 900, 240, 300, 4
 # The place of the role in a line of `tsp-status --csv`; and what a page says, by its numbers.
 ROLE = 7
 STATUSES, ROLES = ('stale', 'waiting', 'synchronised', 'holding'), ('nobody', 'follows', 'leads')
 
 
-class Seen(namedtuple('Seen', 'status role life')):
-    """What a page says."""
+class Seen(namedtuple('Seen', 'status role life rate')):
+    """What a page says; the rate is in parts in 10^9."""
     __slots__ = ()
 
 
@@ -37,6 +38,7 @@ class Network:
         self.by, line = needs.processor(folder)
         say(line)
         self.switch = Switch(os.path.basename(folder))
+        self.chains, self.lock, self.answerer = {}, threading.Lock(), os.path.join(folder, 'answer')
         self.machines = [Machine(folder, number, self.switch, self.by, RATES[number - 1]) for number in range(1, count + 1)]
         self.build()
 
@@ -80,9 +82,9 @@ class Network:
     def install(self, package, machines=None):
         """Installs a package."""
         def one(machine):
-            machine.put(package, '/srv/tsp.deb')
+            machine.put(package, f'/srv/{os.path.basename(package)}')
             # (the machines have no way to Debian: what a package needs is in their image)
-            machine.must('DEBIAN_FRONTEND=noninteractive dpkg -i /srv/tsp.deb', patience=600)
+            machine.must(f'cd /srv && DEBIAN_FRONTEND=noninteractive apt-get install -y ./{os.path.basename(package)}', patience=900)
         self.each(one, machines)
 
     def set_up(self, package):
@@ -92,18 +94,19 @@ class Network:
         self.each(lambda machine: machine.must('tsp-launch --lint; systemctl enable --now tsp', patience=UP))
         self.led()
 
-    def led(self, longest=LED):
+    def led(self, longest=LED, machines=None):
         """Waits until a host leads and all others follow it; the first one is told to stand, as soon as it may."""
+        machines = machines or self.machines
         until = time.monotonic() + longest
         while time.monotonic() < until:
-            seen = self.each(page_of)
+            seen = self.each(page_of, machines)
             roles = [one.role for one in seen]
             if sorted(roles) == ['follows'] * (len(roles) - 1) + ['leads'] and all(one.status == 'synchronised' for one in seen):
-                return self.machines[roles.index('leads')]
-            if 'leads' not in roles and self.up(self[1]) > MAY_STAND:
-                self[1].says('tsp-elect m1')
+                return machines[roles.index('leads')]
+            if 'leads' not in roles and self.up(machines[0]) > MAY_STAND:
+                machines[0].says(f'tsp-elect {machines[0].name}')
             time.sleep(OFTEN)
-        raise Failed(f'after {longest} s the hosts are {self.each(page_of)}')
+        raise Failed(f'after {longest} s the hosts are {self.each(page_of, machines)}')
 
     @staticmethod
     def up(machine):
@@ -126,6 +129,15 @@ class Network:
         master = self.master()
         return [machine for machine in self.machines if machine is not master]
 
+    def victim(self):
+        """The follower that something befalls: the last one, and for a chain of scenarios beside others another one than theirs."""
+        chain, followers = threading.get_ident(), self.followers()
+        with self.lock:
+            taken = [machine for other, machine in self.chains.items() if other != chain]
+            if self.chains.get(chain) not in followers:
+                self.chains[chain] = [machine for machine in followers if machine not in taken][-1]
+            return self.chains[chain]
+
     def joined(self, machines, longest=JOINED):
         """Waits until these hosts are synchronised, by their own pages; gives the seconds that this took."""
         begun, left = time.monotonic(), list(machines)
@@ -135,7 +147,6 @@ class Network:
         if left:
             raise Failed(f'after {longest} s {", ".join(machine.name for machine in left)} isn\'t synchronised')
         return time.monotonic() - begun
-
 
     def joined_anew(self, machine, before, longest=JOINED):
         """Waits until a host is synchronised in another life than before; gives the seconds that this took."""
@@ -148,14 +159,14 @@ class Network:
 
 
 def page_of(machine):
-    """What a machine's page says: the status, the role, and the number of the daemon's life; all empty where nothing answers."""
+    """What a machine's page says: the status, the role, the number of the daemon's life, and its rate; all empty, and 0, where nothing answers."""
     try:
         words = machine.says('/srv/sampler page').split()
     except Gone:
         words = []
-    if len(words) != 3 or not words[0].isdigit():
-        return Seen('', '', '')
-    return Seen(STATUSES[int(words[0])], ROLES[int(words[1])], words[2])
+    if len(words) != 4 or not words[0].isdigit():
+        return Seen('', '', '', 0)
+    return Seen(STATUSES[int(words[0])], ROLES[int(words[1])], words[2], int(words[3]))
 
 
 def status_of(machine):
@@ -166,6 +177,14 @@ def status_of(machine):
 def life_of(machine):
     """The number of the daemon's life, which is another one at each start."""
     return page_of(machine).life
+
+
+def is_another(one, before):
+    """That the daemon was started again, and answers."""
+    until = time.monotonic() + UP
+    while life_of(one) in ('', before):
+        wanted(time.monotonic() < until, f'the daemon of {one.name} isn\'t started again')
+        time.sleep(OFTEN)
 
 
 def journal(machine, words=''):

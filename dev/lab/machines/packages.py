@@ -4,15 +4,16 @@ import time
 
 from lab.machines.network import life_of, page_of, status_of, wanted
 
-# What the package may leave behind, and what a purge has to take away.
-PLACES = ('/etc/tsp', '/etc/default/tsp', '/var/lib/tsp', '/var/lib/private/tsp', '/run/tsp', '/usr/lib/tsp', '/usr/share/tsp', '/usr/share/doc/tsp',
-          '/etc/systemd/system/multi-user.target.wants/tsp.service', '/etc/systemd/system/tsp.service.d', '/usr/lib/systemd/system/tsp.service')
+# What bears the package's name on a machine; what is there before the package is, and what lies in memory.
+NAMED = 'find / -xdev -name "*tsp*" -not -path "/srv/*" | sort'
+BEFORE, IN_MEMORY = '/srv/before', 'ls -d /run/tsp /dev/shm/*tsp* 2>/dev/null'
 # An upgraded host is waited for, in seconds, as the pages say.
 FOLLOWS = 240
 
 
 def install(net):
     """From bare machines by the pages alone: the package, the hosts file, one command for the unit. Each is up, one host leads, and all are synchronised."""
+    net.each(lambda machine: machine.must(f'{NAMED} >{BEFORE}'))
     begun = time.monotonic()
     net.set_up(net.package)
     led = time.monotonic() - begun
@@ -45,8 +46,8 @@ def purge(net):
     one = net.machines[-1]
     master = net.master()
     wanted(one is not master, f'{one.name} leads, and a slave is to be purged')
-    one.must('dpkg --purge tsp', patience=300)
-    left = one.says(f'ls -d {" ".join(PLACES)} 2>/dev/null; pgrep -a -x tsp; pgrep -af tsp-launch; systemctl list-units --all --no-legend "tsp*"')
+    one.must('apt-get purge -y tsp', patience=300)
+    left = one.says(f'{NAMED} | comm -13 {BEFORE} -; {IN_MEMORY}; pgrep -a -x tsp; pgrep -a tsp-; systemctl list-units --all --no-legend "tsp*"')
     wanted(not left, f'a purge leaves {left}')
     wanted(net.master() is master and status_of(net[2]) == 'synchronised', f'the others don\'t go on: {net.each(page_of)}')
     net.install(net.package, [one])

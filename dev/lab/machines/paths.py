@@ -4,19 +4,21 @@ import socket
 import struct
 import time
 
+from lab.machines import network, pages
 from lab.machines.network import wanted
 from tsp_witness.datagram import octets_of
 
-# A forged date is so many seconds ahead, and is sent so often.
-AHEAD, TIMES = 1000, 5
-PORT = 51820
+SECTION = 'On a network that you don\'t trust'
+# A forger sends so many datagrams, which bear a name that says where they come from; a peer's questions for how long a round trip takes are as many.
+TIMES, TRIPS = 20, 60
+TRACE = '/var/log/tsp/trace'
 # Sends a packet of IP, given in hexadecimal, so often.
 SEND = '''python3 -c '
 import socket, sys, time
 link = socket.socket(socket.AF_INET, socket.SOCK_RAW, socket.IPPROTO_RAW)
 for _ in range(int(sys.argv[3])):
     link.sendto(bytes.fromhex(sys.argv[1]), (sys.argv[2], 0))
-    time.sleep(0.2)
+    time.sleep(0.05)
 ' '''
 
 
@@ -25,16 +27,44 @@ def inside(machine):
     return f'10.99.0.{machine.number}'
 
 
-def tunnel(net, members):
-    """Brings up WireGuard between machines, by wg-quick."""
-    keys = {machine: machine.must('umask 077; wg genkey >/srv/key; wg pubkey </srv/key') for machine in members}
-    for machine in members:
-        lines = ['[Interface]', f'Address = {inside(machine)}/32', f'ListenPort = {PORT}', 'PostUp = wg set %i private-key /srv/key']
-        for other in members:
-            if other is not machine:
-                lines += ['[Peer]', f'PublicKey = {keys[other]}', f'AllowedIPs = {inside(other)}/32', f'Endpoint = {other.address}:{PORT}']
-        machine.write('/etc/wireguard/tsp.conf', '\n'.join([*lines, '']))
-        machine.must('chmod 600 /etc/wireguard/tsp.conf; wg-quick down tsp 2>/dev/null; wg-quick up tsp')
+def beneath(machine):
+    """A machine's address on the wire beneath, which is of IPv6."""
+    return f'fd77::{machine.number}'
+
+
+def with_keys(members):
+    """Hosts file and keys on each host, by the commands of the operator's guide."""
+    make = pages.blocks(SECTION)[0]
+    hosts = ''.join(f'{one.name} {inside(one)} master\n' for one in members)
+    keys = {}
+    for one in members:
+        one.write('/etc/tsp/hosts', hosts)
+        one.must(f'rm -rf /etc/tsp/keys; {make.replace("fd77::1", beneath(one)).replace("keys/alpha", f"keys/{one.name}")}')
+        wanted(one.must('stat -c %a /etc/wireguard/tsp.key') == '600', f'the private key of {one.name} can be read')
+        keys[one.name] = one.must(f'cat /etc/tsp/keys/{one.name}')
+    for one in members:
+        for name, line in keys.items():
+            one.write(f'/etc/tsp/keys/{name}', f'{line}\n')
+
+
+def by_wg_quick(one):
+    """The tunnel by wg-quick, and the daemon behind it, by the commands of the operator's guide."""
+    _, up, lines = pages.blocks(SECTION)
+    one.must(up)
+    pages.edit(one, 'systemctl edit tsp', lines)
+    one.must('systemctl restart tsp', patience=network.UP)
+
+
+def by_networkd(one):
+    """The tunnel by systemd-networkd, in place of wg-quick, by what the operator's guide prints, and the rule beside it."""
+    one.must('systemctl disable --now wg-quick@tsp; systemctl revert tsp; systemctl daemon-reload')
+    commands = [span for span in pages.spans(SECTION) if span.startswith('tsp-launch --wireguard net')]
+    wanted(len(commands) == 2, f'the guide has {commands} for systemd-networkd')
+    for command in commands:
+        one.must(command)
+    key = re.search(r'The key: (install .*)', one.must('cat /etc/systemd/network/tsp.netdev'))
+    one.must(f'{key[1]}; networkctl reload; tsp-launch --wireguard nft >/srv/tsp.nft; nft -f /srv/tsp.nft')
+    one.must(f'until ip -4 -o address show tsp | grep -q {inside(one)}; do sleep 1; done; systemctl restart tsp', patience=network.UP)
 
 
 def packet(source, target, port, octets):
@@ -44,51 +74,93 @@ def packet(source, target, port, octets):
     return head + datagram
 
 
-def forge(forger, target, source, port, octets):
-    """Sends datagrams with the tunnel's address of a peer to that of another host, on the wire beneath, as anybody there can."""
+def send(sender, target, source, name, port=525):
+    """Sends datagrams that bear this name, from one host's tunnel address to that of another."""
+    octets = octets_of(('masterreq', '7', name))
+    sender.must(f'{SEND} {packet(inside(source), inside(target), port, octets).hex()} {inside(target)} {TIMES}')
+    time.sleep(2)
+    return heard(target, name)
+
+
+def heard(machine, name):
+    """How many datagrams a machine's daemon took that bear this name."""
+    return int(machine.says(f'grep -c " took .* masterreq 7 {name}$" {TRACE}') or 0)
+
+
+def forged(forger, target, source, name, port=525):
+    """The same on the wire beneath, as anybody there can: the tunnel's address is sent to by the card of the host that has it."""
     forger.must(f'ip route replace {inside(target)} via {target.address}')
-    forger.must(f'{SEND} {packet(inside(source), inside(target), port, octets).hex()} {inside(target)} {TIMES}')
+    return send(forger, target, source, name, port)
 
 
-def forged_date(net):
-    """The octets of a date that is far ahead of a machine's own clock."""
-    now = float(net[1].must('date +%s'))
-    return octets_of(('setdate', '77', str(int((now + AHEAD) * 1e6)), 'x'))
+def nothing_gets_in(forger, members, way):
+    """That no datagram comes in that is forged on the wire, from the daemon's port or another one; and that a peer's own do, but not with another one's address."""
+    target, source, third = members
+    for port in (525, 3333):
+        got = forged(forger, target, source, f'{way}-{port}', port)
+        wanted(got == 0, f'by {way} {got} of {TIMES} forged datagrams get in from port {port}')
+    got = send(source, target, source, f'{way}-own')
+    wanted(got == TIMES, f'by {way} {got} of {TIMES} datagrams of a peer come through the tunnel')
+    got = send(source, target, third, f'{way}-borrowed')
+    wanted(got == 0, f'by {way} {got} of {TIMES} datagrams of a peer get in with another one\'s address')
 
 
-def dates(machine):
-    """How many dates a machine's daemon took, by its trace."""
-    return int(machine.says('journalctl -u tsp -o cat | grep -c " took .* setdate "') or 0)
+def trips(one, address):
+    """How long round trips to a daemon take, in milliseconds: the least and the median, by how far its clock's measurement may be wrong, which is half of one."""
+    said = one.must(f'for _ in $(seq {TRIPS}); do /usr/lib/tsp/tsp clockdiff {address}:525; done', patience=300)
+    errors = sorted(map(int, re.findall(r'^clockdiff -?[0-9]+ ([0-9]+)$', said, re.MULTILINE)))
+    wanted(len(errors) > TRIPS / 2, f'{len(errors)} of {TRIPS} questions are answered: {said[:200]}')
+    return f'{errors[0] / 500:.2f} and {errors[len(errors) // 2] / 500:.2f}'
+
+
+def without_rule(forger, target, source):
+    """How many forged datagrams get in where the rule isn't there, so that it is known that the forger knows how."""
+    target.must('nft delete table inet tsp_tunnel')
+    got = forged(forger, target, source, 'unruled')
+    target.must('systemctl restart wg-quick@tsp', patience=network.UP)
+    return got
 
 
 def tunnelled(net):
-    """Three hosts at addresses of a tunnel, and a fourth machine on the wire that sends with a peer's address. Without rules its date gets in; with those
-    that tsp-launch prints, none of its datagrams does, from the peer's port or another one, and the hosts hear each other."""
+    """Three hosts at addresses of a tunnel over IPv6, by the kernel's WireGuard and the commands of the operator's guide, and a fourth machine on the wire beneath that
+    sends with a peer's address: none of its datagrams gets in, with wg-quick, after a reboot, and with systemd-networkd. One host leads, and all follow it."""
     members, forger = net.machines[:3], net[4]
     before = {machine: machine.must('cat /etc/tsp/hosts') for machine in net.machines}
     forger.must('systemctl stop tsp')
-    tunnel(net, members)
-    for machine in members:
-        machine.write('/etc/tsp/hosts', ''.join(f'{one.name} {inside(one)} master\n' for one in members))
-        machine.must('systemctl restart tsp', patience=200)
-    net.each(lambda machine: machine.must('mkdir -p /etc/nftables.d; tsp-launch --firewall nft >/etc/nftables.d/tsp.nft; grep iifname.*saddr '
-                                          '/etc/nftables.d/tsp.nft'), members)
-    target, source = net[1], net[2]
-    forge(forger, target, source, 525, forged_date(net))
-    time.sleep(5)
-    without = dates(target)
-    wanted(without, 'without rules a forged date doesn\'t get in, so nothing is tried')
-    net.each(lambda machine: machine.must('nft -f /etc/nftables.d/tsp.nft'), members)
-    for port in (525, 3333):
-        forge(forger, target, source, port, forged_date(net))
-    time.sleep(5)
-    wanted(dates(target) == without, f'with rules {dates(target) - without} of {2 * TIMES} forged dates get in')
-    dropped = re.findall(r'counter packets ([0-9]+) bytes [0-9]+ drop', target.must('nft list chain inet tsp datagrams'))
-    heard = net.roles_by(target)
-    wanted(all(heard.get(machine.name) in ('waiting', 'slave', 'master') for machine in members), f'the hosts don\'t hear each other: {heard}')
-    for machine in members:
-        machine.must('nft delete table inet tsp; wg-quick down tsp')
+    bare = trips(net[2], net[1].address)
+    with_keys(members)
+    net.each(by_wg_quick, members)
+    kind = net[1].must('ip -d link show tsp; lsmod')
+    wanted('wireguard' in kind and 'tun ' not in kind, f'the tunnel isn\'t the kernel\'s: {kind}')
+    nothing_gets_in(forger, members, 'wg-quick')
+    without = without_rule(forger, net[1], net[2])
+    wanted(without, 'without the rule no forged datagram gets in, so nothing is tried')
+    nothing_gets_in(forger, members, 'restarted')
+    net.each(lambda one: one.must('mkdir -p /etc/nftables.d; tsp-launch --firewall nft >/etc/nftables.d/tsp.nft; grep iifname.*tsp.*saddr /etc/nftables.d/tsp.nft; '
+                                  'nft -f /etc/nftables.d/tsp.nft'), members)
+    nothing_gets_in(forger, members, 'firewall')
+    tunnel = trips(net[2], inside(net[1]))
+    leads = net.led(machines=members)
+    one, *others = [member for member in members if member is not leads]
+    one.says('systemctl --no-block reboot')
+    time.sleep(20)
+    one.ready()
+    again = net.joined([one])
+    wanted(one.says('systemctl is-active wg-quick@tsp tsp').split() == ['active'] * 2, f'after a reboot the units of {one.name} aren\'t up')
+    nothing_gets_in(forger, [one, leads, *others], 'rebooted')
+    net.each(by_networkd, members)
+    nothing_gets_in(forger, members, 'networkd')
+    leads = net.led(machines=members)
+    back(net, members, before)
+    return (f'by wg-quick, after its restart, with the firewall, after a reboot and by systemd-networkd 0 of {2 * TIMES} forged datagrams got in, and all {TIMES} of a peer; without '
+            f'the rule {without} of {TIMES}; {leads.name} led through the tunnel, and a host that rebooted was synchronised after {again:.0f} s; shortest and middle round '
+            f'trips {tunnel} ms through the tunnel, {bare} without')
+
+
+def back(net, members, before):
+    """Takes the tunnel away."""
+    for one in members:
+        one.must('nft flush ruleset; rm -f /etc/systemd/network/tsp.* /etc/nftables.d/tsp.nft; networkctl reload; ip link del tsp')
     for machine in net.machines:
         machine.write('/etc/tsp/hosts', before[machine] + '\n')
-        machine.must('systemctl restart tsp', patience=200)
-    return f'without rules {without} of {TIMES} forged dates got in, with them 0 of {2 * TIMES}: {dropped[0]} were dropped, and the hosts heard each other'
+        machine.must('systemctl restart tsp', patience=network.UP)

@@ -1,7 +1,7 @@
 /* In a machine: notes its clocks beside the processor's counter, which all machines of one host share but for an offset.
  *
  *   sampler SECONDS        writes a line twice a second, for so many seconds
- *   sampler page           writes the page's status and role, and the number of the daemon's life
+ *   sampler page           writes the page's status and role, the number of the daemon's life, and its rate
  *   sampler offset SHARED  writes by how much the host's counter is ahead of this machine's, how many counts the best of its questions took, and
  *                          how many were answered; the host answers by a page that both share
  *
@@ -99,7 +99,7 @@ static int page(void)
     tsp_time now;
     tsp_clock_open(&clock, NULL);
     tsp_clock_now(&clock, &now);
-    return printf("%d %d %" PRIx64 "\n", now.status, now.role, now.life) < 0;
+    return printf("%d %d %" PRIx64 " %" PRId64 "\n", now.status, now.role, now.life, clock.is_kept ? clock.kept.daemon.rate : 0) < 0;
 }
 
 int main(int count, char **words)

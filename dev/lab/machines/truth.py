@@ -1,6 +1,5 @@
 """How far clocks of machines are apart, by the one counter of the processor on which they run."""
 import bisect
-import os
 import subprocess
 import time
 from collections import namedtuple
@@ -12,6 +11,8 @@ WIDEST, APART = 1_000_000, 3_000_000
 SYNCHRONISED, LEADS = 2, 2
 # Microseconds: by how many a correction of a master is noted, and until each host has looked at it since.
 NOTED, LOOKED = 150, 20_000_000
+# A clock is stepped if it moves by more than so many microseconds, and by more than chronyd slews, which is a twelfth.
+STEPPED, SLEWED = 10_000, 0.084
 # Seconds: how long the host answers, and between two moments at which clocks are compared.
 ANSWERS, PACE = 60, 0.5
 
@@ -46,6 +47,11 @@ def counts_in_microsecond(answerer):
     return (last - first) / (ended - begun)
 
 
+def now(network):
+    """The host's counter."""
+    return int(subprocess.run([network.answerer, 'now'], stdout=subprocess.PIPE, check=True).stdout)
+
+
 def begin(network, seconds, machines=None):
     """Begins samples on machines, for so many seconds."""
     def one(machine):
@@ -55,7 +61,7 @@ def begin(network, seconds, machines=None):
 
 def offset(network, machine):
     """By how many counts the host's counter is ahead of a machine's, and by how many that may be wrong."""
-    with subprocess.Popen([os.path.join(network.folder, 'answer'), machine.shared, str(ANSWERS)]) as answering:
+    with subprocess.Popen([network.answerer, machine.shared, str(ANSWERS)]) as answering:
         try:
             words = machine.must('/srv/sampler offset $(dirname $(grep -l 0x1110 /sys/bus/pci/devices/*/device | head -n 1))/resource2').split()
         finally:
@@ -81,7 +87,7 @@ class Truth:
     """What was sampled on machines: the samples of each, and how many counts a microsecond has."""
 
     def __init__(self, network, machines=None):
-        self.rate = counts_in_microsecond(os.path.join(network.folder, 'answer'))
+        self.rate = counts_in_microsecond(network.answerer)
         self.machines = machines or network.machines
         # (one after the other, since each keeps a processor busy)
         self.samples = [samples(network, machine) for machine in self.machines]
@@ -101,10 +107,10 @@ class Truth:
         begun, ended = max(found[0].page_at for found in self.samples) / self.rate, min(found[-1].page_at for found in self.samples) / self.rate
         return [begun + 1e6 * PACE * step for step in range(int((ended - begun) / 1e6 / PACE))]
 
-    def apart(self, what):
-        """How far each two clocks were apart at each moment, in microseconds, in order."""
+    def apart(self, what, begun=0, ended=float('inf')):
+        """How far each two clocks were apart at each moment, in microseconds, in order; at those of a part of the time, where that is named."""
         clocks, found = self.clocks(what), []
-        for moment in self.moments():
+        for moment in (moment for moment in self.moments() if begun <= moment < ended):
             read = [value for value in (clock.read(moment) for clock in clocks) if value is not None]
             found += [abs(one - other) for place, one in enumerate(read) for other in read[:place]]
         return sorted(found)
@@ -123,6 +129,17 @@ class Truth:
                 judged += 1
                 outside += not sample.earliest <= true[0] <= sample.latest
         return judged, outside
+
+    def stepped(self):
+        """By how many milliseconds machines' own clocks were stepped: by more than chronyd slews from one sample to the next."""
+        found = []
+        for machine, taken in zip(self.machines, self.samples):
+            for before, one in zip(taken, taken[1:]):
+                passed = (one.real_at - before.real_at) / self.rate
+                moved = (one.real - before.real) / 1000 - passed
+                if abs(moved) > STEPPED + SLEWED * passed:
+                    found.append(f'{machine.name} by {moved / 1000:+.0f} ms')
+        return ', '.join(found) or 'none'
 
     def corrected(self, led):
         """The moments before which a master's clock was corrected."""
