@@ -6,9 +6,11 @@ pub mod CauseNodes
 pub mod CorrectsProof
 pub mod CueAlarms
 pub mod CueRows
+pub mod DebtKeeps
 pub mod DeliveredChecks
 pub mod FoundProof
 pub mod FreshProof
+pub mod GiveUpProof
 pub mod HeedsProof
 pub mod HumbleLeads
 pub mod HumbleNodes

@@ -10,6 +10,7 @@ pub mod Delivered
 pub mod FoundInTime
 pub mod FoundUse
 pub mod FreshLeads
+pub mod GivenUp
 pub mod Heeds
 pub mod Humble
 pub mod InTime

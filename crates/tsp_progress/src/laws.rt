@@ -147,6 +147,17 @@ pub fn clocked_runs_obey()
     ensures { ClockedRunsObey }
 {}
 
+ghost use Rattle.tsp_progress.specs.GivenUp.{ClockedRunsGiveUpLate, RunsGiveUpLate};
+/// A send that is given up was open for `TRIES` times `RETRY`, 3 s, at least.
+pub fn runs_give_up()
+    ensures { RunsGiveUpLate }
+{}
+
+/// So it is in a run by any clocks.
+pub fn clocked_runs_give_up()
+    ensures { ClockedRunsGiveUpLate }
+{}
+
 ghost use Rattle.tsp_progress.specs.InTime.{AllInTime, EndsInTime};
 ghost use Rattle.tsp_progress.specs.AlarmsFit.{Manner};
 ghost use Rattle.tsp_progress.specs.Wakes.{AllWake, Woken};
