@@ -3,6 +3,7 @@ pub mod LineLemmas
 pub mod NodeLemmas
 pub mod PageLemmas
 pub mod PagePasts
+pub mod ReadLemmas
 pub mod SendLemmas
 pub mod ServeLemmas
 mod SessionFits

@@ -3,9 +3,10 @@ use Rattle.std.specs.Prelude.{◌≡◌, ◌⊎◌, ℕ, zero, suc, ◌+◌, ◌
 use Rattle.std.specs.Prelude.{false}
 use Rattle.std.specs.Prelude.{if◌then◌else◌}
 use Rattle.std.specs.Prelude.{List, [], ◌∷◌, ◌++◌, drop, Option, None, Some, option_and_then}
+use Rattle.std.specs.Option.{option_map}
 use Rattle.std.specs.{Int.w64, Int.to_le_bytes}
 use Rattle.tsp_base.specs.Words.{dids, last_correct, rest, target, word}
-use Rattle.tsp_gateway.specs.Standings.{standing}
+use Rattle.tsp_gateway.specs.{GatewayStands.GatewayStands, Standings.standing, declared.gateway.Gateway.Gateway}
 use Rattle.tsp_gateway.specs.declared.standing.Standing.{Standing, TheVariants.Follows, TheVariants.Leads}
 use Rattle.tsp_io.specs.{Boards.Mark, Boards.first_view, Boards.views_left, Origins.origin_then, Origins.retuned, declared.origin.Origin.Origin}
 use Rattle.tsp_io.specs.declared.{ticker.Ticker.Ghosts as TickerOf}
@@ -197,16 +198,16 @@ abbrev pub marks_by : Option DaemonHalf → Page → List Mark
 marks_by None p = []
 marks_by (Some h) p = half_marks h p
 
--- the sheet after a turn in which it does, but for the page
-abbrev pub sheet_stayed : ℕ → Sheet → Page → Sheet
-sheet_stayed moment sheet p = record sheet { origin = origin_then (tuned_by moment sheet p) sheet.origin; views = views_left sheet.views }
+-- what reads of the board will give after a turn, if there is a page
+abbrev pub views_after : List Placed → ℕ → Page → List Mark → List Mark
+views_after acts x p views = if looks_in_turn acts x p then views_left views else views
 
 -- the sheet after a turn, if there is a page
 abbrev pub sheet_with : NodePast → List Placed → ℕ → ℕ → Sheet → Page → Sheet
 sheet_with past acts x moment sheet p = record {
   page = Some (page_by (half_in_turn past acts x moment (tuned_by moment sheet p) p) p);
   origin = if looks_in_turn acts x p then origin_then (tuned_by moment sheet p) sheet.origin else sheet.origin;
-  views = if looks_in_turn acts x p then views_left sheet.views else sheet.views;
+  views = views_after acts x p sheet.views;
 }
 
 abbrev pub sheet_by : NodePast → List Placed → ℕ → ℕ → Sheet → Option Page → Sheet
@@ -296,44 +297,79 @@ pub record OnlyMarks {T : Type 0} (tickers : TickerOf T) (before now : T) : Type
   pub origin : tickers.origin_is now ≡ tickers.origin_is before
   pub views : tickers.views now ≡ tickers.views before
 
--- from where a ticker's ticks are counted, and what reads of its board will give, are told, and are the sheet's
-pub record IsTold {T : Type 0} (tickers : TickerOf T) (sheet : Sheet) (ticker : T) : Type 0 where
-  pub origin : tickers.origin_is ticker ≡ Some sheet.origin
-  pub views : tickers.views ticker ≡ Some sheet.views
+-- reads of a board will give these, if it is told what they give
+abbrev pub AreReads : List Mark → Option (List Mark) → Type 0
+AreReads views None = Unit {0}
+AreReads views (Some told) = told ≡ views
 
--- these writes were noted, and what is told of the page is then this sheet's
-pub record LeavesSheet (sheet : Sheet) (more : List Mark) (marks : Option (List Mark)) (now : Paged) : Type 0 where
-  pub noted : NotesMarks more marks now.marks
+-- what a turn at tick x leaves of a page that says that the daemon is alive, if reads gave these: the half that is written, and from where
+-- ticks are counted then, None if nothing changes there
+pub record StaysBy {T : Type 0} (tickers : TickerOf T) (x : ℕ) (p now : Page) (views : List Mark) (tuned : Option Origin) (before after : T) : Type 0 where
+  pub tuned_is : (origin : Option Origin) (delay : ℕ) → tickers.origin_is before ≡ Some origin → tickers.delay_is before ≡ Some delay →
+      tuned ≡ tuned_at (moment_after delay (tickers.last before)) (asked_of p.half.life views) origin
+  pub origin : tickers.origin_is after ≡ option_map (λ (o : Option Origin). origin_then tuned o) (tickers.origin_is before)
+  pub page : (delay : ℕ) → tickers.delay_is before ≡ Some delay →
+      now ≡ page_with (half_alive x (moment_after delay (tickers.last before)) tuned p) p
+  pub marks : (delay : ℕ) → tickers.delay_is before ≡ Some delay →
+      NotesMarks (half_marks (half_alive x (moment_after delay (tickers.last before)) tuned p) p) (tickers.marks before) (tickers.marks after)
+
+-- the same for some reads before it, which are those that are told, if they are; whatever reads there may be after it, they are left of these
+abbrev pub Stays : {T : Type 0} → TickerOf T → ℕ → Page → Page → T → T → Type 0
+Stays tickers x p now before after = (left : List Mark) → AreReads left (tickers.views after) →
+    (views : List Mark) × (tuned : Option Origin) × AreReads views (tickers.views before) × (views_left views ≡ left) ×
+    StaysBy tickers x p now views tuned before after
+
+-- what any turn at tick x with these acts leaves of a page: the same, but if it doesn't read, ticks are counted as before
+pub record TurnsBy {T : Type 0} (tickers : TickerOf T) (node : Gateway) (acts : List Placed) (x : ℕ) (p now : Page) (views : List Mark)
+    (tuned : Option Origin) (before after : T) : Type 0 where
+  pub still : looks_in_turn acts x p ≡ false → tuned ≡ None
+  pub tuned_is : (origin : Option Origin) (delay : ℕ) → tickers.origin_is before ≡ Some origin → tickers.delay_is before ≡ Some delay →
+      looks_in_turn acts x p ≡ true → tuned ≡ tuned_at (moment_after delay (tickers.last before)) (asked_of p.half.life views) origin
+  pub origin : tickers.origin_is after ≡ option_map (λ (o : Option Origin). origin_then tuned o) (tickers.origin_is before)
+  pub page : (past : NodePast) (delay : ℕ) → GatewayStands past node → tickers.delay_is before ≡ Some delay →
+      now ≡ page_by (half_in_turn past acts x (moment_after delay (tickers.last before)) tuned p) p
+  pub marks : (past : NodePast) (delay : ℕ) → GatewayStands past node → tickers.delay_is before ≡ Some delay →
+      NotesMarks (marks_by (half_in_turn past acts x (moment_after delay (tickers.last before)) tuned p) p) (tickers.marks before) (tickers.marks after)
+
+-- the same for some reads before it, which are those that are told, if they are
+abbrev pub Turns : {T : Type 0} → TickerOf T → Gateway → List Placed → ℕ → Page → Page → T → T → Type 0
+Turns tickers node acts x p now before after = (left : List Mark) → AreReads left (tickers.views after) →
+    (views : List Mark) × (tuned : Option Origin) × AreReads views (tickers.views before) × (views_after acts x p views ≡ left) ×
+    TurnsBy tickers node acts x p now views tuned before after
+
+-- these writes were noted, and what is told of the page is then this sheet's; what reads will give is told if it was told before
+pub record LeavesSheet (sheet : Sheet) (more : List Mark) (before now : Paged) : Type 0 where
+  pub noted : NotesMarks more before.marks now.marks
   pub origin : now.origin ≡ Some sheet.origin
-  pub views : now.views ≡ Some sheet.views
+  pub views : now.views ≡ option_map (λ (views : List Mark). sheet.views) before.views
 
 -- what a turn leaves that ends the session so, if this is the number of calls: nothing is written or read if it ended before its receive did,
 -- and else all that it writes, before its first send
-abbrev pub EndsMarks : ℕ → Session → Sheet → Option ℕ → Option (List Mark) → Paged → ServeEnd → Type 0
-EndsMarks delay s sheet calls marks now Done = ⊥
-EndsMarks delay s sheet calls marks now LinkFault = LeavesSheet sheet [] marks now
-EndsMarks delay s sheet calls marks now WriteFault = LeavesSheet (sheet_in_turn delay s sheet) (marks_in_turn delay s sheet) marks now
-EndsMarks delay s sheet calls marks now OutOfMemory =
-    ((calls ≡ Some s.outside.calls) × LeavesSheet sheet [] marks now)
-    ⊎ ((calls ≡ Some (waited s.outside).calls) × LeavesSheet (sheet_in_turn delay s sheet) (marks_in_turn delay s sheet) marks now)
+abbrev pub EndsMarks : ℕ → Session → Sheet → Option ℕ → Paged → Paged → ServeEnd → Type 0
+EndsMarks delay s sheet calls before now Done = ⊥
+EndsMarks delay s sheet calls before now LinkFault = LeavesSheet sheet [] before now
+EndsMarks delay s sheet calls before now WriteFault = LeavesSheet (sheet_in_turn delay s sheet) (marks_in_turn delay s sheet) before now
+EndsMarks delay s sheet calls before now OutOfMemory =
+    ((calls ≡ Some s.outside.calls) × LeavesSheet sheet [] before now)
+    ⊎ ((calls ≡ Some (waited s.outside).calls) × LeavesSheet (sheet_in_turn delay s sheet) (marks_in_turn delay s sheet) before now)
 
 -- what is told of the page after so many turns of a session that began with this page
-abbrev pub LeavesAfter : ℕ → ℕ → Session → Option Page → Option Origin → List Mark → Option (List Mark) → Paged → Type 0
-LeavesAfter delay n s page origin views marks now =
-    LeavesSheet (sheet_after delay n s (sheet_begun page origin views)) (marks_begun page ++ marks_after delay n s (sheet_begun page origin views)) marks now
+abbrev pub LeavesAfter : ℕ → ℕ → Session → Option Page → Option Origin → List Mark → Paged → Paged → Type 0
+LeavesAfter delay n s page origin views before now =
+    LeavesSheet (sheet_after delay n s (sheet_begun page origin views)) (marks_begun page ++ marks_after delay n s (sheet_begun page origin views)) before now
 
 -- what a session leaves that ends so after i turns
-abbrev pub MarksUntil : ℕ → Session → Option Page → Option Origin → List Mark → ℕ → Option ℕ → Option (List Mark) → Paged → ServeEnd → Type 0
-MarksUntil delay s page origin views i calls marks now Done = LeavesAfter delay i s page origin views marks now
-MarksUntil delay s page origin views i calls marks now LinkFault = LeavesAfter delay i s page origin views marks now
-MarksUntil delay s page origin views i calls marks now WriteFault = LeavesAfter delay (suc i) s page origin views marks now
-MarksUntil delay s page origin views i calls marks now OutOfMemory =
-    ((calls ≡ Some (after_turns i s).outside.calls) × LeavesAfter delay i s page origin views marks now)
-    ⊎ ((calls ≡ Some (waited (after_turns i s).outside).calls) × LeavesAfter delay (suc i) s page origin views marks now)
+abbrev pub MarksUntil : ℕ → Session → Option Page → Option Origin → List Mark → ℕ → Option ℕ → Paged → Paged → ServeEnd → Type 0
+MarksUntil delay s page origin views i calls before now Done = LeavesAfter delay i s page origin views before now
+MarksUntil delay s page origin views i calls before now LinkFault = LeavesAfter delay i s page origin views before now
+MarksUntil delay s page origin views i calls before now WriteFault = LeavesAfter delay (suc i) s page origin views before now
+MarksUntil delay s page origin views i calls before now OutOfMemory =
+    ((calls ≡ Some (after_turns i s).outside.calls) × LeavesAfter delay i s page origin views before now)
+    ⊎ ((calls ≡ Some (waited (after_turns i s).outside).calls) × LeavesAfter delay (suc i) s page origin views before now)
 
--- the same, if it is told from where ticks are counted, how long after a reading a moment is, and what reads will give. The page is that of
--- the session's beginning
+-- the same for some reads, which are those that are told, if they are; and if it is told from where ticks are counted, and how long after a
+-- reading a moment is. The page is that of the session's beginning
 abbrev pub MarksIfTold : Paged → Session → ℕ → Option ℕ → Paged → ServeEnd → Type 0
-MarksIfTold p s i calls now end = (origin : Option Origin) (delay : ℕ) (views : List Mark) → p.origin ≡ Some origin → p.delay ≡ Some delay →
-    p.views ≡ Some views →
-    MarksUntil delay s (page_from p.boarded origin s.past (moment_after delay s.outside.last)) origin views i calls p.marks now end
+MarksIfTold p s i calls now end = (views : List Mark) × AreReads views p.views ×
+    ((origin : Option Origin) (delay : ℕ) → p.origin ≡ Some origin → p.delay ≡ Some delay →
+    MarksUntil delay s (page_from p.boarded origin s.past (moment_after delay s.outside.last)) origin views i calls p now end)

@@ -1,9 +1,10 @@
 //! The rate that a supervisor asks for on a daemon's page.
 ghost use Rattle.std.specs.Prelude.{◌≡◌, ◌≤◌, length, List, Option, Some};
+ghost use Rattle.std.specs.Option.{option_map};
 ghost use Rattle.tsp_io.specs.Boards.{Mark, views_left};
 ghost use Rattle.tsp_io.specs.Origins.{origin_then};
 ghost use Rattle.tsp_io.specs.declared.origin.Origin.{Origin};
-ghost use Rattle.tsp_daemon.specs.Pages.{OnlyPages, asked_of, is_asking, rate_in, tuned_at};
+ghost use Rattle.tsp_daemon.specs.Pages.{AreReads, OnlyPages, asked_of, is_asking, rate_in, tuned_at};
 
 use tsp_io::origin::Origin;
 use tsp_io::ticker::Ticker;
@@ -39,8 +40,10 @@ fn rate_in(life: u64, octets: &[u8]) -> Option<i64>
 
 /// The rate for which the look's half asks that stands on the board; None if it can't be read.
 pub(crate) fn asked_now<T: Ticker>(life: u64, ticker: &mut T) -> Option<i64>
-    ensures asked { (views : List Mark) → T.views ticker.old ≡ Some views
-        → (result ≡ asked_of life views) × (T.views ticker.new ≡ Some (views_left views)) }
+    ensures asked { (left : List Mark) → AreReads left (T.views ticker.new) → (views : List Mark)
+        × AreReads views (T.views ticker.old) × (views_left views ≡ left)
+        × (result ≡ asked_of life views) }
+    ensures views { T.views ticker.new ≡ option_map views_left (T.views ticker.old) }
     ensures same { (T.origin_is ticker.new ≡ T.origin_is ticker.old)
         × (T.marks ticker.new ≡ T.marks ticker.old) }
     ensures only { OnlyPages T.Ticker ticker.old ticker.new }
@@ -57,8 +60,9 @@ pub(crate) fn asked_now<T: Ticker>(life: u64, ticker: &mut T) -> Option<i64>
 /// counted then; None if nothing changes.
 pub(crate) fn tune<T: Ticker>(asked: Option<i64>, moment: u64, ticker: &mut T) -> Option<Origin>
     ensures tuned { (origin : Option Origin) → T.origin_is ticker.old ≡ Some origin
-        → (result ≡ tuned_at moment asked origin)
-        × (T.origin_is ticker.new ≡ Some (origin_then result origin)) }
+        → result ≡ tuned_at moment asked origin }
+    ensures origin { T.origin_is ticker.new
+        ≡ option_map (λ origin. origin_then result origin) (T.origin_is ticker.old) }
     ensures same { (T.views ticker.new ≡ T.views ticker.old)
         × (T.marks ticker.new ≡ T.marks ticker.old) }
     ensures only { OnlyPages T.Ticker ticker.old ticker.new }

@@ -35,6 +35,9 @@
 //!   within the drift that it states, ticks are counted at that rate from a moment on which is read between
 //!   the odd sequence and the fields, and the fields say so (`serves` of `serve`, by `sheet_after`,
 //!   `rate_in` and `half_alive`). Without a board nothing is read (`alone`).
+//! - All this is said of the reads that are told. If it isn't told what reads give, there are some reads by
+//!   which the page is what it is (`AreReads` of `MarksIfTold`). A turn that changes the page reads nothing,
+//!   so what it writes doesn't depend on them, and ticks are counted as before (`turns` of `show`).
 //! - After each turn what stands there has the clock of the node's past, and what a turn writes shows no
 //!   less than what stood there before, unless it steps the clock, also where the rate changes
 //!   (`pages_tell_of_pasts`, `pages_dont_fall`).

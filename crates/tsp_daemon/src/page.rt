@@ -1,18 +1,18 @@
 //! The page on which a daemon says what its clock is.
 ghost use Rattle.std.specs.Prelude.{◌≡◌, ℕ, ◌≤◌, ◌+◌, ◌-◌, ◌^◌, ◌-ℤ◌, min, nat_abs, [], ◌∷◌, false, Option, None, Some};
+ghost use Rattle.std.specs.Option.{option_map};
 ghost use Rattle.tsp_gateway.specs.GatewayStands.{GatewayStands};
+ghost use Rattle.tsp_io.specs.Boards.{views_left};
 ghost use Rattle.tsp_io.specs.declared.origin.Origin.{Origin};
 ghost use Rattle.tsp_page.specs.Halves.{daemon_octets};
 ghost use Rattle.tsp_rules.specs.NodeRows.{NodePast};
-ghost use Rattle.tsp_daemon.specs.Pages.{blank_page, half_after, half_alive, half_in_turn};
-ghost use Rattle.tsp_daemon.specs.Pages.{half_marks};
-ghost use Rattle.tsp_daemon.specs.Pages.{least_after, marks_begun, marks_by, marks_next, moment_after};
-ghost use Rattle.tsp_daemon.specs.Pages.{offset_of, steps_in};
-ghost use Rattle.tsp_daemon.specs.Pages.{page_begun, page_by, page_from, page_with, sheet_next};
-ghost use Rattle.tsp_daemon.specs.Pages.{sheet_stayed, sheet_with, tuned_by};
-ghost use Rattle.tsp_daemon.specs.Pages.{IsTold, LeavesSheet, NotesMarks, OnlyMarks, OnlyPages, Sheet};
+ghost use Rattle.tsp_daemon.specs.Pages.{Page as PageValue, Stays, Turns};
+ghost use Rattle.tsp_daemon.specs.Pages.{NotesMarks, OnlyMarks, OnlyPages};
+ghost use Rattle.tsp_daemon.specs.Pages.{blank_page, half_after, half_alive, half_marks};
+ghost use Rattle.tsp_daemon.specs.Pages.{least_after, marks_begun, moment_after};
+ghost use Rattle.tsp_daemon.specs.Pages.{offset_of, steps_in, views_after};
+ghost use Rattle.tsp_daemon.specs.Pages.{page_begun, page_from, page_with};
 ghost use Rattle.tsp_daemon.specs.Pages.{sequence_after, sequence_mark};
-ghost use Rattle.tsp_query.specs.Outside.{paged};
 
 use crate::asked::{asked_now, tune};
 use crate::changes::{change_page, steps_in};
@@ -188,19 +188,8 @@ impl Page {
     /// Writes that the daemon is alive, and counts from now on at the rate that the look's half asks for, if
     /// it does. The moment from which it does so is one at which no reader takes the half before it any more.
     fn stay<T: Ticker>(&mut self, tick: u64, ticker: &mut T)
-        ensures page { (delay : ℕ) (sheet : Sheet) → T.delay_is ticker.old ≡ Some delay
-            → IsTold T.Ticker sheet ticker.old
-            → self.new ≡ page_with (half_alive tick (moment_after delay (T.last ticker.old))
-            (tuned_by (moment_after delay (T.last ticker.old)) sheet self.old) self.old) self.old }
-        ensures marks { (delay : ℕ) (sheet : Sheet) → T.delay_is ticker.old ≡ Some delay
-            → IsTold T.Ticker sheet ticker.old
-            → NotesMarks (half_marks (half_alive tick (moment_after delay (T.last ticker.old))
-            (tuned_by (moment_after delay (T.last ticker.old)) sheet self.old) self.old) self.old)
-            (T.marks ticker.old) (T.marks ticker.new) }
-        ensures told { (delay : ℕ) (sheet : Sheet) → T.delay_is ticker.old ≡ Some delay
-            → IsTold T.Ticker sheet ticker.old
-            → IsTold T.Ticker (sheet_stayed (moment_after delay (T.last ticker.old)) sheet self.old)
-            ticker.new }
+        ensures stays { Stays T.Ticker tick self.old self.new ticker.old ticker.new }
+        ensures views { T.views ticker.new ≡ option_map views_left (T.views ticker.old) }
         ensures only { OnlyPages T.Ticker ticker.old ticker.new }
     {
         let asked = asked_now(self.half.life, ticker);
@@ -214,18 +203,9 @@ impl Page {
     /// Writes what a turn at a tick, with these acts, makes of the page: the half that they change, or
     /// that the daemon is alive, if that wasn't said for a second.
     fn turn<T: Ticker>(&mut self, node: &Gateway, tick: u64, acts: &[Placed], ticker: &mut T)
-        ensures page { (past : NodePast) (delay : ℕ) (sheet : Sheet) → GatewayStands past node.now
-            → T.delay_is ticker.old ≡ Some delay → IsTold T.Ticker sheet ticker.old
-            → self.new ≡ page_by (half_in_turn past acts.now tick
-            (moment_after delay (T.last ticker.old))
-            (tuned_by (moment_after delay (T.last ticker.old)) sheet self.old) self.old) self.old }
-        ensures leaves { (past : NodePast) (delay : ℕ) (sheet : Sheet) → GatewayStands past node.now
-            → T.delay_is ticker.old ≡ Some delay → IsTold T.Ticker sheet ticker.old
-            → LeavesSheet (sheet_with past acts.now tick (moment_after delay (T.last ticker.old)) sheet
-            self.old) (marks_by (half_in_turn past acts.now tick
-            (moment_after delay (T.last ticker.old))
-            (tuned_by (moment_after delay (T.last ticker.old)) sheet self.old) self.old) self.old)
-            (T.marks ticker.old) (paged T.Ticker ticker.new) }
+        ensures turns { Turns T.Ticker node.now acts.now tick self.old self.new ticker.old ticker.new }
+        ensures views { T.views ticker.new
+            ≡ option_map (λ views. views_after acts.now tick self.old views) (T.views ticker.old) }
         ensures only { OnlyPages T.Ticker ticker.old ticker.new }
     {
         if change_page(acts) {
@@ -273,19 +253,12 @@ pub(crate) fn show<T: Ticker>(
     acts: &[Placed],
     ticker: &mut T,
 )
-    ensures page { (past : NodePast) (delay : ℕ) (sheet : Sheet) → GatewayStands past node.now
-        → T.delay_is ticker.old ≡ Some delay → IsTold T.Ticker sheet ticker.old
-        → page.old ≡ sheet.page → page.new ≡ (sheet_next past acts.now tick
-        (moment_after delay (T.last ticker.old)) sheet).page }
-    ensures leaves { (past : NodePast) (delay : ℕ) (sheet : Sheet) → GatewayStands past node.now
-        → T.delay_is ticker.old ≡ Some delay → IsTold T.Ticker sheet ticker.old
-        → page.old ≡ sheet.page → LeavesSheet (sheet_next past acts.now tick
-        (moment_after delay (T.last ticker.old)) sheet) (marks_next past acts.now tick
-        (moment_after delay (T.last ticker.old)) sheet) (T.marks ticker.old)
-        (paged T.Ticker ticker.new) }
-    ensures alone { page.old ≡ None → (page.new ≡ None)
-        × (T.origin_is ticker.new ≡ T.origin_is ticker.old)
-        × (T.views ticker.new ≡ T.views ticker.old) }
+    ensures turns { (p : PageValue) → page.old ≡ Some p → (now : PageValue)
+        × (page.new ≡ Some now)
+        × Turns T.Ticker node.now acts.now tick p now ticker.old ticker.new
+        × (T.views ticker.new
+        ≡ option_map (λ views. views_after acts.now tick p views) (T.views ticker.old)) }
+    ensures alone { page.old ≡ None → (page.new ≡ None) × (ticker.new ≡ ticker.old) }
     ensures only { OnlyPages T.Ticker ticker.old ticker.new }
 {
     if let Some(page) = page {

@@ -1,6 +1,7 @@
 //! A turn of the daemon.
-ghost use Rattle.std.specs.Prelude.{◌≡◌, ℕ, ◌≤◌, ◌<◌, ◌+◌, ◌^◌, length, IfErr, MatchResult, OnOk, Err};
+ghost use Rattle.std.specs.Prelude.{◌≡◌, ℕ, ◌≤◌, ◌<◌, ◌+◌, ◌^◌, length, IfErr, List, MatchResult, OnOk, Err};
 ghost use Rattle.std.specs.Prelude.{None, Some};
+ghost use Rattle.tsp_io.specs.Boards.{Mark};
 ghost use Rattle.tsp_io.specs.Streams.{Grows};
 ghost use Rattle.tsp_gateway.specs.GatewayStands.{clock_at};
 ghost use Rattle.tsp_gateway.specs.Rooms.{ports_in, room_of_ports};
@@ -8,7 +9,7 @@ ghost use Rattle.tsp_query.specs.Faults.{Counts};
 ghost use Rattle.tsp_query.specs.Outside.{paged};
 ghost use Rattle.tsp_query.specs.Told.{HoldsOf, KeepsOn};
 ghost use Rattle.tsp_daemon.specs.Ends.{IsAt, Lives, EndsTurn, FinishesUntil, OnlySends, TriesAll};
-ghost use Rattle.tsp_daemon.specs.Pages.{EndsMarks, IsTold, LeavesSheet, Sheet, marks_in_turn};
+ghost use Rattle.tsp_daemon.specs.Pages.{AreReads, EndsMarks, LeavesSheet, Sheet, marks_in_turn};
 ghost use Rattle.tsp_daemon.specs.Pages.{sheet_in_turn};
 ghost use Rattle.tsp_daemon.specs.Posts.{AreKnown, sends_of, shown_lines};
 ghost use Rattle.tsp_daemon.specs.Sessions.{Session, turned};
@@ -87,14 +88,18 @@ pub(crate) fn turn<K: Sink, L: Link, T: Ticker>(
         (K.written sink.old)
         → MatchResult result (λ _. NotesWait s (L.waits link.old) (L.waits link.new))
         (NotesTurn s (L.waits link.old) (L.waits link.new)) }
-    ensures marks { (s : Session) (delay : ℕ) (sheet : Sheet)
+    ensures marks { (left : List Mark) → AreReads left (T.views ticker.new) → (views : List Mark)
+        × AreReads views (T.views ticker.old)
+        × ((s : Session) (delay : ℕ) (sheet : Sheet)
         → HoldsOf L.Link T.Ticker (IsAt s node.old counters.old) link.old ticker.old
         (K.written sink.old) → T.delay_is ticker.old ≡ Some delay
-        → IsTold T.Ticker sheet ticker.old → page.old ≡ sheet.page
+        → T.origin_is ticker.old ≡ Some sheet.origin → page.old ≡ sheet.page
+        → sheet.views ≡ views
         → MatchResult result (λ _. (page.new ≡ (sheet_in_turn delay s sheet).page)
+        × ((sheet_in_turn delay s sheet).views ≡ left)
         × LeavesSheet (sheet_in_turn delay s sheet) (marks_in_turn delay s sheet)
-        (T.marks ticker.old) (paged T.Ticker ticker.new)) (EndsMarks delay s sheet
-        (L.calls link.new) (T.marks ticker.old) (paged T.Ticker ticker.new)) }
+        (paged T.Ticker ticker.old) (paged T.Ticker ticker.new)) (EndsMarks delay s sheet
+        (L.calls link.new) (paged T.Ticker ticker.old) (paged T.Ticker ticker.new))) }
     ensures alone { page.old ≡ None → OnOk result (page.new ≡ None)
         × (T.origin_is ticker.new ≡ T.origin_is ticker.old)
         × (T.views ticker.new ≡ T.views ticker.old) }

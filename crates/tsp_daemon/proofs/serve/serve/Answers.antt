@@ -6,7 +6,7 @@ use Rattle.tsp_daemon.specs.declared.end.ServeEnd.TheVariants.{LinkFault, WriteF
 use Rattle.tsp_daemon.proofs.SessionLemmas.{at_on, rises_more, serves_until, turns_more}
 use Rattle.tsp_daemon.proofs.TurnLemmas.{le_is, le_on, le_same, le_self, posts_more, went_on, done_unlinked, done_unwritten, end_as, same_end}
 use Rattle.tsp_daemon.{proofs.WaitLemmas.none_noted, proofs.WaitLemmas.one_more_noted, proofs.WaitLemmas.until_noted, specs.Sessions.after_turns}
-use Rattle.tsp_daemon.proofs.PageLemmas.{first_marked, one_more_marked, told_after, until_marked}
+use Rattle.tsp_daemon.proofs.PageLemmas.{are_reads_in, first_marked, one_more_marked, reads_before, reads_in, until_marked}
 use Rattle.tsp_daemon.specs.Pages.{moment_after, page_from, sheet_after, sheet_begun}
 use Rattle.tsp_query.specs.Outside.{paged}
 use Rattle.tsp_daemon.proofs.serve.serve.Goals as goal
@@ -17,20 +17,27 @@ returns-in-Err g c = record {
       let i = c.loop.counter in
       let ends = c.in-Err.ensures.turns (after_turns i s) (c.loop.invariant.at s at) in
       let noted = until_noted i s _ _ _ _ _ _ _ _ _ c.in-Err.end ends (c.loop.invariant.waits s at)
-      (c.in-Err.ensures.waits (after_turns i s) (c.loop.invariant.at s at)) in (
+      (c.in-Err.ensures.waits (after_turns i s) (c.loop.invariant.at s at)) in
+      let turned = c.in-Err.ensures.marks (reads_in (g.T.Ticker.views c.turn.new.ticker)) (are_reads_in (g.T.Ticker.views c.turn.new.ticker)) in
+      let gave = c.loop.invariant.marks turned.0 turned.1 in (
         i,
         noted.0,
         serves_until c.args.turns i s _ _ _ _ _ _ c.in-Err.end (search arith) ends,
         c.loop.invariant.rises s at,
         noted.1,
         noted.2,
-        λ origin delay views from told known.
-            let marked = c.loop.invariant.marks s origin delay views at from told known in
-            let sheet = sheet_after delay i s (sheet_begun (page_from (g.T.Ticker.boarded c.args.ticker.now) origin s.past
-            (moment_after delay s.outside.last)) origin views) in
-            until_marked delay i s _ origin views _ _ _ (paged g.T.Ticker c.loop.ticker) (paged g.T.Ticker c.turn.new.ticker) c.in-Err.end marked
-            (c.in-Err.ensures.marks (after_turns i s) delay sheet (c.loop.invariant.at s at) (c.loop.invariant.delay ∙ told)
-            (told_after g.T.Ticker sheet _ _ c.loop.ticker marked.leaves) marked.page_is),
+        (
+          gave.0,
+          gave.1,
+          λ origin delay from told.
+              let marked = gave.2 s origin delay at from told in
+              let sheet = sheet_after delay i s (sheet_begun (page_from (g.T.Ticker.boarded c.args.ticker.now) origin s.past
+              (moment_after delay s.outside.last)) origin gave.0) in
+              until_marked delay i s _ origin gave.0 turned.0 _ _ (paged g.T.Ticker c.args.ticker.now) (paged g.T.Ticker c.loop.ticker)
+              (paged g.T.Ticker c.turn.new.ticker) c.in-Err.end marked
+              (turned.2 (after_turns i s) delay sheet (c.loop.invariant.at s at) (c.loop.invariant.delay ∙ told) marked.leaves.origin marked.page_is
+              marked.left_is),
+        ),
       );
   board = record {
     boarded = c.turn.ensures.board.0 ∙ c.loop.invariant.boarded;
@@ -61,14 +68,21 @@ loop-preserved g c =
           (c.in_default.ensures.turns (after_turns c.loop.counter s) (c.loop.invariant.at s at)) c.turn.ensures.keeps.last;
       waits = λ s at. one_more_noted s c.loop.counter _ _ _ (c.loop.invariant.waits s at) (c.in_default.ensures.waits (after_turns c.loop.counter s)
           (c.loop.invariant.at s at));
-      marks = λ s origin delay views at from told known.
+      marks = λ left h.
           let i = c.loop.counter in
-          let marked = c.loop.invariant.marks s origin delay views at from told known in
-          let sheet = sheet_after delay i s (sheet_begun (page_from (g.T.Ticker.boarded c.args.ticker.now) origin s.past
-          (moment_after delay s.outside.last)) origin views) in
-          let turned = c.in_default.ensures.marks (after_turns i s) delay sheet (c.loop.invariant.at s at) (c.loop.invariant.delay ∙ told)
-          (told_after g.T.Ticker sheet _ _ c.loop.ticker marked.leaves) marked.page_is in
-          one_more_marked delay i s _ origin views _ _ _ (paged g.T.Ticker c.loop.ticker) (paged g.T.Ticker c.turn.new.ticker) marked turned.0 turned.1;
+          let turned = c.in_default.ensures.marks left h in
+          let gave = c.loop.invariant.marks turned.0 turned.1 in (
+            gave.0,
+            gave.1,
+            λ s origin delay at from told.
+                let marked = gave.2 s origin delay at from told in
+                let sheet = sheet_after delay i s (sheet_begun (page_from (g.T.Ticker.boarded c.args.ticker.now) origin s.past
+                (moment_after delay s.outside.last)) origin gave.0) in
+                let more = turned.2 (after_turns i s) delay sheet (c.loop.invariant.at s at) (c.loop.invariant.delay ∙ told) marked.leaves.origin
+                marked.page_is marked.left_is in
+                one_more_marked delay i s _ origin gave.0 turned.0 left _ _ (paged g.T.Ticker c.args.ticker.now) (paged g.T.Ticker c.loop.ticker)
+                (paged g.T.Ticker c.turn.new.ticker) marked more.0 more.1 more.2,
+          );
       boarded = c.turn.ensures.board.0 ∙ c.loop.invariant.boarded;
       delay = c.turn.ensures.board.1 ∙ c.loop.invariant.delay;
       alone = λ none.
@@ -92,14 +106,15 @@ pub returns : goal.returns
 returns g c = record {
   serves = λ s at.
       let all : c.loop.counter ≡ c.args.turns = search arith in
-      let end = c.loop.invariant.at s at in (
+      let end = c.loop.invariant.at s at in
+      let gave = c.loop.invariant.marks (reads_in (g.T.Ticker.views c.loop.ticker)) (are_reads_in (g.T.Ticker.views c.loop.ticker)) in (
         c.loop.counter,
         c.loop.counter,
         (all, end.tells, end.written_is),
         c.loop.invariant.rises s at,
         refl,
         c.loop.invariant.waits s at,
-        λ origin delay views from told known. (c.loop.invariant.marks s origin delay views at from told known).leaves,
+        (gave.0, gave.1, λ origin delay from told. (gave.2 s origin delay at from told).leaves),
       );
   board = record {
     boarded = c.loop.invariant.boarded;
@@ -118,9 +133,15 @@ loop-init g c = record {
   at = λ s at. at_on s _ _ _ _ _ _ _ _ _ _ c.begin-page.ensures.only.pages.readings c.begin-page.ensures.only.pages.last at;
   waits = λ s at. none_noted s _;
   rises = λ s at. tt;
-  marks = λ s origin delay views at from told known. first_marked delay s _ origin views _ _ _ (paged g.T.Ticker c.begin-page.new.ticker) at.tells.last_is
-      (c.begin-page.ensures.page s.past origin delay at.stands from told) (c.begin-page.ensures.marks s.past origin delay at.stands from told)
-      (c.begin-page.ensures.only.origin ∙ from) (c.begin-page.ensures.only.views ∙ known);
+  marks = λ left h.
+      let reads = reads_before left _ _ c.begin-page.ensures.only.views h in (
+        left,
+        reads,
+        λ s origin delay at from told. first_marked delay s _ origin left _ _ (paged g.T.Ticker c.args.ticker.now) (paged g.T.Ticker c.begin-page.new.ticker)
+            at.tells.last_is (c.begin-page.ensures.page s.past origin delay at.stands from told)
+            (c.begin-page.ensures.marks s.past origin delay at.stands from told) (c.begin-page.ensures.only.origin ∙ from) c.begin-page.ensures.only.views
+            reads,
+      );
   boarded = c.begin-page.ensures.only.pages.boarded;
   delay = c.begin-page.ensures.only.pages.delay;
   alone = λ none. (c.begin-page.ensures.alone none, c.begin-page.ensures.only.origin, c.begin-page.ensures.only.views);

@@ -4,7 +4,7 @@ use Rattle.tsp_gateway.specs.{GatewayStands.clock_at, Rooms.ports_in, Rooms.room
 use Rattle.tsp_daemon.specs.{Ends.IsAt, Ends.Lives, Sessions.Session, Sessions.after_turns, Sessions.Rises, Waits.NotesWaits}
 use Rattle.tsp_io.specs.{Boards.Mark, declared.origin.Origin.Origin}
 use Rattle.tsp_query.specs.Outside.{paged}
-use Rattle.tsp_daemon.specs.Pages.{moment_after, page_from}
+use Rattle.tsp_daemon.specs.Pages.{AreReads, moment_after, page_from}
 use Rattle.tsp_daemon.proofs.PageLemmas.{IsMarked}
 use Rattle.tsp_daemon.proofs.serve.serve.Given as goal
 
@@ -20,11 +20,12 @@ invariant-loop g l = record {
   rises : (s : Session) → IsAt s l.fn.gateway l.initial.counters (g.L.Link.arrivals l.fn.link) (g.L.Link.tried l.fn.link) (g.L.Link.calls l.fn.link)
       (g.T.Ticker.readings l.fn.ticker) (g.T.Ticker.last l.fn.ticker) (g.K.Sink.written l.fn.sink) →
       Rises l.counter s;
-  marks : (s : Session) (origin : Option Origin) (delay : ℕ) (views : List Mark) → IsAt s l.fn.gateway l.initial.counters (g.L.Link.arrivals l.fn.link)
+  marks : (left : List Mark) → AreReads left (g.T.Ticker.views l.ticker) → (views : List Mark) × AreReads views (g.T.Ticker.views l.fn.ticker) ×
+      ((s : Session) (origin : Option Origin) (delay : ℕ) → IsAt s l.fn.gateway l.initial.counters (g.L.Link.arrivals l.fn.link)
       (g.L.Link.tried l.fn.link) (g.L.Link.calls l.fn.link) (g.T.Ticker.readings l.fn.ticker) (g.T.Ticker.last l.fn.ticker) (g.K.Sink.written l.fn.sink) →
-      g.T.Ticker.origin_is l.fn.ticker ≡ Some origin → g.T.Ticker.delay_is l.fn.ticker ≡ Some delay → g.T.Ticker.views l.fn.ticker ≡ Some views →
-      IsMarked delay l.counter s (page_from (g.T.Ticker.boarded l.fn.ticker) origin s.past (moment_after delay s.outside.last)) origin views l.page
-      (g.T.Ticker.marks l.fn.ticker) (paged g.T.Ticker l.ticker);
+      g.T.Ticker.origin_is l.fn.ticker ≡ Some origin → g.T.Ticker.delay_is l.fn.ticker ≡ Some delay →
+      IsMarked delay l.counter s (page_from (g.T.Ticker.boarded l.fn.ticker) origin s.past (moment_after delay s.outside.last)) origin views l.page left
+      (paged g.T.Ticker l.fn.ticker) (paged g.T.Ticker l.ticker));
   boarded : g.T.Ticker.boarded l.ticker ≡ g.T.Ticker.boarded l.fn.ticker;
   delay : g.T.Ticker.delay_is l.ticker ≡ g.T.Ticker.delay_is l.fn.ticker;
   alone : g.T.Ticker.boarded l.fn.ticker ≡ false → (l.page ≡ None) × (g.T.Ticker.origin_is l.ticker ≡ g.T.Ticker.origin_is l.fn.ticker) ×

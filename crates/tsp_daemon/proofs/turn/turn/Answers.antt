@@ -4,9 +4,9 @@ use Rattle.tsp_query.proofs.{FaultLemmas.Counts-same, OutsideLemmas.Notes_same}
 use Rattle.tsp_gateway.specs.{GatewayStands.GatewayStands, GatewayStands.GatewayBegun, PortOf.setups_in}
 use Rattle.tsp_rules.specs.{GateRows.answers_all, NodePerforms.PerformsAll, Values.Placed}
 use Rattle.tsp_daemon.specs.{Ends.given_by, Posts.AreKnown, declared.end.ServeEnd.TheVariants.LinkFault}
-use Rattle.tsp_daemon.proofs.PageLemmas.{ends_marks, leaves_same, shown_is}
+use Rattle.tsp_daemon.proofs.PageLemmas.{ends_marks, leaves_same, reads_before, reads_of, shown_is}
+use Rattle.tsp_daemon.proofs.{ReadLemmas.sheet_turned, ServeLemmas.same_page}
 use Rattle.tsp_query.specs.Outside.{paged}
-use Rattle.tsp_daemon.specs.Pages.{IsTold}
 use Rattle.tsp_daemon.specs.Sessions.{past_after}
 use Rattle.tsp_daemon.proofs.SessionLemmas.{waits_is, waits_on, steps_is, turned_is, ends_is, lives_on, acts_known, unheard_is, finish_unlinked}
 use Rattle.tsp_daemon.proofs.TurnLemmas.{le_self, le_is, last_on, last_twice, sends_on, posts_on, memory_unlinked, memory_unwritten, link_unwritten, same_end}
@@ -37,26 +37,33 @@ returns-in-Err g c = record {
   waits = λ s at. turn_noted s _ _ c.in-Err.end (wait_noted s _ c.due.result c.tick-first.result c.wait_until.result _ _ at.stands c.due.ensures.past
       (first_reading s.outside _ _ _ _ _ _ _ at.tells c.tick-first.ensures.takes) c.wait_until.ensures
       (Notes_same _ _ _ _ c.finish.ensures.only.waits c.recv-received.ensures.waits));
-  marks = λ s delay sheet at told known same.
-      let ok : c.recv-received.result ≡ Failed → ⊥ = c.in_default.not-Failed in
-      let w = waits_is s.past.ports s.outside _ _ _ _ _ _ _ _ _ _ _ _ _ _ _ _ _ _ at.tells c.tick-first.ensures.takes c.tick-first.ensures.last
-      c.recv-received.ensures.receives ok c.recv-received.ensures.same.0 c.recv-received.ensures.counted c.tick-tick.ensures.takes c.tick-tick.ensures.last
-      in
-      let row = subst (λ (ps : List Placed). PerformsAll GatewayBegun GatewayStands
-      (answers_all (given_by (setups_in c.args.node.now) c.recv-received.result c.recv-received.new.buf)) c.tick-tick.result c.args.node.now c.step.new.node
-      [] ps) (sym c.acts-acts.ensures) c.step.ensures.row in
-      let steps = steps_is s _ _ c.args.counters.now _ _ _ _ _ _ _ _ _ _ _ _ at.stands at.turns_is at.posts_is w row
-      (c.tracing-before.ensures.past s.past at.stands) c.tracing.ensures.past c.is_shown-shown.ensures in
-      let asked = c.tick-tick.ensures.page.1 ∙ c.tick-first.ensures.page.1 ∙ told in
-      let read : IsTold g.T.Ticker sheet c.tick-tick.new.self = record {
-        origin = c.tick-tick.ensures.page.0 ∙ c.tick-first.ensures.page.0 ∙ known.origin;
-        views = c.tick-tick.ensures.page.4 ∙ c.tick-first.ensures.page.4 ∙ known.views;
-      } in
-      let shown = shown_is s delay sheet _ _ _ _ (g.T.Ticker.marks c.args.ticker.now) _ (paged g.T.Ticker c.show.new.ticker) steps.acts_are w.tick_is
-      c.tick-tick.ensures.last (c.tick-tick.ensures.page.3 ∙ c.tick-first.ensures.page.3)
-      (c.show.ensures.page (past_after s) delay sheet steps.stands asked read same)
-      (c.show.ensures.leaves (past_after s) delay sheet steps.stands asked read same) in
-      ends_marks delay s sheet _ _ _ _ _ _ _ _ _ c.in-Err.end c.in-Err.ensures.err (c.finish.ensures.only.calls ∙ w.tells.calls_are) shown.1;
+  marks = λ left h.
+      let gave = sheet_turned g.T.Ticker c.step.new.node c.acts-acts.result.now c.tick-tick.result c.args.page.now _ c.tick-tick.new.self c.show.new.ticker
+      c.show.ensures.turns c.show.ensures.alone left h in (
+        gave.0,
+        reads_before gave.0 _ _ (c.tick-tick.ensures.page.4 ∙ c.tick-first.ensures.page.4) gave.1,
+        λ s delay sheet at told from same v.
+            let ok : c.recv-received.result ≡ Failed → ⊥ = c.in_default.not-Failed in
+            let w = waits_is s.past.ports s.outside _ _ _ _ _ _ _ _ _ _ _ _ _ _ _ _ _ _ at.tells c.tick-first.ensures.takes c.tick-first.ensures.last
+            c.recv-received.ensures.receives ok c.recv-received.ensures.same.0 c.recv-received.ensures.counted c.tick-tick.ensures.takes
+            c.tick-tick.ensures.last
+            in
+            let row = subst (λ (ps : List Placed). PerformsAll GatewayBegun GatewayStands
+            (answers_all (given_by (setups_in c.args.node.now) c.recv-received.result c.recv-received.new.buf)) c.tick-tick.result c.args.node.now
+            c.step.new.node
+            [] ps) (sym c.acts-acts.ensures) c.step.ensures.row in
+            let steps = steps_is s _ _ c.args.counters.now _ _ _ _ _ _ _ _ _ _ _ _ at.stands at.turns_is at.posts_is w row
+            (c.tracing-before.ensures.past s.past at.stands) c.tracing.ensures.past c.is_shown-shown.ensures in
+            let asked = c.tick-tick.ensures.page.1 ∙ c.tick-first.ensures.page.1 ∙ told in
+            let ticked = paged g.T.Ticker c.tick-tick.new.self in
+            let first = paged g.T.Ticker c.tick-first.new.self in
+            let page = same_page first ticked c.tick-tick.ensures.page ∙ same_page (paged g.T.Ticker c.args.ticker.now) first c.tick-first.ensures.page in
+            let shown = shown_is s delay sheet left _ _ _ _ (paged g.T.Ticker c.args.ticker.now) ticked (paged g.T.Ticker c.show.new.ticker) steps.acts_are
+            w.tick_is c.tick-tick.ensures.last page (gave.2 (past_after s) delay sheet steps.stands asked
+            (c.tick-tick.ensures.page.0 ∙ c.tick-first.ensures.page.0 ∙ from) same v) in
+            ends_marks delay s sheet _ (paged g.T.Ticker c.args.ticker.now) _ _ _ _ _ _ _ c.in-Err.end c.in-Err.ensures.err
+            (c.finish.ensures.only.calls ∙ w.tells.calls_are) shown.2,
+      );
   board = (
     c.show.ensures.only.boarded ∙ c.tick-tick.ensures.page.2 ∙ c.tick-first.ensures.page.2,
     c.show.ensures.only.delay ∙ c.tick-tick.ensures.page.1 ∙ c.tick-first.ensures.page.1,
@@ -64,8 +71,8 @@ returns-in-Err g c = record {
   alone = λ none.
       let shown = c.show.ensures.alone none in (
         tt,
-        shown.1 ∙ c.tick-tick.ensures.page.0 ∙ c.tick-first.ensures.page.0,
-        shown.2 ∙ c.tick-tick.ensures.page.4 ∙ c.tick-first.ensures.page.4,
+        ap g.T.Ticker.origin_is shown.1 ∙ c.tick-tick.ensures.page.0 ∙ c.tick-first.ensures.page.0,
+        ap g.T.Ticker.views shown.1 ∙ c.tick-tick.ensures.page.4 ∙ c.tick-first.ensures.page.4,
       );
   keeps = record {
     binds = c.finish.ensures.only.binds ∙ c.recv-received.ensures.same.1;
@@ -107,26 +114,32 @@ returns g c = record {
   waits = λ s at. wait_noted s _ c.due.result c.tick-first.result c.wait_until.result _ _ at.stands c.due.ensures.past
       (first_reading s.outside _ _ _ _ _ _ _ at.tells c.tick-first.ensures.takes) c.wait_until.ensures
       (Notes_same _ _ _ _ c.finish.ensures.only.waits c.recv-received.ensures.waits);
-  marks = λ s delay sheet at told known same.
-      let ok : c.recv-received.result ≡ Failed → ⊥ = c.in_default.not-Failed in
-      let w = waits_is s.past.ports s.outside _ _ _ _ _ _ _ _ _ _ _ _ _ _ _ _ _ _ at.tells c.tick-first.ensures.takes c.tick-first.ensures.last
-      c.recv-received.ensures.receives ok c.recv-received.ensures.same.0 c.recv-received.ensures.counted c.tick-tick.ensures.takes c.tick-tick.ensures.last
-      in
-      let row = subst (λ (ps : List Placed). PerformsAll GatewayBegun GatewayStands
-      (answers_all (given_by (setups_in c.args.node.now) c.recv-received.result c.recv-received.new.buf)) c.tick-tick.result c.args.node.now c.step.new.node
-      [] ps) (sym c.acts-acts.ensures) c.step.ensures.row in
-      let steps = steps_is s _ _ c.args.counters.now _ _ _ _ _ _ _ _ _ _ _ _ at.stands at.turns_is at.posts_is w row
-      (c.tracing-before.ensures.past s.past at.stands) c.tracing.ensures.past c.is_shown-shown.ensures in
-      let asked = c.tick-tick.ensures.page.1 ∙ c.tick-first.ensures.page.1 ∙ told in
-      let read : IsTold g.T.Ticker sheet c.tick-tick.new.self = record {
-        origin = c.tick-tick.ensures.page.0 ∙ c.tick-first.ensures.page.0 ∙ known.origin;
-        views = c.tick-tick.ensures.page.4 ∙ c.tick-first.ensures.page.4 ∙ known.views;
-      } in
-      let shown = shown_is s delay sheet _ _ _ _ (g.T.Ticker.marks c.args.ticker.now) _ (paged g.T.Ticker c.show.new.ticker) steps.acts_are w.tick_is
-      c.tick-tick.ensures.last (c.tick-tick.ensures.page.3 ∙ c.tick-first.ensures.page.3)
-      (c.show.ensures.page (past_after s) delay sheet steps.stands asked read same)
-      (c.show.ensures.leaves (past_after s) delay sheet steps.stands asked read same) in
-      shown;
+  marks = λ left h.
+      let gave = sheet_turned g.T.Ticker c.step.new.node c.acts-acts.result.now c.tick-tick.result c.args.page.now _ c.tick-tick.new.self c.show.new.ticker
+      c.show.ensures.turns c.show.ensures.alone left h in (
+        gave.0,
+        reads_before gave.0 _ _ (c.tick-tick.ensures.page.4 ∙ c.tick-first.ensures.page.4) gave.1,
+        λ s delay sheet at told from same v.
+            let ok : c.recv-received.result ≡ Failed → ⊥ = c.in_default.not-Failed in
+            let w = waits_is s.past.ports s.outside _ _ _ _ _ _ _ _ _ _ _ _ _ _ _ _ _ _ at.tells c.tick-first.ensures.takes c.tick-first.ensures.last
+            c.recv-received.ensures.receives ok c.recv-received.ensures.same.0 c.recv-received.ensures.counted c.tick-tick.ensures.takes
+            c.tick-tick.ensures.last
+            in
+            let row = subst (λ (ps : List Placed). PerformsAll GatewayBegun GatewayStands
+            (answers_all (given_by (setups_in c.args.node.now) c.recv-received.result c.recv-received.new.buf)) c.tick-tick.result c.args.node.now
+            c.step.new.node
+            [] ps) (sym c.acts-acts.ensures) c.step.ensures.row in
+            let steps = steps_is s _ _ c.args.counters.now _ _ _ _ _ _ _ _ _ _ _ _ at.stands at.turns_is at.posts_is w row
+            (c.tracing-before.ensures.past s.past at.stands) c.tracing.ensures.past c.is_shown-shown.ensures in
+            let asked = c.tick-tick.ensures.page.1 ∙ c.tick-first.ensures.page.1 ∙ told in
+            let ticked = paged g.T.Ticker c.tick-tick.new.self in
+            let first = paged g.T.Ticker c.tick-first.new.self in
+            let page = same_page first ticked c.tick-tick.ensures.page ∙ same_page (paged g.T.Ticker c.args.ticker.now) first c.tick-first.ensures.page in
+            let shown = shown_is s delay sheet left _ _ _ _ (paged g.T.Ticker c.args.ticker.now) ticked (paged g.T.Ticker c.show.new.ticker) steps.acts_are
+            w.tick_is c.tick-tick.ensures.last page (gave.2 (past_after s) delay sheet steps.stands asked
+            (c.tick-tick.ensures.page.0 ∙ c.tick-first.ensures.page.0 ∙ from) same v) in
+            shown,
+      );
   board = (
     c.show.ensures.only.boarded ∙ c.tick-tick.ensures.page.2 ∙ c.tick-first.ensures.page.2,
     c.show.ensures.only.delay ∙ c.tick-tick.ensures.page.1 ∙ c.tick-first.ensures.page.1,
@@ -134,8 +147,8 @@ returns g c = record {
   alone = λ none.
       let shown = c.show.ensures.alone none in (
         shown.0,
-        shown.1 ∙ c.tick-tick.ensures.page.0 ∙ c.tick-first.ensures.page.0,
-        shown.2 ∙ c.tick-tick.ensures.page.4 ∙ c.tick-first.ensures.page.4,
+        ap g.T.Ticker.origin_is shown.1 ∙ c.tick-tick.ensures.page.0 ∙ c.tick-first.ensures.page.0,
+        ap g.T.Ticker.views shown.1 ∙ c.tick-tick.ensures.page.4 ∙ c.tick-first.ensures.page.4,
       );
   keeps = record {
     binds = c.finish.ensures.only.binds ∙ c.recv-received.ensures.same.1;
@@ -158,7 +171,15 @@ pub returns-then-is_err : goal.returns-then-is_err
 returns-then-is_err g c = record {
   turns = λ s at. inl (at.tells, at.written_is);
   waits = λ s at. inl refl;
-  marks = λ s delay sheet at told known same. inl (at.tells.calls_are, leaves_same sheet _ (paged g.T.Ticker c.args.ticker.now) refl known.origin known.views);
+  marks = λ left h. (
+    left,
+    h,
+    λ s delay sheet at told from same v. inl (
+      at.tells.calls_are,
+      leaves_same sheet (paged g.T.Ticker c.args.ticker.now) (paged g.T.Ticker c.args.ticker.now)
+          refl from refl (reads_of left sheet.views _ v h),
+    ),
+  );
   board = (refl, refl);
   alone = λ none. (tt, refl, refl);
   keeps = record { binds = refl; walled = refl; last = le_self _ };
@@ -182,8 +203,13 @@ returns-in-Failed g c = record {
       );
   waits = λ s at. wait_noted s _ c.due.result c.tick-first.result c.wait_until.result _ _ at.stands c.due.ensures.past
       (first_reading s.outside _ _ _ _ _ _ _ at.tells c.tick-first.ensures.takes) c.wait_until.ensures c.recv-received.ensures.waits;
-  marks = λ s delay sheet at told known same. leaves_same sheet _ (paged g.T.Ticker c.tick-first.new.self) c.tick-first.ensures.page.3
-      (c.tick-first.ensures.page.0 ∙ known.origin) (c.tick-first.ensures.page.4 ∙ known.views);
+  marks = λ left h.
+      let reads = reads_before left _ _ c.tick-first.ensures.page.4 h in (
+        left,
+        reads,
+        λ s delay sheet at told from same v. leaves_same sheet (paged g.T.Ticker c.args.ticker.now) (paged g.T.Ticker c.tick-first.new.self)
+            c.tick-first.ensures.page.3 (c.tick-first.ensures.page.0 ∙ from) c.tick-first.ensures.page.4 (reads_of left sheet.views _ v reads),
+      );
   board = (c.tick-first.ensures.page.2, c.tick-first.ensures.page.1);
   alone = λ none. (tt, c.tick-first.ensures.page.0, c.tick-first.ensures.page.4);
   keeps = record {
