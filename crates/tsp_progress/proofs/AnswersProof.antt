@@ -138,7 +138,7 @@ module _ {clocks : Clocks} {header : HeaderValue} {setting : Setting} (set : Set
   master-awake Starting e = absurd (true≢false (sym e))
   master-awake _ e = refl
 
-  candidate-awake : (r : Role) → is_candidate_role r ≡ true → is_starting_role r ≡ false
+  pub candidate-awake : (r : Role) → is_candidate_role r ≡ true → is_starting_role r ≡ false
   candidate-awake Starting e = absurd (true≢false (sym e))
   candidate-awake _ e = refl
 

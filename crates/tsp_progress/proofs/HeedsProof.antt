@@ -1,5 +1,6 @@
 -- What a port does at once with a message of a peer, by the table.
-use Rattle.std.proofs.Common.{sym, ap, subst, true≢false, ◌∙◌, ◌≡◌, ℕ, ◌==◌, ◌&&◌, Bool, true, false, if◌then◌else◌, List, [], ◌∷◌, eq-eqb, refl}
+use Rattle.std.proofs.Common.{sym, ap, subst, true≢false, ◌∙◌, ◌≡◌, ℕ, ◌==◌, ◌&&◌, Bool, true, false, if◌then◌else◌, List, [], ◌∷◌, eq-eqb, not, refl}
+use Rattle.std.proofs.lemmas.Bool.{not-true}
 use Rattle.tsp_rules.specs.Values.{Act, Took, Post, Become, Back, Backer, Quit, Acked, Join, Search, Good, Message, PeerId, Peer, Role}
 use Rattle.tsp_rules.specs.Values.{Starting, Loose, Follow, Candidate, Master, Kind, Accept, Ack, AdjTime, Date, DateAck, DateReq, Election, LoopKind}
 use Rattle.tsp_rules.specs.Values.{MasterAck, MasterReq, MasterUp, Msite, MsiteReq, QuitKind, Refuse, ResolveKind, SetDate, SetDateReq, SetTime, SlaveUp, Test}
@@ -225,6 +226,22 @@ module _ (node : NodePast) (lines : List Line) (table : KeepsTable node lines) w
   unfolding says-kind candidate_takes_kind posts
   refuses l older p m h kind in_role so = next node lines table l older p m h Election Candidate kind (candidate-is (role_before node l older) in_role) refl
       (unsteered _ Election refl) (posts_bare Refuse m.number (port_before node l older) p ∷ []) refl
+
+  pub idle_refuses : Heeds Election is_idle (λ p m x past. not (may_back_at p x past)) (λ p m x past. posts_bare Refuse m.number past p ∷ []) node lines
+  unfolding says-kind slave_takes_kind election_of either_by posts
+  idle_refuses l older p m h kind in_role so = by_role (role_before node l older) refl in_role where
+    holds : may_back_at p l.did.tick (port_before node l older) ≡ false
+    holds = not-true (may_back_at p l.did.tick (port_before node l older)) so
+
+    by_role : (r : Role) → role_before node l older ≡ r → is_idle r ≡ true → DoesNext (posts_bare Refuse m.number (port_before node l older) p ∷ []) l older
+        lines
+    by_role Loose is e = next node lines table l older p m h Election Loose kind is refl (unsteered _ Election refl)
+        (posts_bare Refuse m.number (port_before node l older) p ∷ []) (rw holds refl)
+    by_role (Follow q) is e = next node lines table l older p m h Election (Follow q) kind is refl (unsteered _ Election refl)
+        (posts_bare Refuse m.number (port_before node l older) p ∷ []) (rw holds refl)
+    by_role Starting is e = absurd (true≢false (sym e))
+    by_role Candidate is e = absurd (true≢false (sym e))
+    by_role Master is e = absurd (true≢false (sym e))
 
   not-quit : (b : Bool) → (if b then false else true) ≡ true → b ≡ false
   not-quit true e = absurd (true≢false (sym e))

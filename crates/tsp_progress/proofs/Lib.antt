@@ -1,3 +1,4 @@
+pub mod AckedProof
 pub mod AloneLeadsProof
 pub mod AloneProof
 pub mod AnswersProof
@@ -30,6 +31,7 @@ pub mod ProgressProof
 pub mod RoundsProof
 pub mod RunWakes
 pub mod SearchKept
+pub mod SendKept
 pub mod SendsEndProof
 pub mod SentAwayProof
 pub mod StandsProof

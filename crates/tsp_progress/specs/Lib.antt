@@ -1,3 +1,4 @@
+pub mod AckedInTime
 pub mod AlarmsFit
 pub mod AloneLeads
 pub mod AloneStands

@@ -158,6 +158,18 @@ pub fn clocked_runs_give_up()
     ensures { ClockedRunsGiveUpLate }
 {}
 
+ghost use Rattle.tsp_progress.specs.AckedInTime.{ClockedRunsAcknowledge, RunsAcknowledge};
+/// Where datagrams are delivered in time, and twice that time is less than `TRIES` times `RETRY`, 3
+/// s, a numbered send is acknowledged in time if its addressee acts on it, and is never given up.
+pub fn runs_acknowledge()
+    ensures { RunsAcknowledge }
+{}
+
+/// So it is in a run by any clocks.
+pub fn clocked_runs_acknowledge()
+    ensures { ClockedRunsAcknowledge }
+{}
+
 ghost use Rattle.tsp_progress.specs.InTime.{AllInTime, EndsInTime};
 ghost use Rattle.tsp_progress.specs.AlarmsFit.{Manner};
 ghost use Rattle.tsp_progress.specs.Wakes.{AllWake, Woken};
