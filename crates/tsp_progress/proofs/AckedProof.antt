@@ -1,11 +1,11 @@
 -- A numbered send whose addressee acts on it is acknowledged in time, and isn't given up.
-use Rattle.std.proofs.Common.{sym, ap, subst, arith, true≢false, inl, inr, ◌∙◌, ◌≡◌, ◌<◌, ◌≤◌, ◌⊎◌, ◌==◌, ◌&&◌, not, ℕ, ◌+◌, ◌*◌, Bool, true, false, if◌then◌else◌, List, []}
+use Rattle.std.proofs.Common.{sym, ap, subst, arith, true≢false, inl, inr, ◌∙◌, ◌≡◌, ◌<◌, ◌≤◌, ◌⊎◌, ◌==◌, ◌&&◌, ◌||◌, not, ℕ, ◌+◌, ◌*◌, Bool, true, false, if◌then◌else◌, List, []}
 use Rattle.std.proofs.Common.{◌∷◌, eq-eqb, refl}
 use Rattle.std.proofs.lemmas.Bool.{and_parts}
 use Rattle.tsp_rules.specs.Values.{Act, Become, Backer, Acked, Back, Post, Accept, Ack, AdjTime, Election, QuitKind, Refuse, SetTime, Message, Kind}
-use Rattle.tsp_rules.specs.Values.{PeerId, Peer, Role, Loose, Starting, RETRY, TRIES}
+use Rattle.tsp_rules.specs.Values.{PeerId, Peer, Role, Loose, Follow, Starting, RETRY, TRIES}
 use Rattle.tsp_rules.specs.{CommonRows.is_idle, Guards.is_starting_role, Guards.may_back_at, SendRows.answers_election, SendRows.answers_other}
-use Rattle.tsp_rules.specs.SlaveRows.{takes_amount, takes_value}
+use Rattle.tsp_rules.specs.SlaveRows.{is_repeated, takes_amount, takes_value}
 use Rattle.tsp_rules.specs.{SendRows.ends_by_ack, SendRows.has_election, SendRows.has_other}
 use Rattle.tsp_base.specs.Words.{Acts, Elsewhere, HeaderValue, Here, Line, MessageValue, Past, Seen, Within, bare, is_numbered, joined, line_of, of, open_to, peer_of, plain}
 use Rattle.tsp_base.specs.Words.{placed, role, tick_of, time_in, view}
@@ -15,13 +15,14 @@ use Rattle.tsp_promises.proofs.{Clocks.tick-mono, EverywhereLemmas.Everywhere-at
 use Rattle.tsp_run.specs.{Clocked.Clocks, Clocked.SetByClocks, Clocked.clocks_of, Clocked.run_by}
 use Rattle.tsp_run.proofs.{OwnClocks.possible_own, OwnClocks.runs_by_own_clocks, OwnClocks.set_own, RunFits.clocked_runs_fit}
 use Rattle.tsp_progress.specs.AckedInTime.{Acknowledged, AckedAs, AckedInTime, Begins, ClockedRunsAcknowledge, EndedBefore, IsPrompt, NeverGivenUp}
-use Rattle.tsp_progress.specs.AckedInTime.{RunsAcknowledge, refuses_vote}
+use Rattle.tsp_progress.specs.AckedInTime.{RunsAcknowledge, may_obey, refuses_vote}
 use Rattle.tsp_progress.specs.AnswersInTime.{AnswerTaken, Asks, Meanwhile}
 use Rattle.tsp_progress.specs.{ByTable.ByTable, ByTable.node_in, Delivered.Arrives, Delivered.Delivered, GivenUp.GaveFits, GivenUp.GivesUpLate, GivenUp.Owes}
 use Rattle.tsp_progress.specs.{ObeyedInTime.Obedient, SentAway.past_there}
-use Rattle.tsp_progress.specs.Heeds.{DoesNext, Hears, arms_for_delay, is_candidate_role, is_up_role, posts_bare, role_before}
+use Rattle.tsp_progress.specs.Heeds.{DoesNext, Hears, arms_for_delay, is_candidate_role, is_up_role, moved_by, posts_bare, role_before, set_to}
 use Rattle.tsp_progress.proofs.AnswersProof.{answer_heard, answered, answers_in_time, arrival, candidate-awake, first_of, hears, up-awake}
-use Rattle.tsp_progress.proofs.{FoundProof.view-tick, GiveUpProof.clocked_runs_give_up, HeedsProof.all_heed, HeedsProof.idle_refuses, ObeyedProof.obeyed_in_time}
+use Rattle.tsp_progress.proofs.{FoundProof.view-tick, GiveUpProof.clocked_runs_give_up, HeedsProof.adjtime_again, HeedsProof.all_heed}
+use Rattle.tsp_progress.proofs.HeedsProof.{idle_refuses, settime_again}
 use Rattle.tsp_progress.proofs.SearchKept.{rising_within, view_within}
 use Rattle.tsp_progress.proofs.SendKept.{Still, kept, never, sending}
 use Rattle.tsp_progress.proofs.{StandsProof.Rising, StandsProof.rising, TableProof.clocked_runs_by_table}
@@ -161,15 +162,59 @@ module _ {clocks : Clocks} {header : HeaderValue} {setting : Setting} (set : Set
   quits l older p m asks kind sends up = by-ack l older p m asks (rw kind refl) (rw kind refl) sends
       ((answers_in_time set world table long t stays s delivered).quit l older p m asks kind up)
 
-  adjtimes : AckedAs AdjTime is_up_role (λ l older p m. Obedient header setting long l older world p (takes_amount m.number (time_in m.body))) Ack
-      (λ p x past. Acked p ∷ []) header setting long t stays s world
-  adjtimes l older p m asks kind sends obeys = by-ack l older p m asks (rw kind refl) (rw kind refl) sends
-      ((obeyed_in_time set world table long t stays s delivered).adjtime l older p m asks kind obeys).answer
+  third_of : (a b c : Act) → Among c (a ∷ b ∷ c ∷ [])
+  third_of a b c = record { front = a ∷ b ∷ []; back = []; is = refl }
 
-  settimes : AckedAs SetTime is_up_role (λ l older p m. Obedient header setting long l older world p (takes_value m.number (time_in m.body))) Ack
-      (λ p x past. Acked p ∷ []) header setting long t stays s world
-  settimes l older p m asks kind sends obeys = by-ack l older p m asks (rw kind refl) (rw kind refl) sends
-      ((obeyed_in_time set world table long t stays s delivered).settime l older p m asks kind obeys).answer
+  -- a correction that is taken, or was taken last, is acknowledged
+  obeyed : (l : Line) (older : List Line) (p : PeerId) (m : MessageValue) (asks : Asks setting long t stays s l older world p (Message m))
+      (a : Arrives setting long l older world p (Message m)) (takes again : Bool) → (takes || again) ≡ true → (moved : Act) →
+      (takes ≡ true → DoesNext (moved ∷ arms_for_delay a.line.did.tick (past_there header p.0 a.line a.before) ∷
+      posts_bare Ack m.number (past_there header p.0 a.line a.before) (peer_of (node_of l)) ∷ []) a.line (of p.0 a.before) (of p.0 world)) →
+      ((not takes && again) ≡ true → DoesNext (posts_bare Ack m.number (past_there header p.0 a.line a.before) (peer_of (node_of l)) ∷ []) a.line (of p.0 a.before)
+      (of p.0 world)) →
+      AnswerTaken long l older world p (Message (bare Ack m.number (node_in header p.0).name))
+  obeyed l older p m asks a true again e moved first repeat =
+      let past = past_there header p.0 a.line a.before in
+      let arm = arms_for_delay a.line.did.tick past in
+      let ack = posts_bare Ack m.number past (peer_of (node_of l)) in
+      answered set world table long t stays s delivered l older p (Message m) asks a (moved ∷ arm ∷ ack ∷ [])
+      (Message (bare Ack m.number (node_in header p.0).name)) (third_of moved arm ack) (first refl)
+  obeyed l older p m asks a false again e moved first repeat =
+      let ack = posts_bare Ack m.number (past_there header p.0 a.line a.before) (peer_of (node_of l)) in
+      answered set world table long t stays s delivered l older p (Message m) asks a (ack ∷ []) (Message (bare Ack m.number (node_in header p.0).name))
+      (first_of set world table long t stays s delivered ack []) (repeat e)
+
+  -- p's port hears the correction
+  follower-hears : (l : Line) (older : List Line) (p : PeerId) (m : MessageValue) (asks : Asks setting long t stays s l older world p (Message m))
+      (a : Arrives setting long l older world p (Message m)) → role_before (node_in header p.0) a.line (of p.0 a.before) ≡ Follow (peer_of (node_of l)) →
+      Hears (node_in header p.0) (of p.0 world) a.line (of p.0 a.before) (peer_of (node_of l)) m
+  follower-hears l older p m asks a follows = hears set world table long t stays s delivered l older p m asks a (ap is_starting_role follows)
+
+  adjtimes : AckedAs AdjTime is_up_role (λ l older p m. Obedient header setting long l older world p (may_obey l m (takes_amount m.number (time_in m.body))))
+      Ack (λ p x past. Acked p ∷ []) header setting long t stays s world
+  adjtimes l older p m asks kind sends obeys =
+      let a = arrival set world table long t stays s delivered l older p (Message m) asks in
+      let o = obeys a.line a.before a.place a.later a.node a.net a.soon in
+      let past = past_there header p.0 a.line a.before in
+      let x = a.line.did.tick in
+      let h = follower-hears l older p m asks a o.0 in
+      by-ack l older p m asks (rw kind refl) (rw kind refl) sends (obeyed l older p m asks a (takes_amount m.number (time_in m.body) x past)
+      (is_repeated (peer_of (node_of l)) m.number x past) o.1.1 (moved_by (time_in m.body) x past)
+      (λ takes. (all_heed header world table p.0).obeys.adjtime a.line (of p.0 a.before) (peer_of (node_of l)) m h kind o.0 o.1.0 takes)
+      (λ again. adjtime_again (node_in header p.0) (of p.0 world) (table p.0) a.line (of p.0 a.before) (peer_of (node_of l)) m h kind o.0 o.1.0 again))
+
+  settimes : AckedAs SetTime is_up_role (λ l older p m. Obedient header setting long l older world p (may_obey l m (takes_value m.number (time_in m.body))))
+      Ack (λ p x past. Acked p ∷ []) header setting long t stays s world
+  settimes l older p m asks kind sends obeys =
+      let a = arrival set world table long t stays s delivered l older p (Message m) asks in
+      let o = obeys a.line a.before a.place a.later a.node a.net a.soon in
+      let past = past_there header p.0 a.line a.before in
+      let x = a.line.did.tick in
+      let h = follower-hears l older p m asks a o.0 in
+      by-ack l older p m asks (rw kind refl) (rw kind refl) sends (obeyed l older p m asks a (takes_value m.number (time_in m.body) x past)
+      (is_repeated (peer_of (node_of l)) m.number x past) o.1.1 (set_to (time_in m.body) x past)
+      (λ takes. (all_heed header world table p.0).obeys.settime a.line (of p.0 a.before) (peer_of (node_of l)) m h kind o.0 o.1.0 takes)
+      (λ again. settime_again (node_in header p.0) (of p.0 world) (table p.0) a.line (of p.0 a.before) (peer_of (node_of l)) m h kind o.0 o.1.0 again))
 
   -- a candidate hears of the vote
   candidate-hears : (l : Line) (older : List Line) (p : PeerId) (m : MessageValue) (asks : Asks setting long t stays s l older world p (Message m)) →
@@ -186,9 +231,6 @@ module _ {clocks : Clocks} {header : HeaderValue} {setting : Setting} (set : Set
             (candidate-awake set world table long t stays s delivered
             (role_before (node_in header (node_of l)) taken.line (of (node_of l) taken.before)) stands),
       )
-
-  third_of : (a b c : Act) → Among c (a ∷ b ∷ c ∷ [])
-  third_of a b c = record { front = a ∷ b ∷ []; back = []; is = refl }
 
   idle-awake : (r : Role) → is_idle r ≡ true → is_starting_role r ≡ false
   idle-awake Starting e = absurd (true≢false (sym e))

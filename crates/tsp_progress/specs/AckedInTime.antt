@@ -1,8 +1,9 @@
 -- A numbered send whose addressee acts on it is acknowledged in time, and isn't given up.
-use Rattle.std.specs.Prelude.{◌≡◌, ◌≢◌, ◌<◌, ◌⊎◌, ℕ, ◌+◌, ◌*◌, ◌/◌, ◌==◌, ◌&&◌, not, Bool, true, false, if◌then◌else◌, List, [], ◌∷◌}
+use Rattle.std.specs.Prelude.{◌≡◌, ◌≢◌, ◌<◌, ◌⊎◌, ℕ, ◌+◌, ◌*◌, ◌/◌, ◌==◌, ◌&&◌, ◌||◌, not, Bool, true, false, if◌then◌else◌, List, [], ◌∷◌}
 use Rattle.tsp_rules.specs.Values.{Act, Boot, Post, Become, Backer, Acked, Gave, Accept, Ack, AdjTime, Election, QuitKind, Refuse, SetTime, Message, Kind}
 use Rattle.tsp_rules.specs.Values.{PeerId, Peer, Role, Loose, Event, RETRY, TRIES}
-use Rattle.tsp_rules.specs.{CommonRows.is_idle, Guards.may_back_at, SlaveRows.takes_amount, SlaveRows.takes_value}
+use Rattle.tsp_rules.specs.{CommonRows.is_idle, Guards.may_back_at, SlaveRows.is_repeated, SlaveRows.takes_amount}
+use Rattle.tsp_rules.specs.SlaveRows.{takes_value}
 use Rattle.tsp_base.specs.Words.{Acts, Deed, Did, HeaderValue, Here, Line, MessageValue, Past, Seen, Within, acting, bare, is_numbered, of, open_to, peer_of}
 use Rattle.tsp_base.specs.Words.{role, time_in, view}
 use Rattle.tsp_promises.specs.{Fits.node_of, Setting.Setting}
@@ -57,6 +58,10 @@ AckedAs kind in_role meanwhile answer acts header setting long t stays s world =
     Asks setting long t stays s l older world p (Message m) → m.kind ≡ kind → Begins in_role l older → meanwhile l older p m →
     Acknowledged header long l older world p (bare answer m.number (node_in header p.0).name) (acts p)
 
+-- whether a port may take the correction m of the node of l, or took it last; then it acknowledges it again
+abbrev pub may_obey : Line → MessageValue → (ℕ → Past → Bool) → ℕ → Past → Bool
+may_obey l m takes x past = takes x past || is_repeated (peer_of (node_of l)) m.number x past
+
 -- whether a port refuses the vote to p: it is a candidate, or its hold doesn't let it back p
 abbrev pub refuses_vote : PeerId → ℕ → Past → Bool
 refuses_vote p x past = if is_candidate_role (role past.seen) then true else (is_idle (role past.seen) && not (may_back_at p x past))
@@ -65,11 +70,11 @@ pub record AckedInTime (header : HeaderValue) (setting : Setting) (long t : ℕ)
   -- a QUIT, to a port that isn't Starting meanwhile
   pub quits : AckedAs QuitKind is_up_role (λ l older p m. Meanwhile header setting long l older world p (λ x past. is_up_role (role past.seen))) Ack
       (λ p x past. Acked p ∷ []) header setting long t stays s world
-  -- a correction, to a follower that may take it meanwhile
-  pub adjtimes : AckedAs AdjTime is_up_role (λ l older p m. Obedient header setting long l older world p (takes_amount m.number (time_in m.body))) Ack
-      (λ p x past. Acked p ∷ []) header setting long t stays s world
-  pub settimes : AckedAs SetTime is_up_role (λ l older p m. Obedient header setting long l older world p (takes_value m.number (time_in m.body))) Ack
-      (λ p x past. Acked p ∷ []) header setting long t stays s world
+  -- a correction, to a follower that steers its clock, and meanwhile may take this correction or took it last
+  pub adjtimes : AckedAs AdjTime is_up_role (λ l older p m. Obedient header setting long l older world p (may_obey l m (takes_amount m.number (time_in m.body))))
+      Ack (λ p x past. Acked p ∷ []) header setting long t stays s world
+  pub settimes : AckedAs SetTime is_up_role (λ l older p m. Obedient header setting long l older world p (may_obey l m (takes_value m.number (time_in m.body))))
+      Ack (λ p x past. Acked p ∷ []) header setting long t stays s world
   -- a candidate's ELECTION, to a port that is Loose or follows, and whose hold lets it back the candidate: that port votes for it
   pub votes : AckedAs Election is_candidate_role (λ l older p m. Meanwhile header setting long l older world p (λ x past. is_idle (role past.seen) &&
       may_back_at (peer_of (node_of l)) x past)) Accept (λ p x past. Acked p ∷ Backer p ∷ []) header setting long t stays s world
