@@ -19,6 +19,7 @@ pub mod HumbleRun
 pub mod InTimeProof
 pub mod LeftChecks
 pub mod LoneProof
+pub mod MeanwhileChecks
 pub mod MeasuresProof
 pub mod NeverLateProof
 pub mod NodeKeeps

@@ -1,4 +1,5 @@
 pub mod AckedInTime
+pub mod AckedUse
 pub mod AlarmsFit
 pub mod AloneLeads
 pub mod AloneStands

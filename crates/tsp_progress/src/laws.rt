@@ -170,6 +170,13 @@ pub fn clocked_runs_acknowledge()
     ensures { ClockedRunsAcknowledge }
 {}
 
+ghost use Rattle.tsp_progress.specs.AckedUse.{AckedUse};
+/// A run in which a correction is acknowledged in time, and runs in which one is given up: datagrams
+/// take 1.6 s, or the answer is lost, or the addressee may not take it.
+pub fn acked_use()
+    ensures { AckedUse }
+{}
+
 ghost use Rattle.tsp_progress.specs.InTime.{AllInTime, EndsInTime};
 ghost use Rattle.tsp_progress.specs.AlarmsFit.{Manner};
 ghost use Rattle.tsp_progress.specs.Wakes.{AllWake, Woken};
