@@ -29,8 +29,10 @@ pub mod PaceProof
 pub mod PortSetups
 pub mod PortWakes
 pub mod ProgressProof
+pub mod RoundKept
 pub mod RoundsProof
 pub mod RunWakes
+pub mod SampledProof
 pub mod SearchKept
 pub mod SendKept
 pub mod SendsEndProof

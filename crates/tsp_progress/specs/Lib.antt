@@ -26,6 +26,7 @@ pub mod OneUse
 pub mod Progress
 pub mod RoundsRecur
 pub mod RunsWake
+pub mod SampledInTime
 pub mod SendsEnd
 pub mod SentAway
 pub mod SentAwayUse

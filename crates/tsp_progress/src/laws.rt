@@ -177,6 +177,18 @@ pub fn acked_use()
     ensures { AckedUse }
 {}
 
+ghost use Rattle.tsp_progress.specs.SampledInTime.{ClockedRunsSample, RunsSample};
+/// Where datagrams are delivered in time, and twice that time is less than `CLOSE`, 8 s, each peer
+/// that is measured has a sample when its round closes, if its clock is in its range.
+pub fn runs_sample()
+    ensures { RunsSample }
+{}
+
+/// So it is in a run by any clocks.
+pub fn clocked_runs_sample()
+    ensures { ClockedRunsSample }
+{}
+
 ghost use Rattle.tsp_progress.specs.InTime.{AllInTime, EndsInTime};
 ghost use Rattle.tsp_progress.specs.AlarmsFit.{Manner};
 ghost use Rattle.tsp_progress.specs.Wakes.{AllWake, Woken};
