@@ -94,11 +94,12 @@ module _ {clocks : Clocks} {header : HeaderValue} {setting : Setting} (set : Set
           soon = omega (arith, soon, late);
         }
 
-    -- what the asker takes in answer is heard, if it isn't Starting then
-    pub answer_heard : (m : MessageValue) (back : AnswerTaken long l older world p (Message m)) →
+    -- the asker hears who answers, another peer, if it isn't Starting then
+    pub answer_peer : (e : Datagram) (back : AnswerTaken long l older world p e) →
         is_starting_role (role_before (node_in header (node_of l)) back.line (of (node_of l) back.before)) ≡ false →
-        Hears (node_in header (node_of l)) (of (node_of l) world) back.line (of (node_of l) back.before) p m
-    answer_heard m back awake =
+        (is_heard p back.line.did.tick (port_before (node_in header (node_of l)) back.line (of (node_of l) back.before)) ≡ true)
+        × (is_own (Peer p) back.line.did.tick (port_before (node_in header (node_of l)) back.line (of (node_of l) back.before)) ≡ false)
+    answer_peer e back awake =
         let a = arrival in
         let is : PortIs header setting (node_of l) l.port = shared_port set (node_of l) l.port p.0 a.line.port
         (sym (subst (λ n. setting.net n a.line.port ≡ setting.net (node_of l) l.port) a.node a.net)) apart in
@@ -106,12 +107,18 @@ module _ {clocks : Clocks} {header : HeaderValue} {setting : Setting} (set : Set
         ap (λ q. is_among p (port_setup q (node_in header (node_of l))).peers) back.port ∙ ap (is_among p) is.peers ∙ asks.posts.member in
         let own : (port_setup back.line.port (node_in header (node_of l))).own.0 ≡ node_of l =
         ap (λ q. (port_setup q (node_in header (node_of l))).own.0) back.port ∙ is.own in
-        record {
-          place = own_place (node_of l) back.line back.before world back.node back.place;
-          took = back.took;
-          peer = rw (member, awake) refl;
-          other = ap (λ n. p.0 == n) own ∙ asks.posts.other;
-        }
+        (rw (member, awake) refl, ap (λ n. p.0 == n) own ∙ asks.posts.other)
+
+    -- what it takes then is heard
+    pub answer_heard : (m : MessageValue) (back : AnswerTaken long l older world p (Message m)) →
+        is_starting_role (role_before (node_in header (node_of l)) back.line (of (node_of l) back.before)) ≡ false →
+        Hears (node_in header (node_of l)) (of (node_of l) world) back.line (of (node_of l) back.before) p m
+    answer_heard m back awake = let h = answer_peer (Message m) back awake in record {
+      place = own_place (node_of l) back.line back.before world back.node back.place;
+      took = back.took;
+      peer = h.0;
+      other = h.1;
+    }
 
   pub first_of : (a : Act) (rest : List Act) → Among a (a ∷ rest)
   first_of a rest = record { front = []; back = rest; is = refl }
@@ -138,7 +145,7 @@ module _ {clocks : Clocks} {header : HeaderValue} {setting : Setting} (set : Set
   master-awake Starting e = absurd (true≢false (sym e))
   master-awake _ e = refl
 
-  candidate-awake : (r : Role) → is_candidate_role r ≡ true → is_starting_role r ≡ false
+  pub candidate-awake : (r : Role) → is_candidate_role r ≡ true → is_starting_role r ≡ false
   candidate-awake Starting e = absurd (true≢false (sym e))
   candidate-awake _ e = refl
 

@@ -28,7 +28,7 @@ of-own : (l : Line) (lines : List Line) → of (node_of l) (l ∷ lines) ≡ l �
 of-own l lines = let same : (node_of l == node_of l) ≡ true = eq-eqb (node_of l) (node_of l) refl in rw same refl
 
 -- the tick of a port's past is that of its newest line
-view-tick : (q : Port) (l : Line) (lines : List Line) → tick_of (plain (view q (l ∷ lines))) ≡ l.did.tick
+pub view-tick : (q : Port) (l : Line) (lines : List Line) → tick_of (plain (view q (l ∷ lines))) ≡ l.did.tick
 view-tick q l lines = ap tick_of (plain_view q (l ∷ lines))
 
 module _ {clocks : Clocks} {header : HeaderValue} {setting : Setting} (set : SetByClocks clocks header setting) (world : List Line)

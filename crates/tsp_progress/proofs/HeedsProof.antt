@@ -1,5 +1,6 @@
 -- What a port does at once with a message of a peer, by the table.
-use Rattle.std.proofs.Common.{sym, ap, subst, true≢false, ◌∙◌, ◌≡◌, ℕ, ◌==◌, ◌&&◌, Bool, true, false, if◌then◌else◌, List, [], ◌∷◌, eq-eqb, refl}
+use Rattle.std.proofs.Common.{sym, ap, subst, true≢false, ◌∙◌, ◌≡◌, ℕ, ◌==◌, ◌&&◌, Bool, true, false, if◌then◌else◌, List, [], ◌∷◌, eq-eqb, not, refl}
+use Rattle.std.proofs.lemmas.Bool.{and_parts, not-true}
 use Rattle.tsp_rules.specs.Values.{Act, Took, Post, Become, Back, Backer, Quit, Acked, Join, Search, Good, Message, PeerId, Peer, Role}
 use Rattle.tsp_rules.specs.Values.{Starting, Loose, Follow, Candidate, Master, Kind, Accept, Ack, AdjTime, Date, DateAck, DateReq, Election, LoopKind}
 use Rattle.tsp_rules.specs.Values.{MasterAck, MasterReq, MasterUp, Msite, MsiteReq, QuitKind, Refuse, ResolveKind, SetDate, SetDateReq, SetTime, SlaveUp, Test}
@@ -16,7 +17,7 @@ use Rattle.tsp_rules.specs.{MasterRows.joins, MasterRows.master_takes, MasterRow
 use Rattle.tsp_rules.specs.{NodeRows.NodePast}
 use Rattle.tsp_rules.specs.SendRows.{acknowledges, begins, begins_settime, has_election, has_other, has_quit, may_set}
 use Rattle.tsp_rules.specs.SlaveRows.{adjtime_of, confirms, election_of, from_master, masterack_in, masterup_in, settime_of, slave_takes}
-use Rattle.tsp_rules.specs.SlaveRows.{slave_takes_kind, takes_amount, takes_value}
+use Rattle.tsp_rules.specs.SlaveRows.{acks_repeat, is_repeated, slave_takes_kind, takes_amount, takes_value}
 use Rattle.tsp_progress.specs.ByTable.{ByTable, KeepsTable, RowStands, TableAt, before_line, is_loop_kind, node_in, port_before, taking_row}
 use Rattle.tsp_progress.specs.Heeds.{AllHeed, DoesNext, Ends, Follows, Hears, Heeds, HeedsMaster, HeedsPeers, Obeys, Serves, Votes, always, arms_for_delay}
 use Rattle.tsp_base.specs.Words.{timed}
@@ -226,6 +227,22 @@ module _ (node : NodePast) (lines : List Line) (table : KeepsTable node lines) w
   refuses l older p m h kind in_role so = next node lines table l older p m h Election Candidate kind (candidate-is (role_before node l older) in_role) refl
       (unsteered _ Election refl) (posts_bare Refuse m.number (port_before node l older) p ∷ []) refl
 
+  pub idle_refuses : Heeds Election is_idle (λ p m x past. not (may_back_at p x past)) (λ p m x past. posts_bare Refuse m.number past p ∷ []) node lines
+  unfolding says-kind slave_takes_kind election_of either_by posts
+  idle_refuses l older p m h kind in_role so = by_role (role_before node l older) refl in_role where
+    holds : may_back_at p l.did.tick (port_before node l older) ≡ false
+    holds = not-true (may_back_at p l.did.tick (port_before node l older)) so
+
+    by_role : (r : Role) → role_before node l older ≡ r → is_idle r ≡ true → DoesNext (posts_bare Refuse m.number (port_before node l older) p ∷ []) l older
+        lines
+    by_role Loose is e = next node lines table l older p m h Election Loose kind is refl (unsteered _ Election refl)
+        (posts_bare Refuse m.number (port_before node l older) p ∷ []) (rw holds refl)
+    by_role (Follow q) is e = next node lines table l older p m h Election (Follow q) kind is refl (unsteered _ Election refl)
+        (posts_bare Refuse m.number (port_before node l older) p ∷ []) (rw holds refl)
+    by_role Starting is e = absurd (true≢false (sym e))
+    by_role Candidate is e = absurd (true≢false (sym e))
+    by_role Master is e = absurd (true≢false (sym e))
+
   not-quit : (b : Bool) → (if b then false else true) ≡ true → b ≡ false
   not-quit true e = absurd (true≢false (sym e))
   not-quit false e = refl
@@ -283,6 +300,29 @@ module _ (node : NodePast) (lines : List Line) (table : KeepsTable node lines) w
       (set_to (time_in m.body) l.did.tick (port_before node l older) ∷ arms_for_delay l.did.tick (port_before node l older) ∷
       posts_bare Ack m.number (port_before node l older) p ∷ [])
       (let own = own-master p in rw (is, own, so) refl)
+
+  -- a repeat of the last correction is acknowledged again
+  pub adjtime_again : HeedsMaster AdjTime (λ p m x past. not (takes_amount m.number (time_in m.body) x past) && is_repeated p m.number x past)
+      (λ p m x past. posts_bare Ack m.number past p ∷ []) node lines
+  unfolding says-kind slave_takes_kind reading from_master adjtime_of either_by acks_repeat posts
+  adjtime_again l older p m h kind is steer so =
+      let both = and_parts (not (takes_amount m.number (time_in m.body) l.did.tick (port_before node l older)))
+      (is_repeated p m.number l.did.tick (port_before node l older)) so in
+      let not_taken = not-true (takes_amount m.number (time_in m.body) l.did.tick (port_before node l older)) both.0 in
+      let repeated = both.1 in
+      next node lines table l older p m h AdjTime (Follow p) kind is refl (λ c. steer) (posts_bare Ack m.number (port_before node l older) p ∷ [])
+      (let own = own-master p in rw (is, own, not_taken, repeated) refl)
+
+  pub settime_again : HeedsMaster SetTime (λ p m x past. not (takes_value m.number (time_in m.body) x past) && is_repeated p m.number x past)
+      (λ p m x past. posts_bare Ack m.number past p ∷ []) node lines
+  unfolding says-kind slave_takes_kind reading from_master settime_of either_by acks_repeat posts
+  settime_again l older p m h kind is steer so =
+      let both = and_parts (not (takes_value m.number (time_in m.body) l.did.tick (port_before node l older)))
+      (is_repeated p m.number l.did.tick (port_before node l older)) so in
+      let not_taken = not-true (takes_value m.number (time_in m.body) l.did.tick (port_before node l older)) both.0 in
+      let repeated = both.1 in
+      next node lines table l older p m h SetTime (Follow p) kind is refl (λ c. steer) (posts_bare Ack m.number (port_before node l older) p ∷ [])
+      (let own = own-master p in rw (is, own, not_taken, repeated) refl)
 
   again : HeedsMaster MasterUp always (λ p m x past. arms_for_delay x past ∷ posts_bare SlaveUp (ticket_at x past) past p ∷ []) node lines
   unfolding says-kind slave_takes_kind reading masterup_in ◌followed_by◌ arms_elect arms tells_ticket posts

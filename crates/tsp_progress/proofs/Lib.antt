@@ -1,3 +1,4 @@
+pub mod AckedProof
 pub mod AloneLeadsProof
 pub mod AloneProof
 pub mod AnswersProof
@@ -18,6 +19,7 @@ pub mod HumbleRun
 pub mod InTimeProof
 pub mod LeftChecks
 pub mod LoneProof
+pub mod MeanwhileChecks
 pub mod MeasuresProof
 pub mod NeverLateProof
 pub mod NodeKeeps
@@ -27,9 +29,12 @@ pub mod PaceProof
 pub mod PortSetups
 pub mod PortWakes
 pub mod ProgressProof
+pub mod RoundKept
 pub mod RoundsProof
 pub mod RunWakes
+pub mod SampledProof
 pub mod SearchKept
+pub mod SendKept
 pub mod SendsEndProof
 pub mod SentAwayProof
 pub mod StandsProof

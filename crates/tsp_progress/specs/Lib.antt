@@ -1,3 +1,5 @@
+pub mod AckedInTime
+pub mod AckedUse
 pub mod AlarmsFit
 pub mod AloneLeads
 pub mod AloneStands
@@ -24,6 +26,7 @@ pub mod OneUse
 pub mod Progress
 pub mod RoundsRecur
 pub mod RunsWake
+pub mod SampledInTime
 pub mod SendsEnd
 pub mod SentAway
 pub mod SentAwayUse

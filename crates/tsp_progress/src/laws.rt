@@ -158,6 +158,37 @@ pub fn clocked_runs_give_up()
     ensures { ClockedRunsGiveUpLate }
 {}
 
+ghost use Rattle.tsp_progress.specs.AckedInTime.{ClockedRunsAcknowledge, RunsAcknowledge};
+/// Where datagrams are delivered in time, and twice that time is less than `TRIES` times `RETRY`, 3
+/// s, a numbered send is acknowledged in time if its addressee acts on it, and is never given up.
+pub fn runs_acknowledge()
+    ensures { RunsAcknowledge }
+{}
+
+/// So it is in a run by any clocks.
+pub fn clocked_runs_acknowledge()
+    ensures { ClockedRunsAcknowledge }
+{}
+
+ghost use Rattle.tsp_progress.specs.AckedUse.{AckedUse};
+/// A run in which a correction is acknowledged in time, and runs in which one is given up: datagrams
+/// take 1.6 s, or the answer is lost, or the addressee may not take it.
+pub fn acked_use()
+    ensures { AckedUse }
+{}
+
+ghost use Rattle.tsp_progress.specs.SampledInTime.{ClockedRunsSample, RunsSample};
+/// Where datagrams are delivered in time, and twice that time is less than `CLOSE`, 8 s, each peer
+/// that is measured has a sample when its round closes, if its clock is in its range.
+pub fn runs_sample()
+    ensures { RunsSample }
+{}
+
+/// So it is in a run by any clocks.
+pub fn clocked_runs_sample()
+    ensures { ClockedRunsSample }
+{}
+
 ghost use Rattle.tsp_progress.specs.InTime.{AllInTime, EndsInTime};
 ghost use Rattle.tsp_progress.specs.AlarmsFit.{Manner};
 ghost use Rattle.tsp_progress.specs.Wakes.{AllWake, Woken};
