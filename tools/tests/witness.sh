@@ -47,8 +47,11 @@ change() {
     ! cmp -s "$given/$1/$2.trace" "$out/changed/$2.trace" || fail "$3 changes nothing in $2"
 }
 
-for worked in witness_times distances_worked witness_long witness_wander; do
-    PYTHONPATH=tools:dev python3 -B "tools/tests/$worked.py" "$TSP_PROGRAM" 2>"$out/told" || fail "$(cat "$out/told")"
+for worked in witness_times distances_worked witness_long witness_wander witness_again; do
+    status=0
+    PYTHONPATH=tools:dev python3 -B "tools/tests/$worked.py" "$TSP_PROGRAM" >"$out/said" 2>"$out/told" || status=$?
+    [ "$status" -ne 77 ] || { skip "$(cat "$out/told")" 'how hosts with many peers, and long starts, are judged'; continue; }
+    [ "$status" -eq 0 ] || fail "$(cat "$out/told")"
 done
 
 # The daemons' own lines are all alike: in a run that was worked out by hand, in one whose SETTIME is repeated right behind its late take,
@@ -135,6 +138,12 @@ wants 1 "$(written "$given/stepped") acts alike, holds; the audit holds" stepped
 tells 'b (start 2): its wall clock had been stepped by 500'
 wants 1 "$(written "$given/rated") acts alike, holds; the audit holds" rated "$given/rated" --drift 1000 --audit
 tells 'c (start 2): its counter was 1000000 parts in 10^9 faster than its wall clock'
+# (a rate that the daemon took within its life, as learned ones are)
+change rated c-2 '2s/ 1000000 / 3 /
+3a\
+tsp-launch: from tick 8437 on the daemon counts 1000000 parts in 10^9 faster than the machine'
+wants 1 "$(written "$given/rated") acts alike, holds; the audit holds" rated "$out/changed" --drift 1000 --audit
+tells 'c (start 2): its counter was 3 to 1000000 parts in 10^9 faster than its wall clock'
 wants 1 "$(written "$given/rated") acts alike, but no counters within a drift of 100 fit what was taken when" rated "$given/rated"
 tells 'with any other counter of c all fits: its counter is beyond the drift'
 
@@ -176,7 +185,8 @@ wants 0 "$(written "$out/changed") acts alike, holds" hand "$out/changed"
 sed -i '/ settime /d' "$out/changed/a-1.trace"
 wants 0 "$(written "$out/changed") acts alike, holds" hand "$out/changed"
 
-# A network with more hosts than a replay has room for: times are judged, and it is said whose acts aren't. A host's replay has its own networks' alone.
+# A network with more hosts than a replay has room for: a daemon runs once more. Where there is no cc for that, times are judged, and it is said whose acts
+# aren't. A host's replay has its own networks' alone.
 {
     cat "$given/hand.hosts"
     i=3
@@ -185,9 +195,16 @@ wants 0 "$(written "$out/changed") acts alike, holds" hand "$out/changed"
 change hand b-2 '/in the trace peer/d'
 set -- "a=$given/hand/a-1.trace" "b=$out/changed/b-2.trace"
 status=0
-tools/tsp-witness --check --file "$out/hosts" "$@" >"$out/said" 2>"$out/besides" || status=$?
-many='which has more than 63 peers'
-[ "$status" -eq 1 ] && [ "$(cat "$out/said")" = "0 acts alike, holds so far; not compared: a, $many; b, $many" ] || fail "100 hosts: $(cat "$out/said" "$out/besides")"
+PATH=$out/bin tools/tsp-witness --check --file "$out/hosts" "$@" >"$out/said" 2>"$out/besides" || status=$?
+many='which has more than 63 peers' without='there is no cc that works, by which a clone makes tsp_again.so'
+[ "$status" -eq 1 ] && [ "$(cat "$out/said")" = "0 acts alike, holds so far; not compared: a, $many; b, $many; $without" ] || fail "100 hosts: $(cat "$out/said" "$out/besides")"
+if has cc; then
+    # (these hosts would post to their other peers too)
+    status=0
+    tools/tsp-witness --check --file "$out/hosts" "$@" >"$out/said" 2>"$out/besides" || status=$?
+    [ "$status" -eq 1 ] && [ "$(head -n 1 "$out/said")" = '6 acts alike, and then one that differs, on each of 2 starts' ] || fail "100 hosts: $(cat "$out/said" "$out/besides")"
+    tells 'a, turn 50, tick 80000100: it did "nothing more", and by the rules it is "post 2 2 masterreq 0 a"'
+fi
 sed 's/^h3 /+\nh3 /' "$out/hosts" >"$out/hosts2"
 tools/tsp-witness --check --file "$out/hosts2" "$@" >"$out/said" 2>"$out/besides" || fail "100 hosts in two networks: $(cat "$out/said" "$out/besides")"
 [ "$(cat "$out/said")" = "$(written "$given/hand") acts alike, holds" ] || fail "100 hosts in two networks: $(cat "$out/said" "$out/besides")"
@@ -267,10 +284,6 @@ bounded 3 "a=$out/hostile" "b=$hand/b-2.trace"
 { cat "$hand/a-1.trace"; yes '5 0 0 7 become king' | head -c 40000000; } >"$out/hostile"
 bounded 1 "a=$out/hostile" "b=$hand/b-2.trace"
 [ "$(wc -l <"$out/besides")" -eq 10 ] && grep -q '^tsp-witness: and 19[0-9]* more$' "$out/besides" || fail "of two million bad lines it says '$(tail -n 1 "$out/besides")'"
-{ cat "$hand/a-1.trace"; awk 'BEGIN { for (i = 0; i < 1100000; i++) print "900 0 0 999999999 trace on" }'; } >"$out/hostile"
-limit_memory 1500000000
-bounded 3 "a=$out/hostile" "b=$hand/b-2.trace"
-tells 'there are more than 1000000 acts'
 rm "$out/hostile"
 # What can't be written isn't taken for a trace that can't be read.
 for case in 'standard output=' '/dev/full=--schedule /dev/full'; do

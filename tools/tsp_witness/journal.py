@@ -1,5 +1,6 @@
 """Journals: the lines that a host's daemon wrote, life by life, as files or a journal have them."""
 import math
+from sys import intern
 
 from tsp_texts import told
 from tsp_texts.grammar import LONGEST, place_of_peer
@@ -11,8 +12,11 @@ TICKETS = 32768
 NUMBERED = ('slaveup', 'election', 'conflict', 'quit', 'setdatereq')
 
 
+# Numbers of fewer digits come often.
+SHORT = 6
+
 # What a journal has before a line, so many octets without a line of a trace, acts and starts of one host, and notes of it, at most.
-BEFORE, MOST_OTHER, MOST_ACTS, MOST_STARTS, MOST_NOTES = 256, 16 * 2**20, 1_000_000, 1000, 100
+BEFORE, MOST_OTHER, MOST_ACTS, MOST_STARTS, MOST_NOTES = 256, 16 * 2**20, 4_000_000, 1000, 100
 
 
 class Lines:
@@ -35,6 +39,11 @@ class Lines:
                 rest = self.part()
             yield line.decode('ascii', 'replace').rstrip('\r\n') if rest is line or not rest and len(line) < lines.LONGEST_START else None
             line = self.part()
+
+
+def words_of(text):
+    """The words of an act. Those that come often are kept once."""
+    return [intern(word) if len(word) < SHORT or not word.isdigit() else word for word in text.split(' ')]
 
 
 class Entry:
@@ -60,12 +69,18 @@ class Turn:
 
 
 class Life:
-    """A daemon from its start to its end. `base` is its wall clock at its start, by which it counts; None where no line tells it. `rate` is by how many
-    parts in 10^9 its counter is faster than that clock."""
+    """A daemon from its start to its end. `base` is its wall clock at its start, by which it counts; None where no line tells it. `rates` are by how many
+    parts in 10^9 its counter is faster than that clock, each with the tick from which on it is."""
 
     def __init__(self, node, number, rate=0):
-        self.node, self.number, self.rate, self.turns = node, number, rate, []
+        self.node, self.number, self.rates, self.turns = node, number, [(0, rate)], []
         self.base, self.first_tick, self.first_post, self.gaps = None, 0, 0, []
+
+    def mean_rate(self):
+        """By how many parts in 10^9 its counter was faster than that clock, over all of its ticks."""
+        last = self.turns[-1].tick
+        ends = [min(tick, last) for tick, _ in self.rates[1:]] + [last]
+        return sum(rate * (end - tick) for (tick, rate), end in zip(self.rates, ends)) / last if last else self.rates[0][1]
 
     def read_clock(self):
         """Finds the base: by the first reading, correction or word that the daemon tells."""
@@ -150,7 +165,7 @@ class Journal:
         if (found or lines.ALMOST.search(line)) and lines.is_too_great(line):
             self.note(f'{place}: this line has a number beyond 64 bits, and is passed over')
         elif found:
-            self.act(found.number, found.tick, Entry(found.port, found.text.split(' '), unseen=self.unseen), place)
+            self.act(found.number, found.tick, Entry(found.port, words_of(found.text), unseen=self.unseen), place)
             self.unseen = 0
         elif lines.LEFT_OUT.search(line):
             self.unseen += int(lines.LEFT_OUT.search(line)[1])
@@ -167,6 +182,8 @@ class Journal:
             self.begins, self.rate = True, 0
         elif rate and not rate[1]:
             self.rate = rate[0]
+        elif rate and not self.begins and rate[1] >= self.lives[-1].rates[-1][0]:
+            self.lives[-1].rates.append(rate[::-1])
 
     def check_peers(self, names, place):
         """The launcher names the daemon's peers: they are those of the network."""
@@ -191,7 +208,7 @@ class Journal:
         last.acts.append(act)
         self.acts += 1
         if self.acts > MOST_ACTS:
-            raise Unusable(f'{place}: there are more than {MOST_ACTS} acts, and no schedule has room for them')
+            raise Unusable(f'{place}: there are more than {MOST_ACTS} acts of one host')
 
     def check(self, act, turn, tick, place):
         """An act has its turn's tick, and a port and a peer that the daemon has."""

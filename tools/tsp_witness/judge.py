@@ -1,5 +1,7 @@
 """The judgement of a network's journals: whether each daemon did what the rules say, and whether there are counters within the drift by which all
 of it happened. Then it was a run, and it is proved that these keep the promises, as long as each counter stays within the drift."""
+import tempfile
+
 from tsp_witness import Unusable, faults, rules
 from tsp_witness.matching import LIFE, Matching
 from tsp_witness.timing import Fitting, Readings
@@ -37,13 +39,21 @@ class Judgement:
 
     def compare(self, program):
         """Compares the acts of each start with those of the rules."""
+        with tempfile.TemporaryDirectory(prefix='tsp-witness-') as folder:
+            ruled = rules.Rules(program, self.network, folder)
+            self.compare_with(ruled)
+        if self.unjudged and ruled.lacks:
+            self.unjudged.append(ruled.lacks)
+
+    def compare_with(self, ruled):
+        """The same, with what says what the rules are."""
         for node, journal in self.journals.items():
-            if not rules.can_judge(self.network, node):
+            if not ruled.can_judge(node):
                 self.is_whole = False
-                self.unjudged.append(f'{self.network.names[node]}, which has more than {rules.MOST_PEERS} peers')
+                self.unjudged.append(f'{self.network.names[node]}, which has more than {ruled.most_peers()} peers')
                 continue
             for life in journal.lives:
-                found = rules.compare(program, self.network, life)
+                found = ruled.compare(life)
                 self.alike += found.alike
                 if found.difference:
                     self.differences.append((life, found))

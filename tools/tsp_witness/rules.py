@@ -1,11 +1,13 @@
 """What the rules say of each start of a daemon: its acts follow from its ticks and from what it took, so each start is replayed by itself, as
-the only node that acts, by a clock that counts its own ticks."""
+the only node that acts, by a clock that counts its own ticks. One that a schedule has no room for runs once more as a daemon."""
+import contextlib
 import struct
 import subprocess
 from collections import namedtuple
 
-from tsp_texts import grammar, schedule
-from tsp_witness import Unusable
+from tsp_texts import grammar, library, schedule
+from tsp_texts.tool import Fault
+from tsp_witness import Unusable, again
 from tsp_witness.datagram import octets_of
 from tsp_witness.journal import QUIET, Entry, Turn
 
@@ -45,7 +47,9 @@ def boot(network, life):
 
 
 class Replay:
-    """The schedule of one start: the nodes are those of the daemon's networks, of which the others do nothing, and all that it took comes as octets."""
+    """The schedule of one start: the nodes are those of the daemon's networks, of which the others do nothing, and all that it took comes as octets.
+    `before` of its turns are none of the trace's."""
+    before = 1
 
     def __init__(self, network, life):
         self.network, self.life = network, life
@@ -85,6 +89,12 @@ class Replay:
         place = f'{self.own}/{took.port}' if took.port else str(self.own)
         return f'bytes {place} {self.node_of.get(took.words[1], "-")} {octets.hex()}'
 
+    def answers(self, program):
+        """What the node does in each turn, as texts; or the refusal of the schedule."""
+        ruled = by_event(run(program, 'replay', self.schedule()))
+        for event, _ in enumerate(self.turns, 1):
+            yield ruled.get(event) or ruled.get(None, [])
+
     def text(self, act, tick, posted):
         """An act as the replay has it behind the event's number, where so many datagrams were posted before."""
         words, place = act.words, grammar.place_of_peer(act.words)
@@ -121,38 +131,72 @@ def by_event(lines):
     return found
 
 
-def compare(program, network, life):
-    """Compares a start's acts with those of the rules. Where the daemon was killed while it wrote the lines of its last turn, those that are
-    missing are taken from the rules."""
-    replay = Replay(network, life)
-    ruled = by_event(run(program, 'replay', replay.schedule()))
+class Rules:
+    """What says what the rules are: the program, as a replay, or where a schedule has no room as a daemon with a library, which is made in this folder
+    where it is first needed. `lacks` says why there is none."""
+
+    def __init__(self, program, network, folder):
+        self.program, self.network, self.folder = program, network, folder
+        self.path, self.lacks = None, None
+
+    def library(self):
+        """The library's path, or None."""
+        if self.path is None and self.lacks is None:
+            try:
+                self.path = library.made(again.LIBRARY, self.folder, None)
+            except Fault as fault:
+                self.lacks = fault.text
+        return self.path
+
+    def can_judge(self, node):
+        """Whether a host's acts can be compared."""
+        return can_replay(self.network, node) or again.can_judge(self.network, node) and self.library() is not None
+
+    def most_peers(self):
+        """How many peers a host may have whose acts are compared."""
+        return again.MOST_PEERS if self.library() else MOST_PEERS
+
+    def way(self, life):
+        """How a start's rules are asked for."""
+        has_room = can_replay(self.network, life.node) and len(life.turns) <= MOST_TURNS
+        return Replay(self.network, life) if has_room or self.library() is None else again.Again(self.network, life, self.library())
+
+    def compare(self, life):
+        """Compares a start's acts with those of the rules. Where the daemon was killed while it wrote the lines of its last turn, those that are
+        missing are taken from the rules."""
+        return compared(self.way(life), self.program)
+
+
+def compared(way, program):
+    """Compares the acts of a start with those of the rules, which are asked for in this way."""
     alike = posted = 0
-    for event, turn in enumerate(replay.turns, 1):
-        rules, texts = ruled.get(event, []), []
-        for act in turn.acts:
-            texts.append(replay.text(act, turn.tick, posted))
-            posted += act.words[0] == 'post'
-        if texts != rules:
-            missing = [replay.entry(text) for text in rules[len(texts):]]
-            if turn is not life.turns[-1] or not missing or rules[:len(texts)] != texts:
-                return Ruled(alike, difference(replay, turn, texts, rules or ruled.get(None, [])), event - 2)
-            turn.acts += missing
-        alike += sum(act.written for act in turn.acts)
-    return Ruled(alike, None, len(replay.turns) - 1)
+    with contextlib.closing(way.answers(program)) as answers:
+        for place, (turn, rules) in enumerate(zip(way.turns, answers)):
+            texts = []
+            for act in turn.acts:
+                texts.append(way.text(act, turn.tick, posted))
+                posted += act.words[0] == 'post'
+            if texts != rules:
+                missing = [way.entry(text) for text in rules[len(texts):]]
+                if turn is not way.life.turns[-1] or not missing or rules[:len(texts)] != texts:
+                    return Ruled(alike, difference(way, turn, texts, rules), place - way.before)
+                turn.acts += missing
+            alike += sum(act.written for act in turn.acts)
+    return Ruled(alike, None, len(way.turns) - way.before)
 
 
-def difference(replay, turn, texts, rules):
+def difference(way, turn, texts, rules):
     """The first act of a turn that isn't as the rules say."""
     place = next((place for place, pair in enumerate(zip(texts, rules)) if pair[0] != pair[1]), min(len(texts), len(rules)))
     did = turn.acts[place].words if place < len(texts) else None
-    rule = replay.entry(rules[place]).words if place < len(rules) else None
+    rule = way.entry(rules[place]).words if place < len(rules) else None
     if did and rule and did[0] == rule[0] == 'post':
         # (by what was left out of the trace the numbers may be others)
         rule[1] = did[1]
     return Difference(turn, did, rule)
 
 
-def can_judge(network, node):
+def can_replay(network, node):
     """Whether a schedule has room for a host and its peers."""
     return len({other for net in network.ports_of(node) for other in network.nets[net]}) <= MOST_PEERS + 1
 

@@ -110,9 +110,11 @@ class Story:
         stepped = max(steps, key=lambda life: abs(steps[life]))
         begun, lines = apart.fit.offsets[apart.clock(stepped)], 0
         name, first = self.name(stepped), self.journals[stepped.node].lives[0]
-        is_set = abs(apart.step(first, stepped, first.rate)) > abs(steps[stepped]) / 2
+        is_set = abs(apart.step(first, stepped, first.mean_rate())) > abs(steps[stepped]) / 2
+        least, most = min(rate for _, rate in first.rates), max(rate for _, rate in first.rates)
+        rates = str(most) if least == most else f'{least} to {most}'
         why = f'its wall clock had been stepped by {-steps[stepped]:.0f} us, and a schedule has one for each node' if is_set else \
-            f'its counter was {first.rate} parts in 10^9 faster than its wall clock, and a schedule has one for both'
+            f'its counter was {rates} parts in 10^9 faster than its wall clock, and a schedule has one for both'
         for life in self.matching.lives():
             lines += sum(len(turn.acts) for turn in life.turns if apart.at(turn) >= begun)
             life.turns = [turn for turn in life.turns if apart.at(turn) < begun]
