@@ -4,7 +4,7 @@ function __tsp_column --description 'A column of the list of hosts: 2 has names,
     PATH="$PATH:/usr/sbin" tsp-launch --list 2>/dev/null | cut -d ' ' -f $argv[1]
 end
 
-complete -c tsp-launch -s n -l print -d 'prints the words and starts nothing'
+complete -c tsp-launch -s n -l print -d 'prints the arguments and starts nothing'
 complete -c tsp-launch -l lint -d 'starts nothing, prints a digest of the file, which is the same where ..'
 complete -c tsp-launch -s l -l list -d 'lists the hosts of the file'
 complete -c tsp-launch -l firewall -x -a 'nft systemd' -d 'prints rules that let in what the daemon needs, and questions from ..'

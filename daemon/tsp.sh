@@ -1,5 +1,5 @@
 #!/bin/sh
-# Runs the program, and says in one line more on standard error which word is wrong, or which address failed and why, where it ends with 1 or 5.
+# Runs the program, and says in one line more on standard error which argument is wrong, or which address failed and why, where it ends with 1 or 5.
 [ ! -h "$0" ] || exec "$(readlink -f -- "$0")" "$@"
 case $0 in */*) here=${0%/*} ;; *) here=. ;; esac
 # shellcheck disable=SC2034  # for what is read next

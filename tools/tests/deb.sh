@@ -123,8 +123,8 @@ for words in -h help --help; do
 done
 status=0
 tsp clockdiff alpha >"$out/said" 2>"$out/told" || status=$?
-[ "$status" -eq 1 ] && [ "$(cat "$out/said")" = usage ] && grep -qx "tsp: the first word that the grammar has no place for is 'alpha' (word 2): an address A.B.C.D:PORT belongs there" "$out/told" ||
-    fail "of wrong words the packed tsp says '$(cat "$out/said" "$out/told")', status $status"
+[ "$status" -eq 1 ] && [ "$(cat "$out/said")" = usage ] && grep -qx "tsp: the first argument that the grammar has no place for is 'alpha' (argument 2): an address A.B.C.D:PORT belongs there" "$out/told" ||
+    fail "of wrong arguments the packed tsp says '$(cat "$out/said" "$out/told")', status $status"
 status=0
 tsp serve 192.0.2.1:525 a s 1 >"$out/said" 2>"$out/told" || status=$?
 [ "$status" -eq 5 ] && grep -q "^tsp: 192.0.2.1:525 can't be bound: " "$out/told" || fail "of an address that isn't there the packed tsp says '$(cat "$out/told")', status $status"

@@ -23,6 +23,23 @@ for document in README.md docs/*.md examples/README.md; do
         [ -e "$(dirname "$document")/$link" ] || fail "$document points to $link, which isn't there"
     done <"$out/links"
 done
+# Places that a link names behind #, in this or another document.
+python3 -B - README.md docs/*.md examples/README.md dev/README.md tools/README.md debian/README.md <<'END' || fail 'a link leads to no heading'
+import os, re, sys
+def text_of(path):
+    with open(path, encoding='utf-8') as file:
+        return re.sub('^```.*?^```', '', file.read(), flags=re.M | re.S)
+def headings(path):
+    return {re.sub('[^a-z0-9 _-]', '', found.lower()).replace(' ', '-') for found in re.findall('^#+ (.*)$', text_of(path), re.M)}
+faults = []
+for path in sys.argv[1:]:
+    for file, place in re.findall(r'\]\(([^)#:]*)#([^)]*)\)', text_of(path)):
+        target = os.path.join(os.path.dirname(path), file) if file else path
+        if not os.path.exists(target) or place not in headings(target):
+            faults.append(f'{path}: {file}#{place}')
+print('\n'.join(faults), file=sys.stderr, end='\n' if faults else '')
+sys.exit(bool(faults))
+END
 dev/headline --check || fail 'docs/HEADLINE.md, its annex or docs/NETWORK.md is out of date: dev/headline writes them'
 python3 tools/tests/headline_names.py >"$out/names" || fail 'a name of docs/HEADLINE.md, its annex or docs/NETWORK.md stands for two things'
 [ "$(wc -w <docs/HEADLINE.md)" -le 25000 ] || fail 'docs/HEADLINE.md is more than an evening takes'

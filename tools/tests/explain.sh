@@ -41,12 +41,12 @@ while IFS= read -r row; do
     count=$((count + 1))
 done <tools/tests/explain.cases
 [ "$count" -ge 30 ] || fail "only $count rows were tried"
-ends 1 "tsp: the first word that the grammar has no place for is 'a\\nb\\udcff' (word 2): nothing belongs there" ./tsp replay "$(printf 'a\nb\377')"
+ends 1 "tsp: the first argument that the grammar has no place for is 'a\\nb\\udcff' (argument 2): nothing belongs there" ./tsp replay "$(printf 'a\nb\377')"
 # (999 peers are as many as there may be)
 # shellcheck disable=SC2046  # words
 set -- serve 192.0.2.1:525 a m 1 $(awk 'BEGIN { for (i = 1; i <= 999; i++) printf "10.0.%d.%d:525 ", i / 250, i % 250 + 1 }')
 ends 5 "tsp: 192.0.2.1:525 can't be bound: Cannot assign requested address" ./tsp "$@"
-ends 1 "tsp: the first word that the grammar has no place for is '10.1.0.1:525' (word 1005): a daemon has 999 peers at most" ./tsp "$@" 10.1.0.1:525
+ends 1 "tsp: the first argument that the grammar has no place for is '10.1.0.1:525' (argument 1005): a daemon has 999 peers at most" ./tsp "$@" 10.1.0.1:525
 
 # It finds a word without a place where the program writes usage, and nowhere else.
 python3 -B tools/tests/explain_random.py "$program" >"$out/random" || fail 'the words that have no place are others than those for which the program writes usage'

@@ -217,8 +217,8 @@ printf 'alpha 192.0.2.11 master # \0\n' >"$out/hosts"
 refuses "$out/hosts:1: the line has a NUL" -n -f "$out/hosts" -s alpha
 head -c 67108864 /dev/zero | tr '\0' '#' >"$out/hosts"
 refuses "$out/hosts: it has more than 2097152 octets" -l -f "$out/hosts"
-refuses_words '-q: tsp-launch --help says which words there are' -q
-refuses_words '-f: a word is missing behind it' -n -f
+refuses_words '-q: tsp-launch --help says which arguments there are' -q
+refuses_words '-f: an argument is missing behind it' -n -f
 given=TSP_TRACE=yes
 refuses_words "trace 'yes': off, on, journal, or the path of a file, which begins with /" -n -f "$hosts" -s alpha
 for trace in journal "$out/trace"; do
@@ -336,7 +336,7 @@ ends 5 -f "$hosts" -s alpha -p "$out/fake" --supervise
 [ "$(cat "$out/told")" = "tsp-launch: 192.0.2.11:525 can't be bound: Cannot assign requested address" ] || fail "$(cat "$out/told")"
 STATUS=1
 ends 1 -f "$hosts" -s gamma -p "$out/fake" --supervise
-[ "$(cat "$out/told")" = "tsp-launch: $out/fake doesn't know the words 'serve 198.51.100.7:525 gamma s 1000000000 192.0.2.1:525': it is of another version" ] || fail "$(cat "$out/told")"
+[ "$(cat "$out/told")" = "tsp-launch: $out/fake doesn't know the arguments 'serve 198.51.100.7:525 gamma s 1000000000 192.0.2.1:525': it is of another version" ] || fail "$(cat "$out/told")"
 cat >"$out/daemon" <<'END'
 #!/bin/sh
 printf '%s\n' '1 0 0 1 trace on' '2 0 0 2 become follow 1'

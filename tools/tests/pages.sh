@@ -29,14 +29,14 @@ for tool in tsp-demo tsp-elect tsp-feed tsp-lint tsp-now tsp-plot tsp-sim tsp-st
     cmp -s "$out/own" "$out/table" || fail "tsp-statuses has other statuses of $tool than its page: $(paste -sd ' ' "$out/table"), and not $(paste -sd ' ' "$out/own")"
 done
 
-# Each tool tells the version of the program, which its letters and statuses belong to: wrong words are 2, and a letter means one option in all.
+# Each tool tells the version of the program, which its letters and statuses belong to: wrong arguments are 2, and a letter means one option in all.
 for tool in tools/tsp-*; do
     [ -x "$tool" ] && [ -f "$tool" ] || continue
     name=${tool#tools/}
     [ "$("$tool" --version </dev/null)" = "$name ${version#tsp }" ] || fail "$tool --version says '$("$tool" --version </dev/null)'"
     status=0
     "$tool" --no-such-word >"$out/said" 2>"$out/told" </dev/null || status=$?
-    [ "$status" -eq 2 ] && [ ! -s "$out/said" ] && [ "$(wc -l <"$out/told")" -eq 1 ] || fail "of wrong words $tool says '$(cat "$out/told")', status $status"
+    [ "$status" -eq 2 ] && [ ! -s "$out/said" ] && [ "$(wc -l <"$out/told")" -eq 1 ] || fail "of wrong arguments $tool says '$(cat "$out/told")', status $status"
     "$tool" --help | sed -n 's/^ *-\([a-zA-Z]\)[A-Z ]*, \(--[a-z-]*\).*/\1 \2/p'
 done | sort -u >"$out/letters"
 [ "$(wc -l <"$out/letters")" -ge 10 ] || fail 'the letters of the tools are not read'

@@ -670,7 +670,7 @@ def reloaded():
     first = server.ready()
     digest = subprocess.run([LAUNCH, '--lint', '-f', server.hosts], stdout=subprocess.PIPE, check=True).stdout.decode('ascii').strip()
     until(lambda: f', by a hosts file with the digest {digest}; ' in server.read(), f'it doesn\'t say the digest {digest}')
-    same = f'a hosts file with the digest {digest} was read: the daemon goes on, since it is started with the same words'
+    same = f'a hosts file with the digest {digest} was read: the daemon goes on, since it is started with the same arguments'
     for more, text in ((('# nothing',), same), (('b 127.0.0.1:1 leader',), ':2: role \'leader\''),
                        (('b 127.0.0.1:1 slave',), 'the hosts file changed what the daemon is started with')):
         wanted(server.daemon() == first, f'the daemon is another one before {more}')

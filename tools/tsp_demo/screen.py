@@ -1,5 +1,6 @@
 """How a demonstration is shown: drawn anew at each look on a terminal, or as a line for each thing that happens."""
 import sys
+import textwrap
 
 import tsp_clock
 from tsp_daemon.network import milliseconds, signed
@@ -42,6 +43,10 @@ class Lines:
     def end(self):
         """Nothing is left to do."""
 
+    def sum_up(self, text):
+        """Writes the last line."""
+        self.out.write(f'{text}\n')
+
 
 class Screen:
     """Draws the hosts, a scale on which their clocks stand, and what happened last."""
@@ -67,7 +72,7 @@ class Screen:
         yield ''
         yield from self.scale(story, middle)
         yield ''
-        for seconds, text in story.events[-(HEIGHT - 10):]:
+        for seconds, text in story.events[-(HEIGHT - 11):]:
             yield f'{time_text(seconds)}  {text}'
 
     @staticmethod
@@ -102,6 +107,10 @@ class Screen:
 
     def end(self):
         """Leaves the picture where it is."""
+
+    def sum_up(self, text):
+        """Writes the last line below it, cut between words."""
+        self.out.write('\n' + textwrap.fill(text, COLUMNS) + '\n')
 
 
 def for_output(is_lines):

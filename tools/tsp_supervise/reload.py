@@ -65,7 +65,7 @@ class Reload:
         if self.names and [name_at.get(word) for word in self.words[6:] if word != '+'] != self.names[1:]:
             self.changed()
         else:
-            self.go_on(f'a hosts file with the digest {digest_of(text)} was read: the daemon goes on, since it is started with the same words')
+            self.go_on(f'a hosts file with the digest {digest_of(text)} was read: the daemon goes on, since it is started with the same arguments')
 
     def go_on(self, text, level=log.NOTICE):
         """Says what came of it, and reads the file once more if that is wanted."""

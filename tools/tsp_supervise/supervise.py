@@ -355,7 +355,7 @@ class Supervisor:
     def why(self, status):
         """What is to be said of the daemon's status, or None."""
         if status == NO_WORDS:
-            return f'{self.words[0]} doesn\'t know the words \'{" ".join(self.words[1:])}\': it is of another version'
+            return f'{self.words[0]} doesn\'t know the arguments \'{" ".join(self.words[1:])}\': it is of another version'
         if status != NO_NETWORK:
             return None
         why = sockets.why_not_bound(self.local)

@@ -7,7 +7,7 @@ import stat
 import sys
 
 VERSION = '0.1.4'
-# The status for wrong words, which all tools have in common.
+# The status for wrong arguments, which all tools have in common.
 BAD_WORDS = 2
 CUT_OFF = 141
 # A line on standard error is no longer than that, whatever it speaks of.
@@ -56,7 +56,7 @@ class Words(argparse.ArgumentParser):
         (file or sys.stdout).write(self.format_help())
 
     def error(self, message):
-        raise Fault(f'{message} ({self.prog} --help says which words there are)', BAD_WORDS)
+        raise Fault(f'{message} ({self.prog} --help says which arguments there are)', BAD_WORDS)
 
 
 def name():

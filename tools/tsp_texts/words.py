@@ -57,7 +57,7 @@ def fault(words, text):
             return fault_of_peers(words, at)
         belongs, fits = KINDS[kind]
         if at == len(words):
-            return f'a word is missing behind \'{words[-1]}\' (word {at}): {belongs} belongs there'
+            return f'an argument is missing behind \'{words[-1]}\' (argument {at}): {belongs} belongs there'
         if not fits(words[at]):
             return misplaced(words, at, f'{belongs} belongs there')
     return misplaced(words, len(form) + 1, 'nothing belongs there') if len(words) > len(form) + 1 else None
@@ -86,4 +86,4 @@ def fault_of_peers(words, first):
 
 def misplaced(words, at, why):
     """The line for a word that the grammar has no place for."""
-    return f'the first word that the grammar has no place for is \'{words[at]}\' (word {at + 1}): {why}'
+    return f'the first argument that the grammar has no place for is \'{words[at]}\' (argument {at + 1}): {why}'
