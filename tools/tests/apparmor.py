@@ -7,7 +7,8 @@ import re
 import sys
 
 # Calls that open a file, run one, or join a socket's path; and how a file is opened if it is written.
-CALL = re.compile(r'^(open|openat|execve|connect|sendto|unlink|unlinkat|rename|mkdir)\((.*)\) += (-?[0-9]+)')
+CALL = re.compile(r'^(open|openat|execve|connect|sendto|unlink|unlinkat|rename|mkdir|link|linkat)\((.*)\) += (-?[0-9]+)')
+RIGHTS = {'execve': 'x', 'link': 'l', 'linkat': 'l'}
 PATH, WRITES = re.compile(r'"(/[^"]*)"'), re.compile(r'O_(WRONLY|RDWR|CREAT|TRUNC)')
 DEFINED = re.compile(r'^\s*(@\{\w+\})\s*\+?=\s*(.*)$')
 RULE = re.compile(r'^\s*(?:owner\s+)?(/\S*|@\{\w+\}\S*|"[^"]*")\s+([a-zA-Z]+),')
@@ -81,8 +82,9 @@ def asked(path, moved):
             # (a file that isn't there is looked for in vain in any case)
             if not call or int(call[3]) < 0:
                 continue
-            right = 'x' if call[1] == 'execve' else 'w' if call[1] not in ('open', 'openat') or WRITES.search(call[2]) else 'r'
-            for found in PATH.findall(call[2].partition('[')[0] if call[1] == 'execve' else call[2])[:2]:
+            right = RIGHTS.get(call[1]) or ('w' if call[1] not in ('open', 'openat') or WRITES.search(call[2]) else 'r')
+            # (of a link the right is asked for its new name)
+            for found in PATH.findall(call[2].partition('[')[0] if right == 'x' else call[2])[right == 'l':2]:
                 # (a folder's path ends in a slash for AppArmor)
                 found += '/' * ('O_DIRECTORY' in call[2] and not found.endswith('/'))
                 for start, to in moved:

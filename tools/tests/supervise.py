@@ -606,6 +606,21 @@ def ended():
     server.end()
 
 
+def told_first():
+    """Whoever tells both to end, as systemd may, tells the daemon first: nothing is said of that. A daemon that alone is told to end is started again."""
+    server = Supervised()
+    os.kill(server.ready(), signal.SIGTERM)
+    time.sleep(0.05)
+    server.end()
+    wanted('ended with status' not in server.read(), f'it says {server.read()}')
+    server = Supervised()
+    first = server.ready()
+    os.kill(first, signal.SIGTERM)
+    until(lambda: server.daemon() not in (None, first), 'the daemon isn\'t started again when it was told to end')
+    wanted('the daemon ended with status 143; the daemon is started again in 2 s' in server.read(), f'it says {server.read()}')
+    server.end()
+
+
 def replaced():
     """The daemon's program isn't there for a while, and can't be run then, when the daemon has to be started again: it is started once that can be."""
     program, aside = stubborn()[0], Supervised.path('aside')

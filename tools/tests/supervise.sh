@@ -13,7 +13,7 @@ cases() {
 }
 
 before=''
-cases stuck blocked traced emptied full renewed piped lost threads switched notified busy slept stood followed killed interrupted turned ended replaced learned reloaded retold trailed prioritised hung_up told_twice rated
+cases stuck blocked traced emptied full renewed piped lost threads switched notified busy slept stood followed killed interrupted turned ended told_first replaced learned reloaded retold trailed prioritised hung_up told_twice rated
 if has logrotate; then cases rotated; else skip 'there is no logrotate' 'its example'; fi
 if unshare -rn true 2>/dev/null && has ip; then
     before='unshare -rn'

@@ -36,8 +36,10 @@ DRIFT = 100
 # After how many seconds a page is tried again that another supervisor keeps.
 TRY_PAGE = 5
 # Seconds: between two looks at the machine, by how many the alarm for its waking is later, between two starts at least, between two tries at most,
-# after which a daemon has held, and for the last lines.
-LOOK, WAKING, APART, LONGEST_PAUSE, HELD, LAST_LINES = 1, 0.1, 1, 60, 60, 0.3
+# after which a daemon has held, until whoever tells both to end has told both, and for the last lines.
+LOOK, WAKING, APART, LONGEST_PAUSE, HELD, BOTH, LAST_LINES = 1, 0.1, 1, 60, 60, 0.2, 0.3
+# How a daemon ends that is told to.
+TOLD = 128 + signal.SIGTERM, 128 + signal.SIGINT
 
 
 class Supervisor:
@@ -62,7 +64,7 @@ class Supervisor:
         if self.alarm.file is not None:
             self.loop.watch(self.alarm.file, self.look)
         self.has_answered, self.was_switched, self.pause, self.started, self.left_out = False, False, APART, -APART, 0
-        self.is_told = False
+        self.is_told = self.is_told_to_end = False
         self.unkept, self.follow = '', Follow()
         self.keeper = self.kept()
         # (where the rate is to be learned)
@@ -203,7 +205,7 @@ class Supervisor:
             peers = ''.join(f', {number} {name}' for number, name in enumerate(self.names) if number)
             self.note(f'in the trace peer 0 is {self.names[0]}{peers}')
         self.news.begin()
-        self.sleep, self.started = machine.Sleep(), self.loop.now()
+        self.sleep, self.started, self.is_told_to_end = machine.Sleep(), self.loop.now(), False
         self.apply_rate()
         if self.keeper:
             self.keeper.begin()
@@ -280,6 +282,9 @@ class Supervisor:
             self.end_daemon()
             self.address.give_up()
             self.wait_for_address()
+        elif status in TOLD and not self.is_told_to_end:
+            self.is_told_to_end = True
+            self.loop.after('watch', BOTH, self.look)
         elif status is not None:
             self.ended(status)
         elif slept:

@@ -15,9 +15,15 @@ TOOLS = ('tsp-launch --lint', 'tsp-launch -n', 'tsp-status', 'tsp-now', 'tsp-now
 REFUSED = 'aa-exec -p tsp -- /usr/bin/head -n 1 /etc/shadow'
 
 
-def noted(machine):
-    """The lines of the kernel's log that are of the profile, without their beginning."""
-    return [line[line.index('apparmor='):] for line in machine.says('journalctl -k -o cat --no-pager').splitlines() if NOTED.search(line)]
+def cursor(machine):
+    """The place that the journal has reached."""
+    return re.search(r'cursor: (\S+)', machine.must('journalctl -n 0 --show-cursor'))[1]
+
+
+def noted(machine, since):
+    """The lines of the kernel's log since then that are of the profile, without their beginning."""
+    said = machine.says(f'journalctl -k -o cat --no-pager --after-cursor="{since}"')
+    return [line[line.index('apparmor='):] for line in said.splitlines() if NOTED.search(line)]
 
 
 def label(machine):
@@ -54,22 +60,21 @@ def confined(net):
     do, with the feed and the tools beside them; and a file of root's is refused."""
     one = net.victim()
     wanted(one.says('cat /sys/module/apparmor/parameters/enabled') == 'Y', 'the kernel has no AppArmor')
-    found = []
-    for mode, command in (('complain', 'aa-complain'), ('enforce', 'aa-enforce')):
+    found, since = [], cursor(one)
+    for mode in ('complain', 'enforce'):
         if mode == 'enforce':
-            one.must(f'{command} {PROFILE}', patience=network.UP)
+            one.must(f'aa-enforce {PROFILE}', patience=network.UP)
         one.must('systemctl restart tsp', patience=network.UP)
         net.joined([one])
         seen = label(one)
         wanted(seen == {f'tsp ({mode})'}, f'in {mode} mode the processes of {one.name} are {seen}')
-        begun = len(noted(one))
         took = exercise(net, one)
-        lacks = noted(one)
-        wanted(not lacks, f'in {mode} mode the kernel notes {len(lacks)} lines, {len(lacks) - begun} of them new: {"; ".join(sorted(set(map(brief, lacks))))}')
+        lacks = noted(one, since)
+        wanted(not lacks, f'in {mode} mode the kernel notes {len(lacks)} lines: {"; ".join(sorted(set(map(brief, lacks))))}')
         found.append(f'{mode}: nothing noted, synchronised {took:.0f} s after the last restart')
     status, _ = one.run(REFUSED)
-    last = [line for line in noted(one) if 'DENIED' in line]
-    wanted(status and last and all('/etc/shadow' in line for line in last), f'/etc/shadow is read with status {status}, and the kernel notes {last}')
+    last = noted(one, since)
+    wanted(status and last and all('DENIED' in line and '/etc/shadow' in line for line in last), f'/etc/shadow is read with status {status}, and the kernel notes {last}')
     one.must(f'aa-complain {PROFILE}', patience=network.UP)
     return f'{"; ".join(found)}; /etc/shadow was refused'
 

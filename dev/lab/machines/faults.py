@@ -26,7 +26,7 @@ def offset_ms(machine):
 
 
 def suspend(net):
-    """A follower sleeps for 30 s: its daemon is started again as it wakes, and it is synchronised within 240 s."""
+    """A follower sleeps for 30 s: its daemon is started again as it wakes, and it is synchronised within 350 s."""
     one = net.victim()
     before = life_of(one)
     one.says('systemd-run --on-active=1 --timer-property=AccuracySec=100ms sh -c "echo mem >/sys/power/state"')
@@ -44,7 +44,7 @@ def suspend(net):
 
 
 def stopped(net):
-    """A follower is stopped by its hypervisor for 60 s: other hosts' clocks tell it, its daemon is started again, and it is synchronised within 240 s."""
+    """A follower is stopped by its hypervisor for 60 s: other hosts' clocks tell it, its daemon is started again, and it is synchronised within 350 s."""
     one = net.victim()
     before = life_of(one)
     one.monitor('stop')
@@ -84,7 +84,7 @@ def cable_short(net):
 
 
 def cable_long(net):
-    """A follower's cable is out for 11 minutes, longer than the grace: its page holds over, its daemon is ended and started again, and it follows within 240 s."""
+    """A follower's cable is out for 11 minutes, longer than the grace: its page holds over, its daemon is ended and started again, and it follows within 350 s."""
     one = net.victim()
     before, held = life_of(one), []
     one.pull()
@@ -130,7 +130,7 @@ def step(net):
 
 
 def killed(net):
-    """A follower's daemon is killed, and then its supervisor: each time it is up again by itself, and synchronised within 240 s."""
+    """A follower's daemon is killed, and then its supervisor: each time it is up again by itself, and synchronised within 350 s."""
     one, found = net.victim(), []
     for what, command in (('the daemon', 'pkill -KILL -x tsp'), ('the supervisor', 'systemctl kill --kill-who=main -s KILL tsp')):
         before = life_of(one)
@@ -156,7 +156,7 @@ def full(net):
 
 
 def memory(net):
-    """A program takes all of a machine's memory: whatever the system kills, the unit is up again by itself, and synchronised within 240 s."""
+    """A program takes all of a machine's memory: whatever the system kills, the unit is up again by itself, and synchronised within 350 s."""
     one = net.victim()
     one.says('systemd-run --quiet --collect --unit=hog sh -c "tail /dev/zero"; sleep 20')
     until = time.monotonic() + AGAIN

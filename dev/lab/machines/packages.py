@@ -8,7 +8,7 @@ from lab.machines.network import life_of, page_of, status_of, wanted
 NAMED = 'find / -xdev -name "*tsp*" -not -path "/srv/*" | sort'
 BEFORE, IN_MEMORY = '/srv/before', 'ls -d /run/tsp /dev/shm/*tsp* 2>/dev/null'
 # An upgraded host is waited for, in seconds, as the pages say.
-FOLLOWS = 240
+FOLLOWS = 350
 
 
 def install(net):

@@ -118,6 +118,8 @@ def without_rule(forger, target, source):
     target.must('nft delete table inet tsp_tunnel')
     got = forged(forger, target, source, 'unruled')
     target.must('systemctl restart wg-quick@tsp', patience=network.UP)
+    # (the other ends don't know yet that it has no keys of theirs any more, until it asks them for new ones)
+    target.must(f'ping -q -c 1 -W 30 {inside(source)}')
     return got
 
 
@@ -147,8 +149,10 @@ def tunnelled(net):
     one.ready()
     again = net.joined([one])
     wanted(one.says('systemctl is-active wg-quick@tsp tsp').split() == ['active'] * 2, f'after a reboot the units of {one.name} aren\'t up')
+    one.must(f'ping -q -c 1 -W 30 {inside(leads)}')
     nothing_gets_in(forger, [one, leads, *others], 'rebooted')
     net.each(by_networkd, members)
+    net[1].must(f'ping -q -c 1 -W 30 {inside(net[2])}')
     nothing_gets_in(forger, members, 'networkd')
     leads = net.led(machines=members)
     back(net, members, before)
