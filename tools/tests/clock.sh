@@ -26,7 +26,7 @@ for shown in readme page programs; do
     cc -std=gnu99 $flags -o "$out/$shown" "$out/$shown.c" || fail "what $shown shows is no program"
 done
 sed -n '/^import tsp_clock/,/^ *print/p' README.md >"$out/readme.py"
-sed -n '/^import tsp_clock/,/^ *print/p' docs/PROGRAMS.md >"$out/programs.py"
+sed -n '/^import tsp_clock/,/^```/p' docs/PROGRAMS.md | sed '$d' >"$out/programs.py"
 [ "$(wc -l <"$out/shown") $(wc -l <"$out/readme.py")" = '4 4' ] || fail 'the README shows no four lines'
 # Writes a page, as tools/tests/made_page.py makes it.
 made() {
@@ -36,14 +36,14 @@ sys.path[:0] = 'tools', 'tools/tests'
 import made_page, tsp_clock
 made_page.write('$out/led', $1)"
 }
-for leads in 2 1; do
-    case $leads in
-    2) made 'made_page.leading(10 ** 15)' ;;
-    *) made 'tsp_clock.Page(made_page.counting(10 ** 15))' ;;
-    esac
+# At each status these print an interval or none; PROGRAMS's also take that of a master that is gone, and say which status has none.
+for status in 2 1 3 0; do
+    python3 -B tools/tests/made_page.py "$out/led" "$status" 0
     for command in "$out/readme" 'python3 -B '"$out/readme.py" "$out/page" "$out/programs" 'python3 -B '"$out/programs.py"; do
-        TSP_CLOCK="$out/led" PYTHONPATH=tools $command >"$out/said" || [ "$leads" -eq 1 ] || fail "'$command' fails"
-        [ "$(grep -cE '^1[0-9]{15} to 1[0-9]{15}( us)?$' "$out/said")" -eq "$((leads - 1))" ] || fail "'$command' says $(cat "$out/said")"
+        TSP_CLOCK="$out/led" PYTHONPATH=tools $command >"$out/said" 2>"$out/told" || [ "$status" -lt 2 ] || fail "'$command' fails"
+        case $status-$command in 2-* | 3-*programs* | 3-"$out/page") wanted=1 ;; *) wanted=0 ;; esac
+        [ "$(grep -cE '^1[0-9]{15} to 1[0-9]{15}( us)?$' "$out/said")" -eq "$wanted" ] || fail "at status $status '$command' says $(cat "$out/said")"
+        case $wanted-$command in 0-*programs*) grep -qx "no interval: status $status" "$out/said" "$out/told" || fail "at status $status '$command' says $(cat "$out/said" "$out/told")" ;; esac
     done
 done
 # A wait is as long as it is said: the longest ones overflow nothing, and the shortest ones don't wait. (the page's interval is 300 ms wide)
