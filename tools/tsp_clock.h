@@ -344,6 +344,7 @@ static inline int tsp_read(const tsp_page *page, tsp_halves *copy, int64_t *now)
     }
 }
 
+/* Unmaps the page. Whoever reads the clock after that opens it again. */
 static inline void tsp_clock_close(tsp_clock *clock)
 {
     if (clock->page != NULL)
@@ -435,8 +436,8 @@ static inline int tsp_clock_now(tsp_clock *clock, tsp_time *time)
     return tsp_clock_seek(clock, time);
 }
 
-/* Waits until each later time of the network is after this one: 1 when it is, and 0 if it isn't within so many microseconds. More than TSP_LONGEST
- * is taken as that, so INT64_MAX is as good as without an end; what is below 0 is taken as 0. */
+/* Waits until the master's clock is surely past this stamp: 1 when it is, and 0 if it isn't within so many microseconds. More than TSP_LONGEST
+ * is taken as that, so INT64_MAX waits without an end; what is below 0 is taken as 0. */
 static inline int tsp_clock_wait_after(tsp_clock *clock, int64_t stamp, int64_t longest)
 {
     const struct timespec pause = {0, 100000};

@@ -253,7 +253,7 @@ class Clock:
 
 
 def wait_after(clock, stamp, longest=None):
-    """Waits until each later time of the network is after this one, and says whether that is so: within so many seconds, if they are given."""
+    """Waits until the master's clock is surely past this stamp, and says whether that is so: within so many seconds, if they are given."""
     until = None if longest is None else time.monotonic() + longest
     while True:
         now = clock.now()
