@@ -46,6 +46,26 @@ for status in 2 1 3 0; do
         case $wanted-$command in 0-*programs*) grep -qx "no interval: status $status" "$out/said" "$out/told" || fail "at status $status '$command' says $(cat "$out/said" "$out/told")" ;; esac
     done
 done
+# The examples say how they are called, and what can't be opened, in one line; a store takes no line without a value.
+says_one_line() {
+    wanted=$1 line=$2 status=0
+    shift 2
+    PYTHONPATH=tools "$@" >"$out/said" 2>"$out/told" </dev/null || status=$?
+    [ "$status" -eq "$wanted" ] && [ ! -s "$out/said" ] && [ "$(cat "$out/told")" = "$line" ] || fail "'$*': status $status, $(cat "$out/said" "$out/told")"
+}
+for words in '' 'a b'; do
+    # shellcheck disable=SC2086  # words
+    says_one_line 2 'usage: logger.py NAME' python3 -B examples/logger.py $words
+    # shellcheck disable=SC2086
+    says_one_line 2 'usage: store.py JOURNAL | --read FILE..' python3 -B examples/store.py $words
+done
+says_one_line 1 "logger.py: $out/none: No such file or directory" env TSP_CLOCK="$out/none" python3 -B examples/logger.py a
+says_one_line 1 "store.py: $out/none: No such file or directory" env TSP_CLOCK="$out/none" python3 -B examples/store.py "$out/journal"
+says_one_line 1 "store.py: $out/none: No such file or directory" python3 -B examples/store.py --read "$out/none"
+python3 -B tools/tests/made_page.py "$out/led" 2 0
+printf '%s\n' 'a 1' key 'b 2 3' | TSP_CLOCK="$out/led" PYTHONPATH=tools python3 -B examples/store.py "$out/journal" >"$out/said"
+[ "$(paste -sd ' ' "$out/said")" = 'done refused done' ] || fail "a store answers $(cat "$out/said")"
+[ "$(PYTHONPATH=tools python3 -B examples/store.py --read "$out/journal" 2>&1 | paste -sd ,)" = 'a 1,b 2 3' ] || fail "a store holds $(cat "$out/journal")"
 # A wait is as long as it is said: the longest ones overflow nothing, and the shortest ones don't wait. (the page's interval is 300 ms wide)
 made 'made_page.following(10 ** 15, width=150000)'
 for longest in 9223372036854775807:1 9223372036854775:1 9223372036854776:1 4611686018427387:1 10000000:1 0:0 -1:0 -9223372036854775808:0; do
