@@ -359,7 +359,7 @@ with socket.socket(socket.AF_UNIX, socket.SOCK_DGRAM) as link:
                 run.send_signal(signal.SIGTERM)
     print(run.returncode)
 END
-python3 "$out/notify" "$out/link" tools/tsp-launch -f "$hosts" -s gamma -p "$out/daemon" --supervise --trace >"$out/said" 2>"$out/told" || fail "$(cat "$out/told")"
+TSP_CLOCK=$out/clock python3 "$out/notify" "$out/link" tools/tsp-launch -f "$hosts" -s gamma -p "$out/daemon" --supervise --trace >"$out/said" 2>"$out/told" || fail "$(cat "$out/told")"
 grep -v '^[12] 0 0 ' "$out/said" | paste -sd ';' >"$out/notified"
 [ "$(cat "$out/notified")" = 'main READY=1 STATUS=follows gate;main STOPPING=1;0' ] || fail "systemd is told '$(cat "$out/notified")'"
 [ "$(grep -c '^[12] 0 0 [12] ' "$out/said")" -eq 2 ] || fail 'the trace is not handed on'

@@ -87,8 +87,6 @@ class Supervisor:
         path = os.environ.get('TSP_CLOCK') or tsp_clock.PATH
         os.environ.pop('TSP_PAGE', None)
         if not os.environ.get('TSP_CLOCK') and (self.is_once or not os.path.isdir(os.path.dirname(path))):
-            if not self.is_once:
-                self.say(f'programs can\'t read the time: there is no page, since {os.path.dirname(path)} isn\'t there, and TSP_CLOCK names none')
             return None
         try:
             page = PageFile(path)
@@ -272,7 +270,15 @@ class Supervisor:
         elif self.was_switched:
             self.was_switched = False
             self.news.seldom.say('switched', 'somebody switched the trace off; it is on again', log.WARNING)
-        self.has_answered = self.has_answered or is_on
+        if is_on and not self.has_answered:
+            self.has_answered = True
+            self.tell_of_no_page()
+
+    def tell_of_no_page(self):
+        """Says that there is no place for a page, unless none is wanted, or why there is none was said already."""
+        if not self.keeper and not self.unkept and not self.is_once:
+            place = os.path.dirname(tsp_clock.PATH)
+            self.say(f'programs can\'t read the time: there is no page, since {place} isn\'t there, and TSP_CLOCK names none')
 
     def look(self):
         """Looks at the daemon and at what it stands on, once a second, and at once when the machine wakes."""
