@@ -27,6 +27,7 @@ pub mod Progress
 pub mod RoundsRecur
 pub mod RunsWake
 pub mod SampledInTime
+pub mod SampledUse
 pub mod SendsEnd
 pub mod SentAway
 pub mod SentAwayUse

@@ -189,6 +189,13 @@ pub fn clocked_runs_sample()
     ensures { ClockedRunsSample }
 {}
 
+ghost use Rattle.tsp_progress.specs.SampledUse.{SampledUse};
+/// A round in which a peer is measured and answers in time, and two in which its answers are lost or
+/// late, so that it leaves.
+pub fn sampled_use()
+    ensures { SampledUse }
+{}
+
 ghost use Rattle.tsp_progress.specs.InTime.{AllInTime, EndsInTime};
 ghost use Rattle.tsp_progress.specs.AlarmsFit.{Manner};
 ghost use Rattle.tsp_progress.specs.Wakes.{AllWake, Woken};

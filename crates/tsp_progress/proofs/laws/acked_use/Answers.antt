@@ -25,9 +25,7 @@ use Rattle.tsp_rules.specs.GateRows.{answers_all, boots_on, boots_all}
 use Rattle.tsp_group.specs.Groups.{group_from, goes_before, better}
 use Rattle.tsp_codec.specs.Taken.{taken_of}
 use Rattle.std.proofs.Common.{ap, arith, inr, subst, sym, ◌∙◌, ◌≡◌, ℕ, ◌+◌, ◌*◌, ◌/◌, ◌<◌, true, List, ◌∷◌, All, []}
-use Rattle.std.proofs.lemmas.List.Elements.{All-cons}
-use Rattle.tsp_rules.specs.Values.{Take}
-use Rattle.tsp_rules.specs.SlaveRows.{takes_value}
+use Rattle.tsp_rules.specs.{SlaveRows.takes_value, Values.Take}
 use Rattle.tsp_base.specs.Words.{first_port, is_among, peer_of, time_in, Within, Line}
 use Rattle.tsp_base.proofs.PlaceLemmas.{Within-all}
 use Rattle.tsp_promises.specs.{Setting.Named, Setting.Setting}
@@ -35,7 +33,7 @@ use Rattle.tsp_run.specs.{Ranges.Accepted, Ranges.IsInRange, Run.run, Setting.Se
 use Rattle.tsp_run.proofs.{PossibleRun.accepted-possible, RunFits.possible-runs-fit}
 use Rattle.tsp_progress.specs.{AckedInTime.may_obey, AckedUse.before_set, AckedUse.set_line, AckedUse.sets_b, AckedUse.until_joins, AnswersUse.all_stay}
 use Rattle.tsp_progress.specs.{AnswersUse.until_wakes, TableUse.until_reports, TableUse.until_set, Worked.one_may}
-use Rattle.tsp_progress.proofs.{DeliveredChecks.delivered_by, MeanwhileChecks.obedient_by, UseLemmas.header_is, UseLemmas.ranges}
+use Rattle.tsp_progress.proofs.{DeliveredChecks.delivered_by, MeanwhileChecks.obedient_by, UseLemmas.header_is, UseLemmas.later_ranges, UseLemmas.ranges}
 use Rattle.tsp_progress.proofs.laws.acked_use.Goals as goal
 
 -- the rules give this
@@ -84,7 +82,6 @@ returns c = record {
   whole : Accepted one_may until_set
   whole = record {
     header_is = header_is;
-    ranges = All-cons IsInRange (Take 390050000 9) (Take 390040000 8 ∷ until_joins) tt (All-cons IsInRange (Take 390040000 8) until_joins tt
-        (All-cons IsInRange (Take 390030000 7) until_reports tt ranges));
+    ranges = later_ranges (Take 390050000 9 ∷ Take 390040000 8 ∷ Take 390030000 7 ∷ []) until_reports refl ranges;
     valid = (refl, (refl, (refl, (refl, (refl, (refl, (refl, (refl, (refl, (refl, (refl, (refl, (refl, (refl, (refl, tt)))))))))))))));
   }
