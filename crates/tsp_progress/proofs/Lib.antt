@@ -9,6 +9,7 @@ pub mod CueAlarms
 pub mod CueRows
 pub mod DebtKeeps
 pub mod DeliveredChecks
+pub mod FirstSearchProof
 pub mod FoundProof
 pub mod FreshProof
 pub mod GiveUpProof

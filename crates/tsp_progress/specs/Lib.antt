@@ -9,6 +9,7 @@ pub mod ByTable
 pub mod CausesFit
 pub mod Corrects
 pub mod Delivered
+pub mod FirstSearch
 pub mod FoundInTime
 pub mod FoundUse
 pub mod FreshLeads

@@ -117,6 +117,17 @@ pub fn found_use()
     ensures { FoundUse }
 {}
 
+ghost use Rattle.tsp_progress.specs.FirstSearch.{ClockedRunsFindFirst, RunsFindFirst};
+/// So does a port whose quiet time ends beside a master: it asks for one in the same step.
+pub fn runs_find_first()
+    ensures { RunsFindFirst }
+{}
+
+/// So it is in a run by any clocks.
+pub fn clocked_runs_find_first()
+    ensures { ClockedRunsFindFirst }
+{}
+
 ghost use Rattle.tsp_progress.specs.SentAway.{ClockedRunsSendAway, RunsSendAway};
 /// Where datagrams are delivered in time, a candidate that asks a master for its vote is sent away
 /// in time, and then follows it, if it has no other master; and a QUIT is acknowledged in time.
