@@ -10,6 +10,7 @@ pub mod CausesFit
 pub mod Corrects
 pub mod Delivered
 pub mod FirstSearch
+pub mod FirstSearchUse
 pub mod FoundInTime
 pub mod FoundUse
 pub mod FreshLeads

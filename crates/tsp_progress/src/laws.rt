@@ -128,6 +128,12 @@ pub fn clocked_runs_find_first()
     ensures { ClockedRunsFindFirst }
 {}
 
+ghost use Rattle.tsp_progress.specs.FirstSearchUse.{FirstSearchUse};
+/// A run in which it does, and one in which nobody leads, so that it isn't answered.
+pub fn first_search_use()
+    ensures { FirstSearchUse }
+{}
+
 ghost use Rattle.tsp_progress.specs.SentAway.{ClockedRunsSendAway, RunsSendAway};
 /// Where datagrams are delivered in time, a candidate that asks a master for its vote is sent away
 /// in time, and then follows it, if it has no other master; and a QUIT is acknowledged in time.
