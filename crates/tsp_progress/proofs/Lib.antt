@@ -30,6 +30,7 @@ pub mod PaceProof
 pub mod PortSetups
 pub mod PortWakes
 pub mod ProgressProof
+pub mod ReachesProof
 pub mod RoundKept
 pub mod RoundsProof
 pub mod RunWakes

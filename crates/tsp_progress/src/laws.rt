@@ -97,6 +97,18 @@ pub fn answers_use()
     ensures { AnswersUse }
 {}
 
+ghost use Rattle.tsp_progress.specs.ReachesInTime.{ClockedRunsReach, RunsReach};
+/// What a node is told reaches it in time: a MASTERUP or a QUIT, whose sender it follows if it has
+/// no master then, and a SLAVEUP, whose sender a master takes in.
+pub fn runs_reach()
+    ensures { RunsReach }
+{}
+
+/// So it is in a run by any clocks.
+pub fn clocked_runs_reach()
+    ensures { ClockedRunsReach }
+{}
+
 ghost use Rattle.tsp_progress.specs.FoundInTime.{ClockedRunsFind, RunsFind};
 /// Where datagrams are delivered in time, and twice that time is less than `WINDOW`, 5 s, a port
 /// that searches beside a master hears of it in time, and follows it, unless its role changed
