@@ -26,6 +26,7 @@ pub mod ObeyedInTime
 pub mod OneMay
 pub mod OneUse
 pub mod Progress
+pub mod ReachUse
 pub mod ReachesInTime
 pub mod RoundsRecur
 pub mod RunsWake

@@ -109,6 +109,12 @@ pub fn clocked_runs_reach()
     ensures { ClockedRunsReach }
 {}
 
+ghost use Rattle.tsp_progress.specs.ReachUse.{ReachUse};
+/// A run in which a report reaches a master in time, and one in which it is lost.
+pub fn reach_use()
+    ensures { ReachUse }
+{}
+
 ghost use Rattle.tsp_progress.specs.FoundInTime.{ClockedRunsFind, RunsFind};
 /// Where datagrams are delivered in time, and twice that time is less than `WINDOW`, 5 s, a port
 /// that searches beside a master hears of it in time, and follows it, unless its role changed
