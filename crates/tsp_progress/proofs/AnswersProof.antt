@@ -22,29 +22,29 @@ module _ {clocks : Clocks} {header : HeaderValue} {setting : Setting} (set : Set
     (table : ByTable header world) (long t : ℕ) (stays : ℕ → Bool) (s : List Line) (delivered : Delivered setting long t stays s world) where
   -- what is posted, and its taking
   module _ (l : Line) (older : List Line) (p : PeerId) (d : Datagram) (posts : PostsTo setting l older world p d) (a : Arrives setting long l older world p d)
-      where
-    apart-there : (node_of l == p.0) ≡ false
-    apart-there = differ p.0 (node_of l) posts.other
+    where
+      apart-there : (node_of l == p.0) ≡ false
+      apart-there = differ p.0 (node_of l) posts.other
 
-    -- the port that takes it is one of its node's, and its peers are the members of the network
-    port-there : PortIs header setting p.0 a.line.port
-    port-there = shared_port set p.0 a.line.port (node_of l) l.port (subst (λ n. setting.net n a.line.port ≡ setting.net (node_of l) l.port) a.node a.net)
-        posts.other
+      -- the port that takes it is one of its node's, and its peers are the members of the network
+      port-there : PortIs header setting p.0 a.line.port
+      port-there = shared_port set p.0 a.line.port (node_of l) l.port (subst (λ n. setting.net n a.line.port ≡ setting.net (node_of l) l.port) a.node a.net)
+          posts.other
 
-    heard-there : is_starting_role (role_before (node_in header p.0) a.line (of p.0 a.before)) ≡ false →
-        is_heard (peer_of (node_of l)) a.line.did.tick (port_before (node_in header p.0) a.line (of p.0 a.before)) ≡ true
-    heard-there awake =
-        let same : setting.net p.0 a.line.port ≡ setting.net (node_of l) l.port =
-        subst (λ n. setting.net n a.line.port ≡ setting.net (node_of l) l.port) a.node a.net in
-        let member : is_among (peer_of (node_of l)) (port_setup a.line.port (node_in header p.0)).peers ≡ true =
-        ap (is_among (peer_of (node_of l))) (port-there.peers ∙ ap setting.members same) ∙ setting.own (node_of l) l.port in
-        rw (member, awake) refl
+      heard-there : is_starting_role (role_before (node_in header p.0) a.line (of p.0 a.before)) ≡ false →
+          is_heard (peer_of (node_of l)) a.line.did.tick (port_before (node_in header p.0) a.line (of p.0 a.before)) ≡ true
+      heard-there awake =
+          let same : setting.net p.0 a.line.port ≡ setting.net (node_of l) l.port =
+          subst (λ n. setting.net n a.line.port ≡ setting.net (node_of l) l.port) a.node a.net in
+          let member : is_among (peer_of (node_of l)) (port_setup a.line.port (node_in header p.0)).peers ≡ true =
+          ap (is_among (peer_of (node_of l))) (port-there.peers ∙ ap setting.members same) ∙ setting.own (node_of l) l.port in
+          rw (member, awake) refl
 
-    foreign-there : is_own (Peer (peer_of (node_of l))) a.line.did.tick (port_before (node_in header p.0) a.line (of p.0 a.before)) ≡ false
-    foreign-there = ap (λ n. node_of l == n) port-there.own ∙ apart-there
+      foreign-there : is_own (Peer (peer_of (node_of l))) a.line.did.tick (port_before (node_in header p.0) a.line (of p.0 a.before)) ≡ false
+      foreign-there = ap (λ n. node_of l == n) port-there.own ∙ apart-there
 
-    place-there : Within (a.line ∷ of p.0 a.before) (of p.0 world)
-    place-there = own_place p.0 a.line a.before world a.node a.place
+      place-there : Within (a.line ∷ of p.0 a.before) (of p.0 world)
+      place-there = own_place p.0 a.line a.before world a.node a.place
 
   -- a message that is taken is heard, if its addressee isn't Starting
   pub hears_there : (l : Line) (older : List Line) (p : PeerId) (m : MessageValue) (posts : PostsTo setting l older world p (Message m))
@@ -236,7 +236,8 @@ module _ {clocks : Clocks} {header : HeaderValue} {setting : Setting} (set : Set
       let x = a.line.did.tick in
       let r : ReplyValue = record { ticket = ticket_at x past; word = word; counter = counter; reading = target_at x past } in
       let next = (all_measure header world table p.0).replies a.line (of p.0 a.before) (Peer (peer_of (node_of l))) word counter
-      (place-there l older p d asks.posts a) a.took (foreign-there l older p d asks.posts a) (meanwhile a.line a.before a.place a.later a.node a.net a.soon) in (
+      (place-there l older p d asks.posts a) a.took (foreign-there l older p d asks.posts a) (meanwhile a.line a.before a.place a.later a.node a.net a.soon) in
+          (
         r,
         (
           refl,

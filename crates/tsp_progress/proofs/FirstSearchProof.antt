@@ -1,21 +1,21 @@
 -- A port whose quiet time ends beside a master finds it in time.
-use Rattle.std.proofs.Common.{sym, ap, subst, arith, true≢false, inl, inr, ◌∙◌, ◌≡◌, ◌<◌, ◌≤◌, ◌||◌, ℕ, ◌+◌, ◌*◌, ◌==◌, ◌&&◌, not, Bool, true, false, List}
-use Rattle.std.proofs.Common.{[], ◌∷◌, ◌++◌, map, filter, if◌then◌else◌, Some, eq-eqb, eqb-true, refl}
-use Rattle.tsp_rules.specs.Values.{Act, Post, Become, Arm, Ring, Quiet, Search, MasterReq, Message, PeerId, Peer, Port, Loose, WINDOW, Placed}
-use Rattle.tsp_rules.specs.{Answers.alarm_rings, CommonRows.searches, SlaveRows.quiet_rings, NodeRows.NodePast, NodeRows.port_setup}
-use Rattle.tsp_base.specs.Words.{Acts, HeaderValue, Line, Past, Seen, Step, Within, arms, armed, bare, is_among, joined, line_of, of, others, peer_of, placed}
+use Rattle.std.proofs.Common.{sym, ap, subst, true≢false, inr, ◌∙◌, ◌≡◌, ◌||◌, ℕ, ◌+◌, ◌==◌, not, Bool, true, false, List}
+use Rattle.std.proofs.Common.{[], ◌∷◌, ◌++◌, map, if◌then◌else◌, Some, eq-eqb, eqb-true, refl}
+use Rattle.tsp_rules.specs.Values.{Act, Become, Arm, Ring, Quiet, Search, MasterReq, Message, PeerId, Port, Loose, WINDOW}
+use Rattle.tsp_rules.specs.{Answers.alarm_rings, CommonRows.searches, SlaveRows.quiet_rings}
+use Rattle.tsp_base.specs.Words.{Acts, HeaderValue, Line, Past, Step, Within, arms, armed, bare, is_among, joined, line_of, of, others, placed}
 use Rattle.tsp_base.specs.Words.{post_of, posts_to_others, puts, role, view, ◌followed_by◌}
 use Rattle.tsp_base.proofs.PlaceLemmas.{Within-all, Within-through}
 use Rattle.tsp_promises.specs.{Fits.Fits, Fits.node_of, Setting.Setting}
 use Rattle.tsp_run.specs.{Clocked.Clocks, Clocked.SetByClocks, Clocked.clocks_of, Clocked.run_by}
 use Rattle.tsp_run.proofs.{OwnClocks.possible_own, OwnClocks.runs_by_own_clocks, OwnClocks.set_own, RunFits.clocked_runs_fit}
 use Rattle.tsp_progress.specs.ByTable.{ByTable, RowStands, TableAt, alarm_row, node_in, port_before}
-use Rattle.tsp_progress.specs.{AnswersInTime.Asks, AnswersInTime.Meanwhile, Delivered.Delivered, FoundInTime.FoundInTime, FoundInTime.IsQuick}
+use Rattle.tsp_progress.specs.{AnswersInTime.Asks, AnswersInTime.Meanwhile, Delivered.Delivered, FoundInTime.IsQuick}
 use Rattle.tsp_progress.specs.{FoundInTime.Searching, Heeds.DoesNext, Heeds.is_master_role}
 use Rattle.tsp_progress.specs.FirstSearch.{Awakes, ClockedRunsFindFirst, FirstSearch, FoundFirst, RunsFindFirst}
 use Rattle.tsp_progress.proofs.{FoundProof.found_in_time, PortSetups.PortIs, PortSetups.differ, PortSetups.member_port, RunWakes.clocked_runs_wake}
 use Rattle.tsp_progress.proofs.{TableProof.clocked_runs_by_table, TableRows.within_joined}
-use Rattle.tsp_progress.proofs.WorldPlaces.{Among, WorldPlace, act_place, in_order, own_place, world_place}
+use Rattle.tsp_progress.proofs.WorldPlaces.{WorldPlace, act_place, in_order, own_place, world_place}
 use Rattle.tsp_rules.proofs.GuardFacts.{same_peer}
 use Rattle.tsp_progress.specs.{RunsWake.manner_of, Wakes.AllWake}
 

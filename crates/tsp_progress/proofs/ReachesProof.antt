@@ -1,14 +1,14 @@
 -- What a node is told reaches it in time.
-use Rattle.std.proofs.Common.{sym, subst, arith, true≢false, ◌≡◌, ◌&&◌, ℕ, Bool, true, false, List, ◌∷◌, refl}
+use Rattle.std.proofs.Common.{subst, ◌≡◌, ℕ, Bool, false, List, refl}
 use Rattle.std.proofs.lemmas.Bool.{and_parts}
-use Rattle.tsp_rules.specs.Values.{Message, MasterUp, QuitKind, SlaveUp, PeerId, Role, Starting}
+use Rattle.tsp_rules.specs.Values.{Message, PeerId}
 use Rattle.tsp_rules.specs.{Guards.is_starting_role, MasterRows.may_join}
 use Rattle.tsp_base.specs.Words.{HeaderValue, Line, MessageValue, of, peer_of}
 use Rattle.tsp_promises.specs.{Fits.node_of, Setting.Setting}
 use Rattle.tsp_run.specs.Clocked.{Clocks, SetByClocks, clocks_of, run_by}
 use Rattle.tsp_run.proofs.OwnClocks.{runs_by_own_clocks, set_own}
 use Rattle.tsp_progress.specs.{ByTable.ByTable, ByTable.node_in, Delivered.Arrives, Delivered.Delivered, SentAway.past_there}
-use Rattle.tsp_progress.specs.Heeds.{Hears, has_no_master, is_master_role, role_before}
+use Rattle.tsp_progress.specs.Heeds.{Hears, is_master_role, role_before}
 use Rattle.tsp_progress.specs.ReachesInTime.{ClockedRunsReach, ReachesInTime, RunsReach, Tells}
 use Rattle.tsp_progress.proofs.AnswersProof.{hears_there, master-awake}
 use Rattle.tsp_progress.proofs.{HeedsProof.all_heed, SentAwayProof.lone-awake, TableProof.clocked_runs_by_table}

@@ -1,5 +1,5 @@
 -- A run in which a report reaches a master in time, and one in which it is lost.
-use Rattle.std.specs.Prelude.{◌≡◌, List, codes}
+use Rattle.std.specs.Prelude.{List, codes}
 use Rattle.tsp_rules.specs.Values.{Message, Post, SlaveUp, Peer}
 use Rattle.tsp_base.specs.Words.{Acts, Came, Line, MessageValue, bare, first_port, line_of, peer_of as peer}
 use Rattle.tsp_promises.specs.Setting.{Setting}

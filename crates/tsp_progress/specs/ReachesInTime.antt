@@ -10,7 +10,8 @@ use Rattle.tsp_progress.specs.{Delivered.Arrives, Delivered.Delivered, Delivered
 use Rattle.tsp_progress.specs.Heeds.{DoesNext, follow_acts, has_no_master, is_master_role, posts_bare}
 
 -- at the line l, which is after the place s, its node posts message m to p, which stays; the true time t is later by more than `long`
-pub record Tells (setting : Setting) (long t : ℕ) (stays : ℕ → Bool) (s : List Line) (l : Line) (older world : List Line) (p : PeerId) (m : MessageValue) : Type 0
+pub record Tells (setting : Setting) (long t : ℕ) (stays : ℕ → Bool) (s : List Line) (l : Line) (older world : List Line) (p : PeerId) (m : MessageValue) : Type
+    0
   where
     pub posts : PostsTo setting l older world p (Message m)
     pub since : Within s older

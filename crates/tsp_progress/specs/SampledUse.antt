@@ -1,5 +1,5 @@
 -- A round in which a peer is measured and answers, and rounds in which its answers don't come.
-use Rattle.std.specs.Prelude.{◌≡◌, ℕ, zero, suc, pos, neg_ℤ, false, true, List, [], ◌∷◌, codes}
+use Rattle.std.specs.Prelude.{◌≡◌, ℕ, zero, suc, pos, neg_ℤ, false, List, [], ◌∷◌, codes}
 use Rattle.tsp_rules.specs.Values.{AdjTime, Arm, Close, Correct, Event, Leave, Ring, Take, Turn, CloseAlarm}
 use Rattle.tsp_rules.specs.Guards.{is_in_range}
 use Rattle.tsp_base.specs.Words.{Acts, Line, Turned, first_port, line_of, peer_of as peer, timed}

@@ -24,12 +24,12 @@ use Rattle.tsp_rules.specs.GateRows.{loosens_master, forwards, takes_loop_step, 
 use Rattle.tsp_rules.specs.GateRows.{answers_all, boots_on, boots_all}
 use Rattle.tsp_group.specs.Groups.{group_from, goes_before, better}
 use Rattle.tsp_codec.specs.Taken.{taken_of}
-use Rattle.std.proofs.Common.{ap, arith, inr, subst, sym, ◌∙◌, ◌≡◌, ℕ, ◌+◌, ◌*◌, ◌/◌, ◌<◌, true, List, ◌∷◌, All, []}
+use Rattle.std.proofs.Common.{ap, arith, inr, subst, sym, ◌∙◌, ℕ, ◌+◌, ◌*◌, ◌/◌, ◌<◌, ◌∷◌, []}
 use Rattle.tsp_rules.specs.{SlaveRows.takes_value, Values.Take}
-use Rattle.tsp_base.specs.Words.{first_port, is_among, peer_of, time_in, Within, Line}
+use Rattle.tsp_base.specs.Words.{first_port, is_among, peer_of, time_in}
 use Rattle.tsp_base.proofs.PlaceLemmas.{Within-all}
-use Rattle.tsp_promises.specs.{Setting.Named, Setting.Setting}
-use Rattle.tsp_run.specs.{Ranges.Accepted, Ranges.IsInRange, Run.run, Setting.SetBy}
+use Rattle.tsp_promises.specs.{Setting.Named}
+use Rattle.tsp_run.specs.{Ranges.Accepted, Run.run}
 use Rattle.tsp_run.proofs.{PossibleRun.accepted-possible, RunFits.possible-runs-fit}
 use Rattle.tsp_progress.specs.{AckedInTime.may_obey, AckedUse.before_set, AckedUse.set_line, AckedUse.sets_b, AckedUse.until_joins, AnswersUse.all_stay}
 use Rattle.tsp_progress.specs.{AnswersUse.until_wakes, TableUse.until_reports, TableUse.until_set, Worked.one_may}
@@ -72,11 +72,71 @@ returns c = record {
       (possible-runs-fit one_may setting until_set set (accepted-possible one_may until_set whole)).0 refl;
   prompt = λ setting set. subst (λ (d : ℕ). 2 * 10000 + (d * (2 * 10000) + 999999) / 1000000 < 3000000) (sym set.drift_is) (omega arith);
   slow = λ setting set prompt. omega (arith, prompt);
-  late_valid = (refl, (refl, (refl, (refl, (refl, (refl, (refl, (refl, (refl, (refl, (refl, (refl, (refl, (refl, (refl, (refl, (refl, (refl, tt))))))))))))))))));
+  late_valid = (
+    refl,
+    (
+      refl,
+      (
+        refl,
+        (
+          refl,
+          (
+            refl,
+            (
+              refl,
+              (
+                refl,
+                (
+                  refl,
+                  (
+                    refl,
+                    (
+                      refl,
+                      (refl, (refl, (refl, (refl, (refl, (refl, (refl, (refl, tt)))))))),
+                    ),
+                  ),
+                ),
+              ),
+            ),
+          ),
+        ),
+      ),
+    ),
+  );
   late = refl;
   lost_valid = (refl, (refl, (refl, (refl, (refl, (refl, (refl, (refl, (refl, (refl, (refl, (refl, (refl, (refl, (refl, (refl, (refl, tt)))))))))))))))));
   lost = refl;
-  idle_valid = (refl, (refl, (refl, (refl, (refl, (refl, (refl, (refl, (refl, (refl, (refl, (refl, (refl, (refl, (refl, (refl, (refl, (refl, tt))))))))))))))))));
+  idle_valid = (
+    refl,
+    (
+      refl,
+      (
+        refl,
+        (
+          refl,
+          (
+            refl,
+            (
+              refl,
+              (
+                refl,
+                (
+                  refl,
+                  (
+                    refl,
+                    (
+                      refl,
+                      (refl, (refl, (refl, (refl, (refl, (refl, (refl, (refl, tt)))))))),
+                    ),
+                  ),
+                ),
+              ),
+            ),
+          ),
+        ),
+      ),
+    ),
+  );
   idle = refl;
 } where
   whole : Accepted one_may until_set

@@ -24,8 +24,8 @@ use Rattle.tsp_rules.specs.GateRows.{loosens_master, forwards, takes_loop_step, 
 use Rattle.tsp_rules.specs.GateRows.{answers_all, boots_on, boots_all}
 use Rattle.tsp_group.specs.Groups.{group_from, goes_before, better}
 use Rattle.tsp_codec.specs.Taken.{taken_of}
-use Rattle.std.proofs.Common.{arith, inr, List, ◌∷◌}
-use Rattle.tsp_base.specs.Words.{peer_of, role, Within, Line}
+use Rattle.std.proofs.Common.{arith, inr, ◌∷◌}
+use Rattle.tsp_base.specs.Words.{peer_of, role}
 use Rattle.tsp_base.proofs.PlaceLemmas.{Within-all}
 use Rattle.tsp_run.specs.{Run.run}
 use Rattle.tsp_progress.specs.{AnswersUse.until_wakes, FirstSearchUse.before_quiet, FirstSearchUse.quiet_line, Heeds.is_master_role}

@@ -50,7 +50,8 @@ unfolding taken_of kind_of kind_number carries_time carries_hops nothing puts 鈼
     begins_round_on alarm_on alarms_on turns_on reposts reposts_on loosens_master forwards takes_loop_step judges heeds_loop takes_loop takes_message takes_kind
     takes_on input_all answers_all boots_on boots_all steps
 returns c = record {
-  told = 位 setting set. tells setting set (run one_may until_set) (inr (inr (inr (inr (inr (inr (inr (inr (inr (inr (inr (inr (Within-all (run one_may until_reports))))))))))))));
+  told = 位 setting set. tells setting set (run one_may until_set) (inr (inr (inr (inr
+      (inr (inr (inr (inr (inr (inr (inr (inr (Within-all (run one_may until_reports))))))))))))));
   lost_told = 位 setting set. tells setting set (run one_may until_reports) (Within-all (run one_may until_reports));
   lost = 位 setting set reaches.
       let r = reaches.slaveup report_line (tail_of (run one_may until_reports)) (peer_of 0) report (tells setting set (run one_may until_reports)

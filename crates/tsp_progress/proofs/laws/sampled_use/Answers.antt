@@ -24,12 +24,12 @@ use Rattle.tsp_rules.specs.GateRows.{loosens_master, forwards, takes_loop_step, 
 use Rattle.tsp_rules.specs.GateRows.{answers_all, boots_on, boots_all}
 use Rattle.tsp_group.specs.Groups.{group_from, goes_before, better}
 use Rattle.tsp_codec.specs.Taken.{taken_of}
-use Rattle.std.proofs.Common.{ap, arith, inr, subst, sym, ◌∙◌, ◌≡◌, ℕ, ◌+◌, ◌*◌, ◌/◌, ◌<◌, true, List, ◌∷◌, All, []}
+use Rattle.std.proofs.Common.{ap, arith, inr, subst, sym, ◌∙◌, ℕ, ◌+◌, ◌*◌, ◌/◌, ◌<◌, ◌∷◌, []}
 use Rattle.tsp_rules.specs.{Guards.is_in_range, Values.Take, Values.Turn}
-use Rattle.tsp_base.specs.Words.{first_port, is_among, peer_of, Within, Line}
+use Rattle.tsp_base.specs.Words.{first_port, is_among, peer_of}
 use Rattle.tsp_base.proofs.PlaceLemmas.{Within-all}
-use Rattle.tsp_promises.specs.{Setting.Named, Setting.Setting}
-use Rattle.tsp_run.specs.{Ranges.Accepted, Ranges.IsInRange, Run.run, Setting.SetBy}
+use Rattle.tsp_promises.specs.{Setting.Named}
+use Rattle.tsp_run.specs.{Ranges.Accepted, Run.run}
 use Rattle.tsp_run.proofs.{PossibleRun.accepted-possible, RunFits.possible-runs-fit}
 use Rattle.tsp_progress.specs.{AnswersUse.all_stay, TableUse.until_reports, TableUse.until_set, Worked.one_may}
 use Rattle.tsp_progress.specs.SampledUse.{before_begin, before_close, begin_line, close_line, until_corrects}
@@ -62,7 +62,10 @@ returns c = record {
     deed = refl;
     begin = begin_line;
     before = before_begin;
-    began = inr (inr (inr (inr (inr (inr (inr (inr (inr (inr (inr (inr (inr (inr (inr (inr (inr (inr (inr (inr (inr (inr (inr (inr (inr (inr (inr (inr (inr (inr (inr (inr (inr (inr (inr (inr (inr (inr (inr (inr (inr (inr (inr (inr (inr (Within-all (begin_line ∷ before_begin))))))))))))))))))))))))))))))))))))))))))))));
+    began = inr (inr (inr (inr (inr (inr (inr (inr (inr (inr (inr (inr (inr (inr (inr
+        (inr (inr (inr (inr (inr (inr (inr (inr (inr (inr (inr (inr (inr (inr (inr
+        (inr (inr (inr (inr (inr (inr (inr (inr (inr (inr (inr (inr (inr (inr (inr (Within-all (begin_line ∷
+        before_begin))))))))))))))))))))))))))))))))))))))))))))));
     node = refl;
     port = refl;
     started_is = refl;
@@ -81,10 +84,70 @@ returns c = record {
       (possible-runs-fit one_may setting until_corrects set (accepted-possible one_may until_corrects whole)).0 refl;
   swift = λ setting set. subst (λ (d : ℕ). 2 * 10000 + (d * (2 * 10000) + 999999) / 1000000 < 8000000) (sym set.drift_is) (omega arith);
   corrects = refl;
-  lost_valid = (refl, (refl, (refl, (refl, (refl, (refl, (refl, (refl, (refl, (refl, (refl, (refl, (refl, (refl, (refl, (refl, (refl, (refl, (refl, (refl, tt))))))))))))))))))));
+  lost_valid = (
+    refl,
+    (
+      refl,
+      (
+        refl,
+        (
+          refl,
+          (
+            refl,
+            (
+              refl,
+              (
+                refl,
+                (
+                  refl,
+                  (
+                    refl,
+                    (
+                      refl,
+                      (refl, (refl, (refl, (refl, (refl, (refl, (refl, (refl, (refl, (refl, tt)))))))))),
+                    ),
+                  ),
+                ),
+              ),
+            ),
+          ),
+        ),
+      ),
+    ),
+  );
   lost = refl;
   slow = λ setting set swift. omega (arith, swift);
-  slow_valid = (refl, (refl, (refl, (refl, (refl, (refl, (refl, (refl, (refl, (refl, (refl, (refl, (refl, (refl, (refl, (refl, (refl, (refl, (refl, (refl, (refl, (refl, (refl, (refl, (refl, tt)))))))))))))))))))))))));
+  slow_valid = (
+    refl,
+    (
+      refl,
+      (
+        refl,
+        (
+          refl,
+          (
+            refl,
+            (
+              refl,
+              (
+                refl,
+                (
+                  refl,
+                  (
+                    refl,
+                    (
+                      refl,
+                      (refl, (refl, (refl, (refl, (refl, (refl, (refl, (refl, (refl, (refl, (refl, (refl, (refl, (refl, (refl, tt))))))))))))))),
+                    ),
+                  ),
+                ),
+              ),
+            ),
+          ),
+        ),
+      ),
+    ),
+  );
   slowly = refl;
 } where
   whole : Accepted one_may until_corrects
@@ -93,5 +156,68 @@ returns c = record {
     ranges = later_ranges (Turn 638000000 0 ∷ Take 633020000 19 ∷ Take 633010000 18 ∷ Turn 633000000 0 ∷ Take 632020000 17 ∷ Take 632010000 16 ∷
         Turn 632000000 0 ∷ Take 631020000 15 ∷ Take 631010000 14 ∷ Turn 631000000 0 ∷ Take 630020000 13 ∷ Take 630020000 12 ∷ Take 630010000 11 ∷
         Take 630010000 10 ∷ Turn 630000000 0 ∷ Take 390050000 9 ∷ Take 390040000 8 ∷ Take 390030000 7 ∷ []) until_reports refl ranges;
-    valid = (refl, (refl, (refl, (refl, (refl, (refl, (refl, (refl, (refl, (refl, (refl, (refl, (refl, (refl, (refl, (refl, (refl, (refl, (refl, (refl, (refl, (refl, (refl, (refl, (refl, (refl, (refl, (refl, (refl, (refl, tt))))))))))))))))))))))))))))));
+    valid = (
+      refl,
+      (
+        refl,
+        (
+          refl,
+          (
+            refl,
+            (
+              refl,
+              (
+                refl,
+                (
+                  refl,
+                  (
+                    refl,
+                    (
+                      refl,
+                      (
+                        refl,
+                        (
+                          refl,
+                          (
+                            refl,
+                            (
+                              refl,
+                              (
+                                refl,
+                                (
+                                  refl,
+                                  (
+                                    refl,
+                                    (
+                                      refl,
+                                      (
+                                        refl,
+                                        (
+                                          refl,
+                                          (
+                                            refl,
+                                            (
+                                              refl,
+                                              (refl, (refl, (refl, (refl, (refl, (refl, (refl, (refl, (refl, tt))))))))),
+                                            ),
+                                          ),
+                                        ),
+                                      ),
+                                    ),
+                                  ),
+                                ),
+                              ),
+                            ),
+                          ),
+                        ),
+                      ),
+                    ),
+                  ),
+                ),
+              ),
+            ),
+          ),
+        ),
+      ),
+    );
   }
