@@ -1,5 +1,5 @@
 -- What a node is told reaches it in time.
-use Rattle.std.proofs.Common.{subst, ◌≡◌, ℕ, Bool, false, List, refl}
+use Rattle.std.proofs.Common.{ap, subst, ◌≡◌, ℕ, Bool, false, List, refl}
 use Rattle.std.proofs.lemmas.Bool.{and_parts}
 use Rattle.tsp_rules.specs.Values.{Message, PeerId}
 use Rattle.tsp_rules.specs.{Guards.is_starting_role, MasterRows.may_join}
@@ -42,6 +42,16 @@ module _ {clocks : Clocks} {header : HeaderValue} {setting : Setting} (set : Set
           let both = and_parts (is_master_role r) (may_join (peer_of (node_of l)) m.number a.line.did.tick (past_there header p.0 a.line a.before)) may in
           (all_heed header world table p.0).serves.joins a.line (of p.0 a.before) (peer_of (node_of l)) m
           (hears l older p m tells (master-awake set world table long t stays s delivered r both.0)) kind both.0 both.1;
+    };
+    adjtime = λ l older p m tells kind. let a = arrival l older p m tells in record {
+      arrives = a;
+      does = λ follows steer takes. (all_heed header world table p.0).obeys.adjtime a.line (of p.0 a.before) (peer_of (node_of l)) m
+          (hears l older p m tells (ap is_starting_role follows)) kind follows steer takes;
+    };
+    settime = λ l older p m tells kind. let a = arrival l older p m tells in record {
+      arrives = a;
+      does = λ follows steer takes. (all_heed header world table p.0).obeys.settime a.line (of p.0 a.before) (peer_of (node_of l)) m
+          (hears l older p m tells (ap is_starting_role follows)) kind follows steer takes;
     };
   }
 

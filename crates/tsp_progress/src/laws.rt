@@ -99,7 +99,8 @@ pub fn answers_use()
 
 ghost use Rattle.tsp_progress.specs.ReachesInTime.{ClockedRunsReach, RunsReach};
 /// What a node is told reaches it in time: a MASTERUP or a QUIT, whose sender it follows if it has
-/// no master then, and a SLAVEUP, whose sender a master takes in.
+/// no master then, a SLAVEUP, whose sender a master takes in, and its master's correction, which
+/// moves its clock if it may take it then.
 pub fn runs_reach()
     ensures { RunsReach }
 {}
