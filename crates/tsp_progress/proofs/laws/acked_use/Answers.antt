@@ -31,7 +31,8 @@ use Rattle.tsp_base.proofs.PlaceLemmas.{Within-all}
 use Rattle.tsp_promises.specs.{Setting.Named}
 use Rattle.tsp_run.specs.{Ranges.Accepted, Run.run}
 use Rattle.tsp_run.proofs.{PossibleRun.accepted-possible, RunFits.possible-runs-fit}
-use Rattle.tsp_progress.specs.{AckedInTime.may_obey, AckedUse.before_set, AckedUse.set_line, AckedUse.sets_b, AckedUse.until_joins, AnswersUse.all_stay, AnswersUse.tail_of}
+use Rattle.tsp_progress.specs.{AckedInTime.may_obey, AckedUse.before_set, AckedUse.set_line, AckedUse.sets_b, AckedUse.until_joins, AnswersUse.all_stay}
+use Rattle.tsp_progress.specs.{AnswersUse.tail_of}
 use Rattle.tsp_progress.specs.{AnswersUse.until_wakes, TableUse.until_reports, TableUse.until_set, Worked.one_may}
 use Rattle.tsp_progress.proofs.{DeliveredChecks.delivered_by, MeanwhileChecks.obedient_by, UseLemmas.header_is, UseLemmas.later_ranges, UseLemmas.ranges}
 use Rattle.tsp_progress.proofs.laws.acked_use.Goals as goal
