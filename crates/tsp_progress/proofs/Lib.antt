@@ -45,4 +45,5 @@ pub mod TableRows
 pub mod UseLemmas
 pub mod Waking
 pub mod WatchChecks
+pub mod WinsLateProof
 pub mod WorldPlaces

@@ -19,6 +19,7 @@ pub mod Heeds
 pub mod Humble
 pub mod InTime
 pub mod LoneLeads
+pub mod MeanwhileUse
 pub mod Measures
 pub mod Needed
 pub mod NeverLate
@@ -39,4 +40,5 @@ pub mod Stands
 pub mod TableUse
 pub mod Wakes
 pub mod Watched
+pub mod WinsLate
 pub mod Worked

@@ -97,6 +97,12 @@ pub fn answers_use()
     ensures { AnswersUse }
 {}
 
+ghost use Rattle.tsp_progress.specs.MeanwhileUse.{MeanwhileUse};
+/// Runs in which a QUIT and an ELECTION come to a node that boots before, and aren't answered.
+pub fn meanwhile_use()
+    ensures { MeanwhileUse }
+{}
+
 ghost use Rattle.tsp_progress.specs.ReachesInTime.{ClockedRunsReach, RunsReach};
 /// What a node is told reaches it in time: a MASTERUP or a QUIT, whose sender it follows if it has
 /// no master then, a SLAVEUP, whose sender a master takes in, and its master's correction, which
@@ -192,6 +198,17 @@ pub fn runs_give_up()
 /// So it is in a run by any clocks.
 pub fn clocked_runs_give_up()
     ensures { ClockedRunsGiveUpLate }
+{}
+
+ghost use Rattle.tsp_progress.specs.WinsLate.{ClockedRunsWinLate, RunsWinLate};
+/// A candidate wins no sooner than `WINDOW`, 5 s, after it stood for election.
+pub fn runs_win_late()
+    ensures { RunsWinLate }
+{}
+
+/// So it is in a run by any clocks.
+pub fn clocked_runs_win_late()
+    ensures { ClockedRunsWinLate }
 {}
 
 ghost use Rattle.tsp_progress.specs.AckedInTime.{ClockedRunsAcknowledge, RunsAcknowledge};
