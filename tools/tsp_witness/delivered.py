@@ -8,6 +8,8 @@ from tsp_witness import faults
 MILLION = 10**6
 # Twice this is how long a search waits for its answer, so what is proved of answers asks for less.
 LONG = 2_500_000
+# Of so many starts late looks are shown.
+MOST_SHOWN = 10
 # A datagram's time is bounded by so many of those that were taken before it and after it.
 NEAR = 4
 
@@ -25,13 +27,14 @@ class Way:
 
 
 class Drift:
-    """How much true time passes while a counter within the drift counts so much, backwards too, in whole microseconds."""
+    """How much true time passes while a counter within the drift counts so much, backwards too, in whole microseconds. (that share of a span is rounded up)"""
 
     def __init__(self, drift):
-        self.drift = drift
+        self.drift, self.rounded = drift, int(drift > 0)
 
     def most(self, ticks):
         """At most so much."""
+        ticks += self.rounded
         return -(-ticks * MILLION // (MILLION - self.drift if ticks > 0 else MILLION + self.drift))
 
     def least(self, ticks):
@@ -129,6 +132,9 @@ class Delivery:
     def lines(self):
         """Lines that say how long datagrams took, and since when they came in time."""
         sent, longest = len(self.ways) + len(self.lost), self.longest()
+        if not sent:
+            yield 'these hosts posted no datagram to each other'
+            return
         yield f'{len(self.ways)} of {sent} datagrams that these hosts posted to each other were taken'
         if longest:
             yield f'they took at most {progress.seconds(longest.most)}, and at least {progress.seconds(max(way.least for way in self.ways))} in one case: ' \
@@ -156,10 +162,13 @@ def kept_of(judgement):
 
 def lines(judgement):
     """What is told of a network."""
-    whole = progress.Kept()
+    whole, broke = progress.Kept(), []
     for kept in kept_of(judgement):
         whole.add(kept)
-        yield from kept.broke()
+        broke += kept.broke()
+    yield from broke[:MOST_SHOWN]
+    if len(broke) > MOST_SHOWN:
+        yield f'and so on {len(broke) - MOST_SHOWN} starts more'
     yield from whole.attended()
     delivery = None if judgement.fitting.contradiction else Delivery(judgement)
     yield from delivery.lines() if delivery else ['how long datagrams took isn\'t told, as no times fit']
