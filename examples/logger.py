@@ -4,7 +4,8 @@
 usage: logger.py NAME
 
 A line is `SECONDS ERROR NAME LINE`: the time since 1970, and how far it may be from the master's clock, both in seconds. Of two lines of any hosts that
-were logged farther apart than both errors together, the later one sorts later: `sort -n host1.log host2.log host3.log`.
+were logged farther apart than both errors together, the later one sorts later: `sort -n host1.log host2.log host3.log`. A line that has no time, `- -`, comes
+first.
 """
 import sys
 
@@ -21,9 +22,15 @@ def stamp(clock):
 
 
 def main():
+    if len(sys.argv) != 2:
+        print('usage: logger.py NAME', file=sys.stderr)
+        sys.exit(2)
     name, clock = sys.argv[1], tsp_clock.Clock()
     for line in sys.stdin:
         print(stamp(clock), name, line.rstrip('\n'), flush=True)
 
 
-main()
+try:
+    main()
+except OSError as fault:
+    sys.exit(f'logger.py: {fault.filename}: {fault.strerror}')

@@ -5,9 +5,10 @@ two hosts, all who read the journals find the later one.
 usage: store.py JOURNAL        writes each line `KEY VALUE` of standard input, and answers `done`, `unsure` or `refused`
        store.py --read FILE..  prints what all journals together hold
 
-Each write is stamped with the latest time that it can be, and answered when each later stamp of any host is greater (commit wait). A round of the network's
-master moves clocks that agree by 40 ms at most, and hosts learn of that one after the other: so much more is waited for. Writes are refused while no
-master is known. They are `unsure` where that took too long: the write is there, and where it stands among others isn't known.
+Each write is stamped with the latest time that it can be. It comes into the journal, and is answered, when each later stamp of any host is greater (commit
+wait): nobody knows of it before. A round of the network's master moves clocks that agree by 40 ms at most, and hosts learn of that one after the other: so
+much more is waited for. A write is `refused` if no master is known, or if the line has no value. It is `unsure` if the wait took too long. Nothing is
+written then.
 """
 import sys
 
@@ -20,11 +21,13 @@ ROUND, LONGEST = 40_000, 10
 def write(clock, journal, line):
     """Writes a line, and says what came of it."""
     now = clock.now()
-    if now.status != tsp_clock.SYNCHRONISED:
+    if now.status != tsp_clock.SYNCHRONISED or ' ' not in line:
         return 'refused'
+    if not tsp_clock.wait_after(clock, now.latest + ROUND, LONGEST):
+        return 'unsure'
     journal.write(f'{now.latest} {line}\n')
     journal.flush()
-    return 'done' if tsp_clock.wait_after(clock, now.latest + ROUND, LONGEST) else 'unsure'
+    return 'done'
 
 
 def read(paths):
@@ -37,14 +40,21 @@ def read(paths):
 
 
 def main():
-    if sys.argv[1] == '--read':
-        for key, value in sorted(read(sys.argv[2:]).items()):
+    words = sys.argv[1:]
+    if not words or words[0] != '--read' and len(words) > 1:
+        print('usage: store.py JOURNAL | --read FILE..', file=sys.stderr)
+        sys.exit(2)
+    if words[0] == '--read':
+        for key, value in sorted(read(words[1:]).items()):
             print(key, value)
         return
     clock = tsp_clock.Clock()
-    with open(sys.argv[1], 'a', encoding='utf-8') as journal:
+    with open(words[0], 'a', encoding='utf-8') as journal:
         for line in sys.stdin:
             print(write(clock, journal, line.rstrip('\n')), flush=True)
 
 
-main()
+try:
+    main()
+except OSError as fault:
+    sys.exit(f'store.py: {fault.filename}: {fault.strerror}')

@@ -40,15 +40,15 @@ extern "C" {
 
 /* What is known of the clock. An interval comes with TSP_SYNCHRONISED and TSP_HOLDING alone. */
 enum tsp_status {
-    TSP_STALE = 0,        /* the daemon doesn't run, or nobody writes the page any more */
-    TSP_WAITING = 1,      /* no master yet, or no correction since the daemon's start */
-    TSP_SYNCHRONISED = 2, /* the daemon leads, or follows a master and was corrected */
-    TSP_HOLDING = 3       /* it had a master, and has none now, or one that doesn't answer */
+    TSP_STALE = 0,        /* the daemon ended properly, or hasn't written for 64 seconds (one that was killed may have any status until then) */
+    TSP_WAITING = 1,      /* no master yet, or nobody has looked at its clock since the daemon's start */
+    TSP_SYNCHRONISED = 2, /* the daemon leads, or follows a master that was looked at in the last 64 seconds */
+    TSP_HOLDING = 3       /* it had a master, and has none now, or one that hasn't answered for 64 seconds */
 };
 
 enum tsp_role { TSP_NOBODY = 0, TSP_FOLLOWS = 1, TSP_LEADS = 2 };
 
-/* The network's time at a moment. With TSP_STALE only `life` and `steps` are told. */
+/* The network's time at a moment. With TSP_STALE only `life` and `steps` are told, and not even these if the daemon ended properly or there is no page. */
 typedef struct {
     int64_t shown;    /* it never falls within a life, except at a step */
     int64_t earliest; /* the master's clock, as it ran on since it was asked, is no less */
@@ -249,8 +249,10 @@ static inline int tsp_interval_of(tsp_halves *page, int64_t tick, tsp_time *time
 static inline int tsp_is_stale(const tsp_daemon *d, tsp_time *time)
 {
     memset(time, 0, sizeof *time);
-    time->life = d->life;
-    time->steps = d->steps;
+    if (d->sequence != 0) { /* or else no daemon runs */
+        time->life = d->life;
+        time->steps = d->steps;
+    }
     return TSP_STALE;
 }
 
@@ -342,6 +344,7 @@ static inline int tsp_read(const tsp_page *page, tsp_halves *copy, int64_t *now)
     }
 }
 
+/* Unmaps the page. Whoever reads the clock after that opens it again. */
 static inline void tsp_clock_close(tsp_clock *clock)
 {
     if (clock->page != NULL)
@@ -433,8 +436,8 @@ static inline int tsp_clock_now(tsp_clock *clock, tsp_time *time)
     return tsp_clock_seek(clock, time);
 }
 
-/* Waits until each later time of the network is after this one: 1 when it is, and 0 if it isn't within so many microseconds. More than TSP_LONGEST
- * is taken as that, so INT64_MAX is as good as without an end; what is below 0 is taken as 0. */
+/* Waits until the master's clock is surely past this stamp: 1 when it is, and 0 if it isn't within so many microseconds. More than TSP_LONGEST
+ * is taken as that, so INT64_MAX waits without an end; what is below 0 is taken as 0. */
 static inline int tsp_clock_wait_after(tsp_clock *clock, int64_t stamp, int64_t longest)
 {
     const struct timespec pause = {0, 100000};

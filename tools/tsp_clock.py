@@ -6,6 +6,7 @@
 
 Times are microseconds since 1970. tsp_clock(3) says what they are.
 """
+import errno
 import mmap
 import os
 import stat
@@ -206,7 +207,8 @@ def read(octets_at):
 
 
 class Clock:
-    """A page that is read. `path` is that of TSP_CLOCK, or /run/tsp/clock, where it is left out. OSError comes where there is no page."""
+    """A page that is read. `path` is that of TSP_CLOCK, or /run/tsp/clock, where it is left out. OSError comes where there is no page: EINVAL if something else is
+    there, or a page of another version."""
 
     def __init__(self, path=None):
         self.path = path or os.environ.get('TSP_CLOCK') or PATH
@@ -219,12 +221,12 @@ class Clock:
         try:
             about = os.fstat(number)
             if not stat.S_ISREG(about.st_mode) or about.st_size < SIZE:
-                raise OSError(0, 'it is no page of the network\'s time', self.path)
+                raise OSError(errno.EINVAL, 'it is no page of the network\'s time', self.path)
             found = mmap.mmap(number, SIZE, access=mmap.ACCESS_READ)
         finally:
             os.close(number)
         if HEAD.unpack_from(found) != (MAGIC, VERSION, SIZE):
-            raise OSError(0, 'it is no page of the network\'s time, or one of another version', self.path)
+            raise OSError(errno.EINVAL, 'it is no page of the network\'s time, or one of another version', self.path)
         self.map = found
 
     def read(self):
@@ -251,7 +253,7 @@ class Clock:
 
 
 def wait_after(clock, stamp, longest=None):
-    """Waits until each later time of the network is after this one, and says whether that is so: within so many seconds, if they are given."""
+    """Waits until the master's clock is surely past this stamp, and says whether that is so: within so many seconds, if they are given."""
     until = None if longest is None else time.monotonic() + longest
     while True:
         now = clock.now()

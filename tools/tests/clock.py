@@ -3,6 +3,7 @@
 
 COUNT is how many moments are compared, and how often a page is read that is being written.
 """
+import errno
 import os
 import random
 import signal
@@ -141,18 +142,19 @@ def random_page():
 
 
 def in_c():
-    """The header's times are those of the module."""
-    made = [random_page() for _ in range(max(COUNT // 10, 1000))]
+    """The header's times are those of the module, also of pages whose daemon has ended."""
+    made = [(made_page.octets(page, DRAW.choice([2] * 19 + [0])), now) for page, now in (random_page() for _ in range(max(COUNT // 10, 1000)))]
     path, length = os.path.join(FOLDER, 'pages'), LOOK_AT + SEQUENCE.size + LOOK_FIELDS.size
     with open(path, 'wb') as file:
-        for page, now in made:
-            file.write(made_page.octets(page)[:length] + struct.pack('<q', now))
+        for octets, now in made:
+            file.write(octets[:length] + struct.pack('<q', now))
     ran = subprocess.run([READER, 'times', path], stdout=subprocess.PIPE, check=True)
     told, statuses = ran.stdout.decode().splitlines(), [0] * 4
     wanted(len(told) == len(made), f'{len(told)} of {len(made)} pages are read')
-    for (page, now), line in zip(made, told):
+    for (octets, now), line in zip(made, told):
+        page, _ = tsp_clock.read_once(lambda place, count, octets=octets: octets[place:place + count])
         found = tsp_clock.now_of(page, now)
-        values = [found.status, *(value or 0 for value in (found.shown, found.earliest, found.latest, found.age)), found.role]
+        values = [found.status, *(value or 0 for value in (found.shown, found.earliest, found.latest, found.age)), found.role, found.life, found.steps]
         wanted(line == ' '.join(map(str, values)), f'{page} at {now} is {line} in C, and {values} in Python (seed {SEED})')
         statuses[found.status] += 1
     wanted(all(count > len(made) // 50 for count in statuses), f'of the four statuses there are {statuses}')
@@ -380,6 +382,22 @@ def refused(kind, path):
     raise SystemExit(f'clock: {path} is taken for a page')
 
 
+def no_pages():
+    """What is no page, or one of another version, says so in C and in Python, by the same number; and a path at which nothing is."""
+    text, other, nothing = (os.path.join(FOLDER, name) for name in ('text', 'other-version', 'nothing'))
+    for path, octets in (text, b'a text'), (other, made_page.octets(Page())[:8] + b'\1' + bytes(SIZE - 9)):
+        with open(path, 'wb') as file:
+            file.write(octets)
+    for path, number in (text, errno.EINVAL), (other, errno.EINVAL), ('/dev/null', errno.EINVAL), (nothing, errno.ENOENT):
+        ran = subprocess.run([READER, 'open', path], stdout=subprocess.PIPE, check=False)
+        try:
+            tsp_clock.Clock(path)
+            found = 0
+        except OSError as fault:
+            found = fault.errno
+        wanted([int(ran.stdout), found] == [number, number], f'{path} gives {ran.stdout} in C, and {found} in Python')
+
+
 def files():
     """The page's file: what may become one, who may keep it, and what becomes of one that is removed."""
     folder = os.path.join(FOLDER, 'files')
@@ -439,6 +457,7 @@ def main():
     looks()
     stood_still()
     files()
+    no_pages()
     print(f'{compared} moments as in replay, {found} pages in C as in Python, {torn()}')
 
 

@@ -26,7 +26,7 @@ for shown in readme page programs; do
     cc -std=gnu99 $flags -o "$out/$shown" "$out/$shown.c" || fail "what $shown shows is no program"
 done
 sed -n '/^import tsp_clock/,/^ *print/p' README.md >"$out/readme.py"
-sed -n '/^import tsp_clock/,/^ *print/p' docs/PROGRAMS.md >"$out/programs.py"
+sed -n '/^import tsp_clock/,/^```/p' docs/PROGRAMS.md | sed '$d' >"$out/programs.py"
 [ "$(wc -l <"$out/shown") $(wc -l <"$out/readme.py")" = '4 4' ] || fail 'the README shows no four lines'
 # Writes a page, as tools/tests/made_page.py makes it.
 made() {
@@ -36,16 +36,36 @@ sys.path[:0] = 'tools', 'tools/tests'
 import made_page, tsp_clock
 made_page.write('$out/led', $1)"
 }
-for leads in 2 1; do
-    case $leads in
-    2) made 'made_page.leading(10 ** 15)' ;;
-    *) made 'tsp_clock.Page(made_page.counting(10 ** 15))' ;;
-    esac
+# At each status these print an interval or none; PROGRAMS's also take that of a master that is gone, and say which status has none.
+for status in 2 1 3 0; do
+    python3 -B tools/tests/made_page.py "$out/led" "$status" 0
     for command in "$out/readme" 'python3 -B '"$out/readme.py" "$out/page" "$out/programs" 'python3 -B '"$out/programs.py"; do
-        TSP_CLOCK="$out/led" PYTHONPATH=tools $command >"$out/said" || [ "$leads" -eq 1 ] || fail "'$command' fails"
-        [ "$(grep -cE '^1[0-9]{15} to 1[0-9]{15}( us)?$' "$out/said")" -eq "$((leads - 1))" ] || fail "'$command' says $(cat "$out/said")"
+        TSP_CLOCK="$out/led" PYTHONPATH=tools $command >"$out/said" 2>"$out/told" || [ "$status" -lt 2 ] || fail "'$command' fails"
+        case $status-$command in 2-* | 3-*programs* | 3-"$out/page") wanted=1 ;; *) wanted=0 ;; esac
+        [ "$(grep -cE '^1[0-9]{15} to 1[0-9]{15}( us)?$' "$out/said")" -eq "$wanted" ] || fail "at status $status '$command' says $(cat "$out/said")"
+        case $wanted-$command in 0-*programs*) grep -qx "no interval: status $status" "$out/said" "$out/told" || fail "at status $status '$command' says $(cat "$out/said" "$out/told")" ;; esac
     done
 done
+# The examples say how they are called, and what can't be opened, in one line; a store takes no line without a value.
+says_one_line() {
+    wanted=$1 line=$2 status=0
+    shift 2
+    PYTHONPATH=tools "$@" >"$out/said" 2>"$out/told" </dev/null || status=$?
+    [ "$status" -eq "$wanted" ] && [ ! -s "$out/said" ] && [ "$(cat "$out/told")" = "$line" ] || fail "'$*': status $status, $(cat "$out/said" "$out/told")"
+}
+for words in '' 'a b'; do
+    # shellcheck disable=SC2086  # words
+    says_one_line 2 'usage: logger.py NAME' python3 -B examples/logger.py $words
+    # shellcheck disable=SC2086
+    says_one_line 2 'usage: store.py JOURNAL | --read FILE..' python3 -B examples/store.py $words
+done
+says_one_line 1 "logger.py: $out/none: No such file or directory" env TSP_CLOCK="$out/none" python3 -B examples/logger.py a
+says_one_line 1 "store.py: $out/none: No such file or directory" env TSP_CLOCK="$out/none" python3 -B examples/store.py "$out/journal"
+says_one_line 1 "store.py: $out/none: No such file or directory" python3 -B examples/store.py --read "$out/none"
+python3 -B tools/tests/made_page.py "$out/led" 2 0
+printf '%s\n' 'a 1' key 'b 2 3' | TSP_CLOCK="$out/led" PYTHONPATH=tools python3 -B examples/store.py "$out/journal" >"$out/said"
+[ "$(paste -sd ' ' "$out/said")" = 'done refused done' ] || fail "a store answers $(cat "$out/said")"
+[ "$(PYTHONPATH=tools python3 -B examples/store.py --read "$out/journal" 2>&1 | paste -sd ,)" = 'a 1,b 2 3' ] || fail "a store holds $(cat "$out/journal")"
 # A wait is as long as it is said: the longest ones overflow nothing, and the shortest ones don't wait. (the page's interval is 300 ms wide)
 made 'made_page.following(10 ** 15, width=150000)'
 for longest in 9223372036854775807:1 9223372036854775:1 9223372036854776:1 4611686018427387:1 10000000:1 0:0 -1:0 -9223372036854775808:0; do

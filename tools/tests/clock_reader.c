@@ -3,6 +3,7 @@
  *   times  reads pages from a file, each with a nanosecond behind it, and writes the time that each gives
  *   torn   reads so often a page that is written without pause, in each half of which all fields come from one number, and counts those that don't; also
  *          of as many reads that don't look at the locks
+ *   open   opens the page, and writes the errno that this gives, or 0
  *   now    reads the page once, and writes its status and the microseconds that this took
  *   after  waits for so many microseconds until each later time is after the latest that it is now, and writes whether it is
  *   kept   changes a copy of the page so often, and reads it with and without what was kept of the read before; writes how often both were the same, and
@@ -32,7 +33,8 @@ static int times(const char *path)
         halves.look = page.look;
         halves.parting.room = 0;
         tsp_time_of(&halves, now, &time);
-        printf("%d %lld %lld %lld %lld %d\n", time.status, (long long)time.shown, (long long)time.earliest, (long long)time.latest, (long long)time.age, time.role);
+        printf("%d %lld %lld %lld %lld %d ", time.status, (long long)time.shown, (long long)time.earliest, (long long)time.latest, (long long)time.age, time.role);
+        printf("%llu %llu\n", (unsigned long long)time.life, (unsigned long long)time.steps);
     }
     return fclose(file);
 }
@@ -178,6 +180,8 @@ int main(int count, char **words)
         return 2;
     if (strcmp(words[1], "times") == 0)
         return times(words[2]);
+    if (strcmp(words[1], "open") == 0)
+        return printf("%d\n", tsp_clock_open(&clock, words[2]) == 0 ? 0 : errno) < 0;
     if (tsp_clock_open(&clock, words[2]) != 0)
         return 3;
     if (strcmp(words[1], "torn") == 0)

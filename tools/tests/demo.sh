@@ -14,6 +14,13 @@ printf '%s\n' "$first is elected" 'a round is over' "$first is killed" "$second 
     fail "it shows $(cat "$out/said")"
 tail -n 1 "$out/said" | grep -qE '^tsp-demo: seen: clocks 4[0-9]{3}\.[0-9]{3} ms apart; .* in all of [1-9][0-9]+ readings the master.s clock lay in the interval$' ||
     fail "its last line is $(tail -n 1 "$out/said")"
+# Its last line has the times of the list.
+seconds_of() { echo "$1" | awk -F : '{ for (i = 1; i <= NF; i++) seconds = 60 * seconds + $i } END { print seconds }'; }
+time_of() { sed -n "s/^ *\([0-9:]*\)  $1.*/\1/p" "$out/said" | head -n 1; }
+[ "$(tail -n 1 "$out/said" | sed -n 's/.* led after \([0-9:]*\),.*/\1/p')" = "$(time_of "$first is elected")" ] || fail "$first led at another time: $(cat "$out/said")"
+later=$(seconds_of "$(tail -n 1 "$out/said" | sed -n 's/.* led \([0-9:]*\) later,.*/\1/p')")
+listed=$(($(seconds_of "$(time_of "$second is elected")") - $(seconds_of "$(time_of "$first is killed")")))
+[ "$later" -ge $((listed - 1)) ] && [ "$later" -le "$listed" ] || fail "$second led $listed s after $first was killed, and not $later: $(cat "$out/said")"
 # On a terminal no line is wider than it.
 cat >"$out/terminal.py" <<'END'
 import os

@@ -2,7 +2,8 @@
 
     made_page.py PATH STATUS AHEAD [REST [LIFE]]    changes or makes a page, whose clock is so many microseconds ahead of the wall clock
 
-STATUS is 0 for a daemon that has ended, 1 for one that waits, 2 for one that leads, or LOW:HIGH for one that follows and has looked at its master.
+STATUS is 0 for a daemon that has ended, 1 for one that waits, 2 for one that leads, 3 for one that has lost its master, or LOW:HIGH for one that follows and
+has looked at its master.
 """
 import os
 import sys
@@ -84,10 +85,10 @@ def main(path, status, ahead, rest=0, life=1):
     elif status == '2':
         change(path, daemon=leading(target).daemon._replace(rest=int(rest), life=int(life)))
     else:
-        low, high = map(int, status.split(':'))
-        page = following(target, rest=int(rest))
-        change(path, daemon=page.daemon)
-        change(path, look=page.look._replace(low=low, high=high, drift=0))
+        is_gone, page = status == '3', following(target, rest=int(rest))
+        low, high = (page.look.low, page.look.high) if is_gone else map(int, status.split(':'))
+        change(path, daemon=page.daemon._replace(role=tsp_clock.NOBODY) if is_gone else page.daemon)
+        change(path, look=page.look._replace(low=low, high=high, drift=page.look.drift if is_gone else 0))
 
 
 if __name__ == '__main__':

@@ -188,6 +188,16 @@ ends 5
 [ "${said#* }" = unsynchronised ] || fail "a page without a master gives '$said'"
 ends 1 --wait --timeout 0.2
 [ "$told" = 'tsp-now: not synchronised in that time' ] || fail "a wait tells '$told'"
+# A long wait says once what it waits for.
+for words in --wait --after; do
+    ends 1 "$words" --timeout 6
+    [ "$told" = "tsp-now: waits for the network's time: status waiting
+tsp-now: not synchronised in that time" ] || fail "a long $words tells '$told'"
+done
+page -9000000:9000000
+ends 1 --after --timeout 6
+[ "$told" = "tsp-now: waits for the network's time: status synchronised
+tsp-now: the network's time wasn't surely after the stamp in that time" ] || fail "a long wait for a stamp tells '$told'"
 page 0
 ends 1
 [ "$told" = "tsp-now: the daemon of this host doesn't run, by $out/page" ] || fail "a page that nobody writes gives '$said$told'"
@@ -222,6 +232,11 @@ sed -n 's/^# TYPE \([a-z_]*\) .*/\1/p' "$out/tracked" | sort -u | diff "$out/tol
 rm "$out/page"
 ends 1 --after
 [ "$told" = "tsp-now: there is no page of the network's time at $out/page" ] || fail "without a page it tells '$told'"
+for words in '' --interval --offset; do
+    # shellcheck disable=SC2086  # a word or none
+    ends 78 --file "$out/none" $words
+    [ "$told" = "tsp-now: there is no page of the network's time at $out/page (TSP_CLOCK names another one), and no hosts file to ask by ($out/none: there is no such file)" ] || fail "without a page and a hosts file it tells '$told'"
+done
 [ ! -s "$CALLS" ] || fail "with a page it asks '$(cat "$CALLS")'"
 
 # Nobody answers, or something else does; faulty words, files and outputs.

@@ -3,8 +3,9 @@
 FOLDER SEED`.
 
 Things happen one after the other, each on some host. All that is logged and written is to sort as it happened; and, so that this says something, the same
-logger by the hosts' own clocks, and the same store without its wait, are to sort otherwise. Then it looks at what a reader sees of a host whose daemon and
-supervisor are stopped and killed. It needs namespaces of its own.
+logger by the hosts' own clocks, and the same store without its wait, are to sort otherwise. A program on the master's host stamps at once what it reads in the
+journal of a host that follows: that is to sort behind the line that it read, and without the wait it is not. Then it looks at what a reader sees of a host whose
+daemon and supervisor are stopped and killed. It needs namespaces of its own.
 """
 import os
 import random
@@ -34,6 +35,22 @@ NO_WAIT = ('store.py', 'tsp_clock.wait_after(clock, now.latest + ROUND, LONGEST)
 # wait takes.
 TIMES, AT_ONCE, APART, LONGEST = 50, 5, 0.005, 60
 KEYS = 3
+# How often a line of each store is answered at once with each master.
+REACTIONS = 20
+# Answers `ready` to a journal's path, and then a new line there, at once, by its stamp and an own one; `-` if none comes.
+REACTS = '''
+import sys, time, tsp_clock
+clock = tsp_clock.Clock()
+for path in sys.stdin:
+    with open(path.rstrip('\\n'), encoding='utf-8') as journal:
+        journal.seek(0, 2)
+        print('ready', flush=True)
+        until, line = time.monotonic() + 60, ''
+        while not line and time.monotonic() < until:
+            line = journal.readline()
+        now = clock.now()
+        print(*([line.split()[0], now.latest] if line and now.status == tsp_clock.SYNCHRONISED else ['-']), flush=True)
+'''
 # When a host's wall clock is set, in microseconds of the network's time, and by how much.
 STEP = 450_000_000, 7_000_000
 
@@ -55,6 +72,14 @@ def changed(name, old, new):
     return path
 
 
+def reacting():
+    """The program that answers lines of a journal: its path."""
+    path = os.path.join(FOLDER, 'reacts.py')
+    with open(path, 'w', encoding='utf-8') as file:
+        file.write(REACTS)
+    return path
+
+
 class Host:
     """A host of the lab with the programs that run there, by their names; `made` are the files that they write."""
 
@@ -72,7 +97,11 @@ class Host:
         process = self.processes[name]
         process.stdin.write(f'{line}\n'.encode())
         process.stdin.flush()
-        return process.stdout.readline().decode().rstrip('\n')
+        return self.told(name)
+
+    def told(self, name):
+        """The next line that a program writes."""
+        return self.processes[name].stdout.readline().decode().rstrip('\n')
 
     def page(self):
         """What this host's page says now."""
@@ -97,9 +126,10 @@ class Run:
     def __init__(self, lab):
         self.lab, self.chance, self.number = lab, random.Random(SEED), 0
         self.programs = {'logger': os.path.join(EXAMPLES, 'logger.py'), 'store': os.path.join(EXAMPLES, 'store.py'),
-                         'own-logger': changed(*OWN_CLOCK), 'bare-store': changed(*NO_WAIT)}
+                         'own-logger': changed(*OWN_CLOCK), 'bare-store': changed(*NO_WAIT), 'reacts': reacting()}
         self.stamps = {name: [] for name in self.programs if 'logger' in name}
         self.done = {name: {} for name in self.programs if 'store' in name}
+        self.reactions = {name: [] for name in self.done}
         self.hosts, self.answers = [], {'done': 0, 'refused': 0, 'unsure': 0}
 
     def until(self, text, holds):
@@ -128,6 +158,22 @@ class Run:
                 for _ in range(AT_ONCE):
                     self.write(name, self.chance.choice(self.hosts))
 
+    def reactions_of(self, name):
+        """The master's host stamps at once what it reads in the journals of hosts that follow."""
+        leader = next(host for host in self.hosts if host.page().role == tsp_clock.LEADS)
+        for _ in range(REACTIONS):
+            writer = self.chance.choice([host for host in self.hosts if host is not leader])
+            leader.tell('reacts', writer.made[name])
+            self.write(name, writer)
+            found = leader.told('reacts').split()
+            if len(found) == 2:
+                self.reactions[name].append(tuple(map(int, found)))
+
+    def react(self):
+        """The same of both stores."""
+        for name in self.reactions:
+            self.reactions_of(name)
+
     def log(self, name, host):
         """A line, which has a stamp where the host's daemon runs."""
         stamp = host.tell(name, 'something').split()[0]
@@ -152,11 +198,11 @@ class Run:
         return [stamps[number] for number in self.done[name]]
 
     def read(self):
-        """What the journals hold is the last write of each key. (a write that is unsure may stand behind it)"""
+        """What the journals hold is the last write of each key."""
         words = [sys.executable, os.path.join(EXAMPLES, 'store.py'), '--read', *(host.made['store'] for host in self.hosts)]
         told = subprocess.run(words, stdout=subprocess.PIPE, env={**os.environ, 'PYTHONPATH': TOOLS}, check=True).stdout.decode().split()
         last = {key: str(number) for number, key in self.done['store'].items()}
-        wanted(self.answers['unsure'] or dict(zip(told[::2], told[1::2])) == last, f'the journals hold {told}, and {last} were the last writes')
+        wanted(dict(zip(told[::2], told[1::2])) == last, f'the journals hold {told}, and {last} were the last writes')
 
     def judge(self):
         """All sorts as it happened, and what was taken out is missed."""
@@ -170,8 +216,13 @@ class Run:
         wanted(wrong(written) == 0, f'{wrong(written)} of {len(written)} writes of the store sort wrong')
         wanted(wrong(bare) > 0, f'{len(bare)} writes without a wait sort right')
         wanted(self.answers['unsure'] <= self.number // 20, f'{self.answers["unsure"]} of {self.number} writes are unsure')
+        reacted, early = ([own <= read for read, own in self.reactions[name]] for name in ('store', 'bare-store'))
+        wanted(len(reacted) >= REACTIONS and len(early) >= REACTIONS, f'only {len(reacted)} and {len(early)} lines are answered at once')
+        wanted(not any(reacted), f'{sum(reacted)} of {len(reacted)} stamps after a line that was read aren\'t greater than that line\'s')
+        wanted(any(early), f'{len(early)} stamps after a line that was written without a wait are all greater')
         return (f'{len(self.stamps["logger"])} lines and {len(written)} writes sort right; by own clocks {own} of {len(self.stamps["own-logger"])} lines sort wrong, '
-                f'and without a wait {wrong(bare)} of {len(bare)} writes; {self.answers["refused"]} were refused, {self.answers["unsure"]} unsure')
+                f'and without a wait {wrong(bare)} of {len(bare)} writes; {self.answers["refused"]} were refused, {self.answers["unsure"]} unsure; '
+                f'{len(reacted)} stamps right after a line was read are greater, and without a wait {sum(early)} of {len(early)} aren\'t')
 
     def whole(self):
         """All of it, and what is to be said of it."""
@@ -183,6 +234,7 @@ class Run:
         self.hosts = [Host(self.lab, daemon, self.programs) for daemon in self.lab.daemons]
         self.until('all follow one master', lambda: self.agree(self.hosts))
         self.happens(TIMES)
+        self.react()
         first = self.masters()[0]
         self.lab.stop(first, signal.SIGKILL)
         others = [host for host in self.hosts if host.daemon is not first]
@@ -193,6 +245,7 @@ class Run:
         self.lab.start(first)
         self.until('the first master follows', lambda: self.agree(self.hosts))
         self.happens(TIMES)
+        self.react()
         said = self.judge()
         for host in self.hosts:
             host.end()

@@ -824,6 +824,16 @@ def rotated():
     wanted(len(turns) >= 600 and all(b' ' in line for line in text.splitlines()), f'{len(turns)} of 600 questions are in the files')
 
 
+def pageless():
+    """If there is no place for a page, and none is named, the log says so, and the daemon answers all the same."""
+    server = Supervised(TSP_CLOCK='')
+    server.ready()
+    line = f'programs can\'t read the time: there is no page, since {os.path.dirname(tsp_clock.PATH)} isn\'t there, and TSP_CLOCK names none'
+    wanted(server.read().count(line) == 1, f'it says {server.read()}')
+    wanted(flood(server, 10, 100) == 10, 'questions stay unanswered')
+    server.end()
+
+
 def rated():
     """The page of a daemon whose counter has a rate gives what the daemon answers, and by its trace to the microsecond; without the rate it doesn't."""
     for rate in (1_000_000, -700_001, 0):

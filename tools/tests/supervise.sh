@@ -14,6 +14,7 @@ cases() {
 
 before=''
 cases stuck blocked traced emptied full renewed piped lost threads switched notified busy slept stood followed killed interrupted turned ended told_first replaced learned reloaded retold trailed prioritised hung_up told_twice rated
+if [ -d /run/tsp ]; then skip 'there is a place for a page' 'a daemon without one'; else cases pageless; fi
 if has logrotate; then cases rotated; else skip 'there is no logrotate' 'its example'; fi
 if unshare -rn true 2>/dev/null && has ip; then
     before='unshare -rn'

@@ -1,11 +1,16 @@
 """The network's time as tsp-now tells it: by the page of this machine, or by questions to a host and to its master."""
+import math
 import os
 import time
 from collections import namedtuple
 
 import tsp_clock
 from tsp_daemon import hosts, usage
-from tsp_texts.tool import Fault
+from tsp_texts.tool import Fault, say
+
+STATUSES = {tsp_clock.STALE: 'stale', tsp_clock.WAITING: 'waiting', tsp_clock.SYNCHRONISED: 'synchronised', tsp_clock.HOLDING: 'holding'}
+# After how many seconds a wait says that it waits.
+LONG = 5
 
 
 class Told(namedtuple('Told', 'shown earliest latest')):
@@ -49,8 +54,14 @@ def by_page(clock):
     return Told(now.shown, now.earliest, now.latest)
 
 
+def say_status(now):
+    """Says that there is a wait, and the status that is to be another one."""
+    say(f'waits for the network\'s time: status {STATUSES[now.status]}')
+
+
 def wait_until(clock, within, until):
-    """What the page tells once it is synchronised, and, where that is asked for, once its error is at most so many milliseconds."""
+    """What the page tells once it is synchronised, and, where that is asked for, once its error is at most so many milliseconds. A long wait is said once."""
+    said_at = time.monotonic() + LONG
     while True:
         now = clock.now()
         if now.status == tsp_clock.SYNCHRONISED:
@@ -59,6 +70,9 @@ def wait_until(clock, within, until):
                 return told
         if until is not None and time.monotonic() >= until:
             raise Fault('not synchronised in that time' if within is None else f'not synchronised within {within:g} ms in that time', usage.NOT_WELL)
+        if time.monotonic() >= said_at:
+            say_status(now)
+            said_at = math.inf
         time.sleep(0.01)
 
 
@@ -66,7 +80,12 @@ def stamp(clock, until):
     """A stamp, once each later stamp of the network is greater."""
     told = wait_until(clock, None, until)
     longest = None if until is None else max(until - time.monotonic(), 0)
-    if not tsp_clock.wait_after(clock, told.latest, longest):
+    is_long = longest is None or longest > LONG
+    is_after = tsp_clock.wait_after(clock, told.latest, LONG if is_long else longest)
+    if is_long and not is_after:
+        say_status(clock.now())
+        is_after = tsp_clock.wait_after(clock, told.latest, None if longest is None else longest - LONG)
+    if not is_after:
         raise Fault('the network\'s time wasn\'t surely after the stamp in that time', usage.NOT_WELL)
     return told.latest
 

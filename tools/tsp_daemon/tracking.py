@@ -6,7 +6,6 @@ import tsp_clock
 from tsp_daemon import metrics, reading, times
 from tsp_texts import tool
 
-STATUSES = {tsp_clock.STALE: 'stale', tsp_clock.WAITING: 'waiting', tsp_clock.SYNCHRONISED: 'synchronised', tsp_clock.HOLDING: 'holding'}
 ROLES = {tsp_clock.NOBODY: 'nobody', tsp_clock.FOLLOWS: 'follows', tsp_clock.LEADS: 'leads'}
 COUNTERS = {tsp_clock.RAW: 'CLOCK_MONOTONIC_RAW, which nobody slews', tsp_clock.MONOTONIC: 'CLOCK_MONOTONIC, which chrony and ntpd slew'}
 # In so many microseconds after its start no daemon is corrected.
@@ -128,7 +127,7 @@ def master_text(seen):
 def rows(seen, is_utc):
     """The names and values of what is known, in words."""
     told, daemon, is_looked = seen.told, seen.daemon, seen.is_looked
-    yield 'Status', STATUSES[told.status]
+    yield 'Status', reading.STATUSES[told.status]
     yield 'Who leads', leader_text(seen)
     yield 'Last look', 'none, since this host leads' if told.role == tsp_clock.LEADS else ago(told.age, 'none in this life')
     yield 'Shown time', times.rfc_3339(told.shown, is_utc)
@@ -156,7 +155,7 @@ def json_text(seen):
     import json
     told, daemon, is_looked = seen.told, seen.daemon, seen.is_looked
     return json.dumps({
-        'status': STATUSES[told.status], 'role': ROLES[told.role], 'master': seen.master or None, 'look_age_us': told.age,
+        'status': reading.STATUSES[told.status], 'role': ROLES[told.role], 'master': seen.master or None, 'look_age_us': told.age,
         'shown_us': told.shown, 'earliest_us': told.earliest, 'latest_us': told.latest, 'width_us': seen.width,
         'own_offset_us': seen.own_offset, 'master_offset_us': seen.master_offset, 'master_error_us': seen.master_error,
         'correction_age_us': seen.corrected, 'to_slew_us': seen.to_slew, 'moved_us': daemon.moved, 'steps': daemon.steps,
@@ -197,8 +196,8 @@ def times_of(seen):
 
 def prometheus(seen):
     """Text for node_exporter. Where nobody writes the page it says just that."""
-    status, is_known, daemon = STATUSES[seen.told.status], seen.is_known, seen.daemon
-    found = [one_of('tsp_clock_status', 'What the page says of the network\'s time.', 'status', STATUSES.values(), status)]
+    status, is_known, daemon = reading.STATUSES[seen.told.status], seen.is_known, seen.daemon
+    found = [one_of('tsp_clock_status', 'What the page says of the network\'s time.', 'status', reading.STATUSES.values(), status)]
     if is_known:
         found.append(one_of('tsp_clock_role', 'Whether this host leads, follows a master, or has none.', 'role', ROLES.values(), ROLES[seen.told.role]))
     for name, text, value in times_of(seen):

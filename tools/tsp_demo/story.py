@@ -17,11 +17,13 @@ class Story:
     def __init__(self, network, show, is_proved=True):
         self.network, self.show, self.is_proved, self.events, self.seen, self.before = network, show, is_proved, [], {}, {}
         self.intervals, self.outside, self.apart, self.master = 0, 0, None, None
-        self.followed = {}
+        self.followed, self.led = {}, {}
 
     def say(self, text):
-        """Notes what happened."""
-        self.events.append((self.network.seconds(), text))
+        """Notes what happened, and gives when, in seconds of fast time."""
+        now = self.network.seconds()
+        self.events.append((now, text))
+        return now
 
     def look(self):
         """Looks at all hosts at one moment."""
@@ -43,7 +45,7 @@ class Story:
         if before is None:
             return
         if seen.now.role != before.now.role and seen.now.role == tsp_clock.LEADS:
-            self.say(f'{host.name} is elected, and leads from now on')
+            self.led[host] = self.say(f'{host.name} is elected, and leads from now on')
         if seen.now.role == tsp_clock.FOLLOWS and seen.now.status == tsp_clock.SYNCHRONISED and self.followed.get(host) != seen.now.master:
             self.followed[host] = seen.now.master
             self.say(f'{host.name} follows {seen.now.master}')
@@ -65,14 +67,13 @@ class Story:
             self.outside += not seen.now.earliest <= master.target <= seen.now.latest
 
     def until(self, what, holds):
-        """Looks until this holds, and gives how many seconds of fast time that took."""
+        """Looks until this holds."""
         begun = self.network.seconds()
         while not holds():
             if self.network.seconds() - begun > MOST:
                 raise Fault(f'not seen within {span(MOST * 10**6)}: {what}', NOT_SEEN)
             time.sleep(LOOK)
             self.look()
-        return self.network.seconds() - begun
 
     def are_together(self, master):
         """Whether all others follow this host and know its clock."""
@@ -84,8 +85,8 @@ class Story:
         return [seen.moved for seen in self.seen.values() if seen]
 
     def lead(self):
-        """A host is elected, all follow it, and it leads a round: gives it, and the seconds until it led."""
-        took = self.until('a master', lambda: self.master)
+        """A host is elected, all follow it, and it leads a round: gives it, and how far clocks are apart then."""
+        self.until('a master', lambda: self.master in self.led)
         master = self.master
         self.until(f'all follow {master.name}', lambda: self.are_together(master))
         moved = self.moved()
@@ -93,7 +94,7 @@ class Story:
         self.until(f'all follow {master.name} after its round', lambda: self.are_together(master))
         self.say(f'a round is over: the clocks are at most {milliseconds(self.apart)} ms apart')
         self.show(self)
-        return master, took, self.apart
+        return master, self.apart
 
     def run(self):
         """All of it; gives the last line."""
@@ -102,13 +103,14 @@ class Story:
         self.say('three hosts start, whose clocks differ' + ('' if self.is_proved else '; their program is unproved'))
         self.until('all three run', lambda: all(self.seen.get(host) for host in self.network.hosts))
         at_first = self.apart
-        first, elected, apart = self.lead()
+        first, apart = self.lead()
         self.network.kill(first)
-        self.say(f'{first.name} is killed')
+        killed = self.say(f'{first.name} is killed')
         self.look()
-        second, again, later = self.lead()
+        second, later = self.lead()
         if self.outside:
             raise Fault(f'in {self.outside} of {self.intervals} readings the master\'s clock was outside of the interval', NOT_SEEN)
-        return (f'seen: clocks {milliseconds(at_first)} ms apart; {first.name} led after {span(round(elected * 1e6))}, and they were {milliseconds(apart)} ms apart; '
-                f'it was killed, {second.name} led {span(round(again * 1e6))} later, and they were {milliseconds(later)} ms apart; '
+        elected, again = (span(round(seconds * 1e6)) for seconds in (self.led[first], self.led[second] - killed))
+        return (f'seen: clocks {milliseconds(at_first)} ms apart; {first.name} led after {elected}, and they were {milliseconds(apart)} ms apart; '
+                f'it was killed, {second.name} led {again} later, and they were {milliseconds(later)} ms apart; '
                 f'in all of {self.intervals} readings the master\'s clock lay in the interval' + ('' if self.is_proved else '; unproved'))

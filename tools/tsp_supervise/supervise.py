@@ -87,6 +87,8 @@ class Supervisor:
         path = os.environ.get('TSP_CLOCK') or tsp_clock.PATH
         os.environ.pop('TSP_PAGE', None)
         if not os.environ.get('TSP_CLOCK') and (self.is_once or not os.path.isdir(os.path.dirname(path))):
+            if not self.is_once:
+                self.say(f'programs can\'t read the time: there is no page, since {os.path.dirname(path)} isn\'t there, and TSP_CLOCK names none')
             return None
         try:
             page = PageFile(path)
