@@ -8,6 +8,7 @@ complete -c tsp-witness -l since -x -d 'fetched are lines from the last start be
 complete -c tsp-witness -l ssh -x -a '(__fish_complete_command)' -d 'how another host is reached'
 complete -c tsp-witness -l check -d 'judges'
 complete -c tsp-witness -l audit -d 'judges, and has the history audited too, for a second opinion'
+complete -c tsp-witness -l progress -d 'judges, and says how late alarms were looked at, how long datagrams ..'
 complete -c tsp-witness -s f -l file -r -F -d 'the hosts file'
 complete -c tsp-witness -s d -l drift -x -d 'how far a host'\''s counter may drift from true time'
 complete -c tsp-witness -s a -l altered -d 'a datagram that differs from what was posted, or that nobody posted, ..'

@@ -128,7 +128,7 @@ _tsp_elect() {
 _tsp_watch() {
     case $(_tsp_before "$3"):$2 in
     --prometheus:* | --learn:*) mapfile -t COMPREPLY < <(compgen -f -- "$2") ;;
-    *:-*) mapfile -t COMPREPLY < <(compgen -W '--json --prometheus --learn --own --lines --since --version --help' -- "$2") ;;
+    *:-*) mapfile -t COMPREPLY < <(compgen -W '--json --prometheus --learn --own --lines --progress --since --version --help' -- "$2") ;;
     *) mapfile -t COMPREPLY < <(compgen -f -- "$2") ;;
     esac
 }
@@ -168,7 +168,7 @@ _tsp_witness() {
     esac
     case $2 in
     =) mapfile -t COMPREPLY < <(compgen -f) ;;
-    -*) mapfile -t COMPREPLY < <(compgen -W '--since --ssh --check --audit --file --drift --altered --schedule --claims --program --version --help' -- "$2") ;;
+    -*) mapfile -t COMPREPLY < <(compgen -W '--since --ssh --check --audit --progress --file --drift --altered --schedule --claims --program --version --help' -- "$2") ;;
     *)
         compopt -o nospace +o filenames 2>/dev/null
         mapfile -t COMPREPLY < <(compgen -S = -W "$(_tsp_hosts 2)" -- "$2")

@@ -176,7 +176,8 @@ def moments():
     told.sample(feed.Moment(page, now + BILLION, real + BILLION + BILLION // 12))
     wanted(len(lines) == 1, f'of a slew it says {lines}')
     told.sample(feed.Moment(page, now + 2 * BILLION, real + 12 * BILLION))
-    wanted(lines[1:] == ['somebody stepped this machine\'s clock by +9.917 s: samples go on, and chronyd slews it'], f'of a step it says {lines}')
+    text = 'somebody, or chronyd in its first updates, stepped this machine\'s clock by +9.917 s: samples go on'
+    wanted(lines[1:] == [text], f'of a step it says {lines}')
     told.sample(feed.Moment(page, now + 3 * BILLION, real + 13 * BILLION))
     told.sample(feed.Moment(page, now + 4 * BILLION, real + 134 * BILLION, 120 * BILLION))
     wanted(lines[2:] == ['the machine slept for 120 s: nothing is sent until the daemon was started again and corrected'], f'of a sleep it says {lines}')

@@ -82,7 +82,7 @@ def one_of_three():
     host.news.started('192.0.2.11:525', 'd71524948374e2b1')
     host.says((5, 'alpha runs and answers at 192.0.2.11:525, by a hosts file with the digest d71524948374e2b1; after 80 s it asks who leads'))
     host.act(80, 'become loose')
-    host.says((6, 'nobody leads that it hears of'))
+    host.says((6, 'asks who leads'))
     host.act(90, 'become follow 1')
     host.says((5, 'follows beta'))
     host.act(90.5, 'correct 1234567 step 1800000090500000')
@@ -137,7 +137,7 @@ def leading(host):
     host.act(22900, 'become loose', 1)
     host.act(22950, 'become follow 1', 1)
     host.act(23000, 'become loose', 1)
-    host.says((6, 'port 1: nobody leads that it hears of'), (5, 'port 1: follows beta'),
+    host.says((6, 'port 1: asks who leads'), (5, 'port 1: follows beta'),
               (4, 'port 1: has no master; it followed beta for 0:50, since 2027-01-15 14:22:30 UTC'))
 
 

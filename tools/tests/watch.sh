@@ -74,6 +74,23 @@ assert told[6] == {'tick_us': 0, 'port': 0, 'change': 'start', 'name': 'gate', '
 assert told[8] == {'tick_us': 85000000, 'port': 1, 'change': 'role', 'role': 'follow', 'master': 'gamma'}, told[8]
 END
 
+# How late looks were, and how long things took: of a file, and of standard input; progress_worked.py has worked traces. (witness.sh runs it)
+ends 0 --progress "$trace"
+says 'looks at alarms and sends came at most 0.023991 s late: for the alarm window in turn 590 at 582.737788 s' \
+    '1 of 1 questions and numbered sends were answered, within at most 0.002192 s' \
+    'candidatures: 1, which ended after at most 5.023991 s; by the law at most 5.023991 s' \
+    'numbered sends: 1, which ended after at most 0.002192 s; by the law at most 3.023991 s'
+input=$trace
+ends 0 --progress
+[ "$(wc -l <"$out/said")" -eq 4 ] || fail "of standard input it says '$(cat "$out/said")'"
+input=/dev/null
+ends 1 --progress
+tells "standard input: no line is one of a daemon's trace"
+ends 1 --progress examples/round.trace
+tells 'examples/round.trace: a trace of several hosts, as tsp replay writes it, and not one of a daemon'
+ends 2 --progress --since today "$trace"
+ends 2 --progress --json "$trace"
+
 # Rates: what is measured of a slave, less what corrections moved it and the master since, is its rate. b was -575 us ahead, was sent -848, and
 # the master moved by -1423: without a drift it would be 0 us ahead. 5000 us in 240 s are 20.8 parts in a million, and 1141 twice are 9.5. The
 # same correction that is sent again counts once. A slave that doesn't acknowledge may have its correction or not, and begins anew.

@@ -47,7 +47,7 @@ change() {
     ! cmp -s "$given/$1/$2.trace" "$out/changed/$2.trace" || fail "$3 changes nothing in $2"
 }
 
-for worked in witness_times distances_worked witness_long witness_wander witness_again; do
+for worked in witness_times distances_worked witness_long witness_wander witness_again progress_worked; do
     status=0
     PYTHONPATH=tools:dev python3 -B "tools/tests/$worked.py" "$TSP_PROGRAM" >"$out/said" 2>"$out/told" || status=$?
     [ "$status" -ne 77 ] || { skip "$(cat "$out/told")" 'how hosts with many peers, and long starts, are judged'; continue; }

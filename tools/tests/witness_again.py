@@ -85,6 +85,9 @@ def ways_agree(path):
                     one, other = said(again.Again(net, life, path)), said(rules.Replay(net, life))
                     wanted(one == other, f'{name}: {change.act and change.act.words} in turn {change.turn.number}: {one}, and by a replay {other}')
                     found += isinstance(one, str) or one.difference is not None
+            # (a trace whose beginning is lost)
+            life.turns = life.turns[1:]
+            wanted(said(again.Again(net, life, path)) == said(rules.Replay(net, life)), f'{name}: the start {life.node} {life.number} is judged in two ways, cut')
     return found
 
 

@@ -78,7 +78,7 @@ class Feed:
         if slept > SLEPT:
             self.say(f'the machine slept for {slept / BILLION:.0f} s: nothing is sent until the daemon was started again and corrected')
         elif abs(moved) > SLEWED * passed + STEPPED:
-            self.say(f'somebody stepped this machine\'s clock by {moved / BILLION:+.3f} s: samples go on, and chronyd slews it')
+            self.say(f'somebody, or chronyd in its first updates, stepped this machine\'s clock by {moved / BILLION:+.3f} s: samples go on')
 
     def tell(self, told):
         """Says what is another than before: the daemon's life, its steps, its status and its master."""

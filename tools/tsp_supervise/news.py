@@ -115,7 +115,7 @@ class News:
         elif role == 'loose' and old.role in ('follow', 'master'):
             self.tell(number, f'has no master{new.before}', WARNING, 'loose')
         elif role == 'loose':
-            self.tell(number, 'wasn\'t elected' if old.role == 'candidate' else 'nobody leads that it hears of', INFO, 'loose')
+            self.tell(number, 'wasn\'t elected' if old.role == 'candidate' else 'asks who leads', INFO, 'loose')
 
     @staticmethod
     def before(old, now):

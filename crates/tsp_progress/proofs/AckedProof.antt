@@ -1,14 +1,15 @@
 -- A numbered send whose addressee acts on it is acknowledged in time, and isn't given up.
-use Rattle.std.proofs.Common.{sym, ap, subst, arith, true≢false, inl, inr, ◌∙◌, ◌≡◌, ◌<◌, ◌≤◌, ◌⊎◌, ◌==◌, ◌&&◌, ◌||◌, not, ℕ, ◌+◌, ◌*◌, Bool, true, false, if◌then◌else◌, List, []}
+use Rattle.std.proofs.Common.{sym, ap, subst, arith, true≢false, inl, inr, ◌∙◌, ◌≡◌, ◌<◌, ◌≤◌, ◌⊎◌, ◌==◌, ◌&&◌, ◌||◌, not, ℕ, ◌+◌, ◌*◌, Bool, true, false}
+use Rattle.std.proofs.Common.{if◌then◌else◌, List, []}
 use Rattle.std.proofs.Common.{◌∷◌, eq-eqb, refl}
 use Rattle.std.proofs.lemmas.Bool.{and_parts}
-use Rattle.tsp_rules.specs.Values.{Act, Become, Backer, Acked, Back, Post, Accept, Ack, AdjTime, Election, QuitKind, Refuse, SetTime, Message, Kind}
-use Rattle.tsp_rules.specs.Values.{PeerId, Peer, Role, Loose, Follow, Starting, RETRY, TRIES}
+use Rattle.tsp_rules.specs.Values.{Act, Become, Backer, Acked, Back, Accept, Ack, AdjTime, Election, QuitKind, Refuse, SetTime, Message}
+use Rattle.tsp_rules.specs.Values.{PeerId, Role, Loose, Follow, Starting, RETRY, TRIES}
 use Rattle.tsp_rules.specs.{CommonRows.is_idle, Guards.is_starting_role, Guards.may_back_at, SendRows.answers_election, SendRows.answers_other}
 use Rattle.tsp_rules.specs.SlaveRows.{is_repeated, takes_amount, takes_value}
 use Rattle.tsp_rules.specs.{SendRows.ends_by_ack, SendRows.has_election, SendRows.has_other}
-use Rattle.tsp_base.specs.Words.{Acts, Elsewhere, HeaderValue, Here, Line, MessageValue, Past, Seen, Within, bare, is_numbered, joined, line_of, of, open_to, peer_of, plain}
-use Rattle.tsp_base.specs.Words.{placed, role, tick_of, time_in, view}
+use Rattle.tsp_base.specs.Words.{Acts, Elsewhere, HeaderValue, Here, Line, MessageValue, Past, Seen, Within, bare, is_numbered, line_of, of, peer_of, plain}
+use Rattle.tsp_base.specs.Words.{role, tick_of, time_in, view}
 use Rattle.tsp_base.proofs.{PlaceLemmas.Within-tail, PlaceLemmas.Within-through, ViewPlaces.Within-view}
 use Rattle.tsp_promises.specs.{Fits.Fits, Fits.LineFits, Fits.node_of, Setting.Setting}
 use Rattle.tsp_promises.proofs.{Clocks.tick-mono, EverywhereLemmas.Everywhere-at, OwnFitsProof.own_fits, OwnFitsProof.seen_in}
@@ -112,8 +113,14 @@ module _ {clocks : Clocks} {header : HeaderValue} {setting : Setting} (set : Set
         }
 
     ended-later : EndedBefore p (Here l.did ∷ Was) Later → EndedBefore p (Here l.did ∷ Was) Whole
-    ended-later e = record { end = e.end; before = e.before; place = Within-through (Here e.end ∷ e.before) Later Whole e.place tail; open_is = e.open_is; is =
-        e.is }
+    ended-later e = record {
+      end = e.end;
+      before = e.before;
+      place = Within-through (Here e.end ∷ e.before) Later Whole e.place tail;
+      open_is = e.open_is;
+      is =
+          e.is;
+    }
 
     pub acknowledged : (rest : ℕ → Past → List Act) → (Open → Next rest) → Acknowledged header long l older world p answer (λ x past. Acked p ∷ rest x past)
     acknowledged rest next = by_case open-or-ended where
@@ -170,7 +177,8 @@ module _ {clocks : Clocks} {header : HeaderValue} {setting : Setting} (set : Set
       (a : Arrives setting long l older world p (Message m)) (takes again : Bool) → (takes || again) ≡ true → (moved : Act) →
       (takes ≡ true → DoesNext (moved ∷ arms_for_delay a.line.did.tick (past_there header p.0 a.line a.before) ∷
       posts_bare Ack m.number (past_there header p.0 a.line a.before) (peer_of (node_of l)) ∷ []) a.line (of p.0 a.before) (of p.0 world)) →
-      ((not takes && again) ≡ true → DoesNext (posts_bare Ack m.number (past_there header p.0 a.line a.before) (peer_of (node_of l)) ∷ []) a.line (of p.0 a.before)
+      ((not takes && again) ≡ true → DoesNext (posts_bare Ack m.number (past_there header p.0 a.line a.before) (peer_of (node_of l)) ∷
+      []) a.line (of p.0 a.before)
       (of p.0 world)) →
       AnswerTaken long l older world p (Message (bare Ack m.number (node_in header p.0).name))
   obeyed l older p m asks a true again e moved first repeat =

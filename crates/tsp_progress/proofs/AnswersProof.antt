@@ -20,11 +20,45 @@ use Rattle.tsp_progress.proofs.WorldPlaces.{Among, act_place, in_order, own_plac
 
 module _ {clocks : Clocks} {header : HeaderValue} {setting : Setting} (set : SetByClocks clocks header setting) (world : List Line)
     (table : ByTable header world) (long t : ℕ) (stays : ℕ → Bool) (s : List Line) (delivered : Delivered setting long t stays s world) where
+  -- what is posted, and its taking
+  module _ (l : Line) (older : List Line) (p : PeerId) (d : Datagram) (posts : PostsTo setting l older world p d) (a : Arrives setting long l older world p d)
+    where
+      apart-there : (node_of l == p.0) ≡ false
+      apart-there = differ p.0 (node_of l) posts.other
+
+      -- the port that takes it is one of its node's, and its peers are the members of the network
+      port-there : PortIs header setting p.0 a.line.port
+      port-there = shared_port set p.0 a.line.port (node_of l) l.port (subst (λ n. setting.net n a.line.port ≡ setting.net (node_of l) l.port) a.node a.net)
+          posts.other
+
+      heard-there : is_starting_role (role_before (node_in header p.0) a.line (of p.0 a.before)) ≡ false →
+          is_heard (peer_of (node_of l)) a.line.did.tick (port_before (node_in header p.0) a.line (of p.0 a.before)) ≡ true
+      heard-there awake =
+          let same : setting.net p.0 a.line.port ≡ setting.net (node_of l) l.port =
+          subst (λ n. setting.net n a.line.port ≡ setting.net (node_of l) l.port) a.node a.net in
+          let member : is_among (peer_of (node_of l)) (port_setup a.line.port (node_in header p.0)).peers ≡ true =
+          ap (is_among (peer_of (node_of l))) (port-there.peers ∙ ap setting.members same) ∙ setting.own (node_of l) l.port in
+          rw (member, awake) refl
+
+      foreign-there : is_own (Peer (peer_of (node_of l))) a.line.did.tick (port_before (node_in header p.0) a.line (of p.0 a.before)) ≡ false
+      foreign-there = ap (λ n. node_of l == n) port-there.own ∙ apart-there
+
+      place-there : Within (a.line ∷ of p.0 a.before) (of p.0 world)
+      place-there = own_place p.0 a.line a.before world a.node a.place
+
+  -- a message that is taken is heard, if its addressee isn't Starting
+  pub hears_there : (l : Line) (older : List Line) (p : PeerId) (m : MessageValue) (posts : PostsTo setting l older world p (Message m))
+      (a : Arrives setting long l older world p (Message m)) → is_starting_role (role_before (node_in header p.0) a.line (of p.0 a.before)) ≡ false →
+      Hears (node_in header p.0) (of p.0 world) a.line (of p.0 a.before) (peer_of (node_of l)) m
+  hears_there l older p m posts a awake = record {
+    place = place-there l older p (Message m) posts a;
+    took = a.took;
+    peer = heard-there l older p (Message m) posts a awake;
+    other = foreign-there l older p (Message m) posts a;
+  }
+
   -- a question that is asked, and its taking
   module _ (l : Line) (older : List Line) (p : PeerId) (d : Datagram) (asks : Asks setting long t stays s l older world p d) where
-    asker : PeerId
-    asker = peer_of (node_of l)
-
     abbrev pub Taking : Type 0
     Taking = Arrives setting long l older world p d
 
@@ -33,26 +67,6 @@ module _ {clocks : Clocks} {header : HeaderValue} {setting : Setting} (set : Set
 
     apart : (node_of l == p.0) ≡ false
     apart = differ p.0 (node_of l) asks.posts.other
-
-    -- the port that takes it is one of its node's, and its peers are the members of the network
-    port_is : (a : Taking) → PortIs header setting p.0 a.line.port
-    port_is a = shared_port set p.0 a.line.port (node_of l) l.port (subst (λ n. setting.net n a.line.port ≡ setting.net (node_of l) l.port) a.node a.net)
-        asks.posts.other
-
-    heard : (a : Taking) → is_starting_role (role_before (node_in header p.0) a.line (of p.0 a.before)) ≡ false →
-        is_heard (peer_of (node_of l)) a.line.did.tick (port_before (node_in header p.0) a.line (of p.0 a.before)) ≡ true
-    heard a awake =
-        let same : setting.net p.0 a.line.port ≡ setting.net (node_of l) l.port =
-        subst (λ n. setting.net n a.line.port ≡ setting.net (node_of l) l.port) a.node a.net in
-        let member : is_among (peer_of (node_of l)) (port_setup a.line.port (node_in header p.0)).peers ≡ true =
-        ap (is_among (peer_of (node_of l))) ((port_is a).peers ∙ ap setting.members same) ∙ setting.own (node_of l) l.port in
-        rw (member, awake) refl
-
-    foreign : (a : Taking) → is_own (Peer (peer_of (node_of l))) a.line.did.tick (port_before (node_in header p.0) a.line (of p.0 a.before)) ≡ false
-    foreign a = ap (λ n. node_of l == n) (port_is a).own ∙ apart
-
-    taken_place : (a : Taking) → Within (a.line ∷ of p.0 a.before) (of p.0 world)
-    taken_place a = own_place p.0 a.line a.before world a.node a.place
 
     -- an answer among the acts that come next is taken in time
     pub answered : (a : Taking) (acts : List Act) (answer : Datagram) → Among (Post (Peer (peer_of (node_of l))) answer) acts →
@@ -126,19 +140,13 @@ module _ {clocks : Clocks} {header : HeaderValue} {setting : Setting} (set : Set
   second_of : (b a : Act) (rest : List Act) → Among a (b ∷ a ∷ rest)
   second_of b a rest = record { front = b ∷ []; back = rest; is = refl }
 
-  -- a message that is taken is heard, if its addressee isn't Starting
   module _ (l : Line) (older : List Line) (p : PeerId) (m : MessageValue) (asks : Asks setting long t stays s l older world p (Message m)) where
     abbrev There : Arrives setting long l older world p (Message m) → Past
     There a = port_before (node_in header p.0) a.line (of p.0 a.before)
 
     pub hears : (a : Arrives setting long l older world p (Message m)) → is_starting_role (role_before (node_in header p.0) a.line (of p.0 a.before)) ≡ false →
         Hears (node_in header p.0) (of p.0 world) a.line (of p.0 a.before) (peer_of (node_of l)) m
-    hears a awake = record {
-      place = taken_place l older p (Message m) asks a;
-      took = a.took;
-      peer = heard l older p (Message m) asks a awake;
-      other = foreign l older p (Message m) asks a;
-    }
+    hears a awake = hears_there l older p m asks.posts a awake
 
   pub master-awake : (r : Role) → is_master_role r ≡ true → is_starting_role r ≡ false
   master-awake Master e = refl
@@ -228,7 +236,8 @@ module _ {clocks : Clocks} {header : HeaderValue} {setting : Setting} (set : Set
       let x = a.line.did.tick in
       let r : ReplyValue = record { ticket = ticket_at x past; word = word; counter = counter; reading = target_at x past } in
       let next = (all_measure header world table p.0).replies a.line (of p.0 a.before) (Peer (peer_of (node_of l))) word counter
-      (taken_place l older p d asks a) a.took (foreign l older p d asks a) (meanwhile a.line a.before a.place a.later a.node a.net a.soon) in (
+      (place-there l older p d asks.posts a) a.took (foreign-there l older p d asks.posts a) (meanwhile a.line a.before a.place a.later a.node a.net a.soon) in
+          (
         r,
         (
           refl,

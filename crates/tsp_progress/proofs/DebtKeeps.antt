@@ -1,14 +1,13 @@
 -- What acts of one sort owe is owed in every run, if the rows that put such acts pay it.
 use Rattle.std.proofs.Common.{sym, subst, eqb-true, eq-eqb, ◌≡◌, ℕ, ◌==◌, Bool, true, false, List, [], ◌∷◌, Option, None, Some, slice_get, refl}
 use Rattle.std.proofs.lemmas.Bool.{or_right}
-use Rattle.tsp_rules.specs.Values.{Act, Boot, Took, Become, Abandon, Alarm, Quiet, Good, Message, LoopKind, Place, Taken, Port, Starting, Placed, QUIET, Kind}
+use Rattle.tsp_rules.specs.Values.{Act, Boot, Took, Become, Abandon, Alarm, Quiet, Good, Message, Port, Starting, Placed, QUIET}
 use Rattle.tsp_rules.specs.Values.{Event, BootAt, Turn, Take, Bytes}
-use Rattle.tsp_base.specs.Words.{Acts, Begins, Deed, Did, Elsewhere, HeaderValue, Handed, Here, Leads, Line, MessageValue, Past, Row, Seen, Step, Turned, Came}
-use Rattle.tsp_base.specs.Words.{arms, first_port, grown, joined, line_of, of, puts, seen_as, stepped, view, ◌followed_by◌}
-use Rattle.tsp_base.proofs.LeadsLemmas.{Leads_puts, Leads_then}
+use Rattle.tsp_base.specs.Words.{Acts, Begins, Deed, Did, HeaderValue, Handed, Leads, Line, Past, Row, Seen, Step, Turned, Came}
+use Rattle.tsp_base.specs.Words.{arms, first_port, joined, line_of, of, puts, seen_as, stepped, view, ◌followed_by◌}
 use Rattle.tsp_codec.specs.{Taken.taken_of}
-use Rattle.tsp_rules.specs.GateRows.{GotOn, NodeGiven, NodeTurn, all_ports, answers_all, boots_all, boots_on, loosens_master, reposts, sends_loops}
-use Rattle.tsp_rules.specs.{Answers.rings, Answers.takes, SendRows.due_sends}
+use Rattle.tsp_rules.specs.GateRows.{GotOn, NodeGiven, NodeTurn, all_ports, answers_all, boots_all, boots_on}
+use Rattle.tsp_rules.specs.{Answers.rings, SendRows.due_sends}
 use Rattle.tsp_rules.specs.NodeRows.{NodePast, NodeRow, for_ports, in_node_step, on, reading_all}
 use Rattle.tsp_rules.proofs.{BuiltAnswers.all_taken_sorts, BuiltAnswers.built_takes, BuiltGate.built_loosens_master, BuiltGate.built_reposts}
 use Rattle.tsp_rules.proofs.{BuiltGate.built_sends_loops, BuiltGate.built_starts, EmitsBuilt.emits_built, EmitsBuilt.nothing_taken, Unchanged.comes_unchanged}

@@ -1,8 +1,8 @@
 -- A send is given up only when it is old.
-use Rattle.std.proofs.Common.{sym, subst, arith, true≢false, ◌∙◌, ◌≡◌, ◌≤◌, ℕ, ◌+◌, ◌*◌, ◌||◌, nat_le, nat_lt, Bool, true, false, List, ◌∷◌, Option, None}
+use Rattle.std.proofs.Common.{sym, subst, arith, true≢false, ◌∙◌, ◌≡◌, ◌≤◌, ℕ, ◌+◌, ◌*◌, ◌||◌, nat_le, nat_lt, Bool, true, false, List, Option, None}
 use Rattle.std.proofs.Common.{Some, leb-true, refl}
 use Rattle.tsp_rules.specs.Values.{Act, Post, Gave, Leave, Message, Alarm, CloseAlarm, PeerId, Peer, Kind, LAST, RETRY, TRIES}
-use Rattle.tsp_base.specs.Words.{Acts, Deed, Did, Past, Row, Seen, Sending, Leads, deadline_of, either_by, for_each, is_correction, nothing, open_send, puts}
+use Rattle.tsp_base.specs.Words.{Acts, Did, Seen, Sending, Leads, deadline_of, either_by, for_each, is_correction, nothing, puts}
 use Rattle.tsp_base.specs.Words.{reading, ◌followed_by◌}
 use Rattle.tsp_base.proofs.LeadsLemmas.{Leads_each, Leads_either, Leads_from, Leads_nothing, Leads_puts, Leads_reading, Leads_then}
 use Rattle.tsp_rules.specs.{Answers.rings, Guards.is_slave_at}
@@ -11,7 +11,7 @@ use Rattle.tsp_rules.proofs.{BuiltAnswers.built_rings, BuiltAnswers.ring_sorts, 
 use Rattle.tsp_rules.proofs.Emits.{Sort, Giving, is_in, is_part, sort_of}
 use Rattle.tsp_run.specs.Clocked.{clocks_of}
 use Rattle.tsp_run.proofs.OwnClocks.{runs_by_own_clocks}
-use Rattle.tsp_progress.specs.GivenUp.{ClockedRunsGiveUpLate, GaveFits, GivesUpLate, IsOld, Owes, RunsGiveUpLate}
+use Rattle.tsp_progress.specs.GivenUp.{ClockedRunsGiveUpLate, GaveFits, GivesUpLate, RunsGiveUpLate}
 use Rattle.tsp_progress.proofs.{DebtKeeps.OwedBy, DebtKeeps.Paid, DebtKeeps.pays, DebtKeeps.runs_pay, PortWakes.Leads_if}
 
 ungiven : (sorts : List Sort) → is_in Giving sorts ≡ false → (a : Act) → is_in (sort_of a) sorts ≡ true → (d : Did) (before : List Seen) →

@@ -9,6 +9,7 @@ pub mod CueAlarms
 pub mod CueRows
 pub mod DebtKeeps
 pub mod DeliveredChecks
+pub mod FirstSearchProof
 pub mod FoundProof
 pub mod FreshProof
 pub mod GiveUpProof
@@ -29,6 +30,7 @@ pub mod PaceProof
 pub mod PortSetups
 pub mod PortWakes
 pub mod ProgressProof
+pub mod ReachesProof
 pub mod RoundKept
 pub mod RoundsProof
 pub mod RunWakes
@@ -43,4 +45,5 @@ pub mod TableRows
 pub mod UseLemmas
 pub mod Waking
 pub mod WatchChecks
+pub mod WinsLateProof
 pub mod WorldPlaces

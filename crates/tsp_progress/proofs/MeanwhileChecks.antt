@@ -45,10 +45,12 @@ is-meant n long l older line before later node soon =
     rw (first, own, by) refl
 
 pub meanwhile_by : (header : HeaderValue) (setting : Setting) (long : ℕ) (l : Line) (older world : List Line) (p : PeerId) (test : ℕ → Past → Bool) →
-    all_meant p.0 (length (l ∷ older)) (l.did.step.at + long) (λ line before. test line.did.tick (port_before (node_in header p.0) line (of p.0 before))) world ≡
+    all_meant p.0 (length (l ∷ older)) (l.did.step.at + long) (λ line before. test line.did.tick (port_before (node_in header p.0) line (of p.0 before))) world
+    ≡
     true → Meanwhile header setting long l older world p test
 meanwhile_by header setting long l older world p test all line before place later node net soon =
-    meant-at p.0 (length (l ∷ older)) (l.did.step.at + long) (λ line before. test line.did.tick (port_before (node_in header p.0) line (of p.0 before))) world line
+    meant-at p.0 (length (l ∷ older)) (l.did.step.at + long) (λ line before. test line.did.tick (port_before (node_in header p.0) line (of p.0 before))) world
+    line
     before all place (is-meant p.0 long l older line before later node soon)
 
 abbrev follows_node : ℕ → Role → Bool

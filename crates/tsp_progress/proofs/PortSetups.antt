@@ -1,7 +1,7 @@
 -- How the ports of a header's nodes are set up, by a run's setting.
 use Rattle.std.proofs.Common.{sym, ap, subst, arith, true≢false, ◌∙◌, ◌≡◌, ◌<◌, ℕ, ◌+◌, ◌==◌, Bool, true, false, if◌then◌else◌, List, [], ◌∷◌, length, eqb-true}
 use Rattle.std.proofs.Common.{eq-eqb, Option, None, Some, refl}
-use Rattle.tsp_rules.specs.{NodeRows.PortSetup, NodeRows.port_setup, Values.Port}
+use Rattle.tsp_rules.specs.{NodeRows.PortSetup, NodeRows.port_setup, Values.PeerId, Values.Port}
 use Rattle.tsp_base.specs.Words.{HeaderValue, has_member, is_among, peer_of}
 use Rattle.tsp_promises.specs.Setting.{Alone, Named, Setting}
 use Rattle.tsp_run.specs.{Clocked.Clocks, Clocked.SetByClocks, Networks.network_at, Networks.network_from, Networks.networks, Networks.port_on}
@@ -57,16 +57,20 @@ module _ {clocks : Clocks} {header : HeaderValue} {setting : Setting} (set : Set
         own = ap (λ (k : PortSetup). k.own.0) s.setup;
       }
 
-  -- a port whose network has another node on it
-  pub shared_port : (n : ℕ) (q : Port) (a : ℕ) (r : Port) → setting.net n q ≡ setting.net a r → (n == a) ≡ false → PortIs header setting n q
-  shared_port n q a r same other = by_network (network_at n q (networks header)) refl where
+  -- a port whose network has another member
+  pub member_port : (n : ℕ) (q : Port) (p : PeerId) → is_among p (setting.members (setting.net n q)) ≡ true → (n == p.0) ≡ false → PortIs header setting n q
+  member_port n q p member other = by_network (network_at n q (networks header)) refl where
     by_network : (o : Option ℕ) → network_at n q (networks header) ≡ o → PortIs header setting n q
     by_network (Some j) e = is-set n q (let less = port-there n q.0 0 0 (networks header) j e in omega (arith, less))
     by_network None e =
-        let alone : setting.net a r ≡ Alone n q.0 = sym same ∙ set.net_is n q ∙ ap (λ o. named_or (Alone n q.0) o) e in
-        let member : is_among (peer_of a) (peer_of n ∷ []) ≡ true =
-        sym (ap (λ k. is_among (peer_of a) (setting.members k)) alone ∙ ap (is_among (peer_of a)) (set.members_are (Alone n q.0))) ∙ setting.own a r in
-        absurd (true≢false (sym member ∙ not_there))
+        let alone : setting.net n q ≡ Alone n q.0 = set.net_is n q ∙ ap (λ o. named_or (Alone n q.0) o) e in
+        let there : is_among p (peer_of n ∷ []) ≡ true =
+        sym (ap (λ k. is_among p (setting.members k)) alone ∙ ap (is_among p) (set.members_are (Alone n q.0))) ∙ member in
+        absurd (true≢false (sym there ∙ not_there))
       where
-        not_there : is_among (peer_of a) (peer_of n ∷ []) ≡ false
+        not_there : is_among p (peer_of n ∷ []) ≡ false
         not_there = rw other refl
+
+  -- and one whose network has another node on it
+  pub shared_port : (n : ℕ) (q : Port) (a : ℕ) (r : Port) → setting.net n q ≡ setting.net a r → (n == a) ≡ false → PortIs header setting n q
+  shared_port n q a r same other = member_port n q (peer_of a) (ap (λ k. is_among (peer_of a) (setting.members k)) same ∙ setting.own a r) other

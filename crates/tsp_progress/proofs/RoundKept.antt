@@ -1,12 +1,13 @@
 -- What a round keeps until it closes: its requests are open until they are answered, and a sample stays.
 use Rattle.std.proofs.Common.{sym, ap, subst, arith, inl, inr, true≢false, ◌∙◌, ◌≡◌, ◌≢◌, ◌⊎◌, ℕ, ◌==◌, ◌&&◌, ◌||◌, if◌then◌else◌, Bool, true, false, List, []}
-use Rattle.std.proofs.Common.{◌∷◌, Option, Some, None, is_some, length, eq-eqb, refl}
+use Rattle.std.proofs.Common.{◌∷◌, Some, is_some, length, eq-eqb, refl}
 use Rattle.std.proofs.lemmas.Bool.{and_parts}
-use Rattle.tsp_rules.specs.Values.{Boot, Post, Become, Arm, Ring, Late, Abandon, Sample, Leave, Alarm, Probe, CloseAlarm, Stamp, PeerId, Peer, Port, Request, Role}
+use Rattle.tsp_rules.specs.Values.{Boot, Post, Become, Arm, Ring, Late, Abandon, Sample, Leave, CloseAlarm, Stamp, PeerId, Peer, Port, Request, Role}
 use Rattle.tsp_base.specs.Words.{Acts, Deed, Did, Elsewhere, Here, Line, Sampled, Seen, Setup, Within, armed, armed_after, best, best_after, exchange}
-use Rattle.tsp_base.specs.Words.{exchange_after, is_going, is_measured, is_shared, is_starting, plain, role, role_after, seen_as, started, started_after, view, word, word_after}
-use Rattle.tsp_base.specs.RoundFacts.{is_measured_after, is_starting_after, word_asked, word_asked_by}
-use Rattle.tsp_base.proofs.PlaceLemmas.{Within-all, Within-length, Within-through}
+use Rattle.tsp_base.specs.Words.{exchange_after, is_going, is_measured, is_shared, is_starting, plain, role, role_after, seen_as, started, started_after, view}
+use Rattle.tsp_base.specs.Words.{word, word_after}
+use Rattle.tsp_base.specs.RoundFacts.{is_measured_after, word_asked, word_asked_by}
+use Rattle.tsp_base.proofs.PlaceLemmas.{Within-length, Within-through}
 use Rattle.tsp_rules.proofs.GuardFacts.{same_peer}
 use Rattle.tsp_promises.specs.{DeedFits.DeedFits, PortFits.PortFits}
 

@@ -1,16 +1,15 @@
 -- Each peer that is measured has a sample when its round closes.
-use Rattle.std.proofs.Common.{sym, ap, subst, arith, true≢false, inl, inr, ◌∙◌, ◌≡◌, ◌<◌, ◌≤◌, ◌⊎◌, ◌||◌, ℕ, ℤ, ◌+◌, ◌*◌, ◌==◌, Bool, true, false, List, [], ◌∷◌}
+use Rattle.std.proofs.Common.{sym, ap, subst, arith, true≢false, inl, inr, ◌∙◌, ◌≡◌, ◌<◌, ◌⊎◌, ◌||◌, ℕ, ℤ, ◌+◌, ◌*◌, ◌==◌, Bool, true, false, List, [], ◌∷◌}
 use Rattle.std.proofs.Common.{Option, Some, None, is_some, eq-eqb, refl}
 use Rattle.std.proofs.lemmas.Bool.{cases_lt}
-use Rattle.tsp_rules.specs.Values.{Act, Boot, Post, Took, Arm, Ring, Sample, Close, CloseAlarm, Datagram, Stamp, Request, Reply, PeerId, Peer, Port, Role, Master}
-use Rattle.tsp_rules.specs.Values.{CLOSE}
+use Rattle.tsp_rules.specs.Values.{Act, Boot, Post, Arm, Ring, Close, CloseAlarm, Stamp, Request, Reply, PeerId, Peer, Port, Master}
 use Rattle.tsp_rules.specs.{Guards.is_heard, Guards.is_in_range, Guards.is_own, Guards.is_starting_role, RoundRows.request_at}
-use Rattle.tsp_base.specs.Words.{Acts, Begins, Deed, Did, Elsewhere, HeaderValue, Here, Line, OpenRequest, Past, ReplyValue, Sampled, Seen, Step, Within, best, dids}
-use Rattle.tsp_base.specs.Words.{estimate, estimate_of, exchange, is_among, is_going, is_measured, is_shared, is_starting, line_of, of, peer_of, plain, request_at_place}
+use Rattle.tsp_base.specs.Words.{Acts, Begins, Deed, Did, HeaderValue, Here, Line, Past, ReplyValue, Sampled, Seen, Step, Within, best, dids}
+use Rattle.tsp_base.specs.Words.{estimate, estimate_of, exchange, is_among, is_shared, is_starting, line_of, of, plain, request_at_place}
 use Rattle.tsp_base.specs.Words.{role, seen_as, started, started_after, target_there, view, word}
-use Rattle.tsp_base.specs.RoundFacts.{is_starting_after, word_asked}
-use Rattle.tsp_base.proofs.{PlaceLemmas.Within-all, PlaceLemmas.Within-comparable, PlaceLemmas.Within-tail, PlaceLemmas.Within-through}
-use Rattle.tsp_promises.specs.{DeedFits.DeedFits, Fits.Fits, Fits.LineFits, Fits.SameStep, Fits.node_of, OwnFits.OwnFits, RoundFits.CloseFits}
+use Rattle.tsp_base.specs.RoundFacts.{is_starting_after}
+use Rattle.tsp_base.proofs.{PlaceLemmas.Within-comparable, PlaceLemmas.Within-tail, PlaceLemmas.Within-through}
+use Rattle.tsp_promises.specs.{Fits.Fits, Fits.SameStep, Fits.node_of, OwnFits.OwnFits, RoundFits.CloseFits}
 use Rattle.tsp_promises.specs.{MeasureFits.RequestFits, Setting.Setting, Setting.setup_of}
 use Rattle.tsp_promises.proofs.{Clocks.tick-mono, HistoryPlaces.line_on, HistoryPlaces.own_in, KnownProof.InStep, KnownProof.in-step, KnownProof.line-is}
 use Rattle.tsp_promises.proofs.OwnFitsProof.{deed_fits, fits_at, fits_in, locate, own_fits, own_fits_at, place-time, port_fits, seen_before, seen_in, tick_in}

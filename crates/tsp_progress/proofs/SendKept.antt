@@ -1,8 +1,8 @@
 -- A send stays open until it ends, and isn't given up before it is old.
-use Rattle.std.proofs.Common.{sym, ap, subst, arith, inl, inr, true≢false, ◌∙◌, ◌≡◌, ◌≢◌, ◌≤◌, ◌<◌, ◌⊎◌, ℕ, ◌+◌, ◌*◌, ◌==◌, ◌&&◌, if◌then◌else◌, Bool, true}
+use Rattle.std.proofs.Common.{sym, ap, subst, arith, inl, inr, true≢false, ◌∙◌, ◌≡◌, ◌≢◌, ◌<◌, ◌⊎◌, ℕ, ◌+◌, ◌*◌, ◌==◌, ◌&&◌, if◌then◌else◌, Bool, true}
 use Rattle.std.proofs.Common.{false, List, [], ◌∷◌, Option, Some, None, length, eq-eqb, refl}
 use Rattle.tsp_rules.specs.Values.{Boot, Post, Become, Acked, Gave, Message, PeerId, Peer, RETRY, TRIES}
-use Rattle.tsp_base.specs.Words.{Acts, Deed, Did, Elsewhere, Here, MessageValue, Seen, Sending, Within, acting, is_numbered, message_of, open_send, open_to}
+use Rattle.tsp_base.specs.Words.{Acts, Deed, Did, Elsewhere, Here, MessageValue, Seen, Sending, Within, acting, is_numbered, open_send, open_to}
 use Rattle.tsp_base.specs.Words.{open_to_after, plain, posts_of, role, role_after, sending_at, tick_of}
 use Rattle.tsp_base.proofs.PlaceLemmas.{Within-comparable, Within-length, Within-through}
 use Rattle.tsp_rules.proofs.GuardFacts.{same_peer}

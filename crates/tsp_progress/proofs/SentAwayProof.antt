@@ -12,7 +12,7 @@ use Rattle.tsp_progress.specs.SentAway.{ClockedRunsSendAway, QuitEnds, RunsSendA
 use Rattle.tsp_progress.proofs.AnswersProof.{answer_heard, answered, answers_in_time, arrival, first_of, hears, master-awake, up-awake}
 use Rattle.tsp_progress.proofs.{HeedsProof.all_heed, TableProof.clocked_runs_by_table}
 
-lone-awake : (r : Role) → has_no_master r ≡ true → is_starting_role r ≡ false
+pub lone-awake : (r : Role) → has_no_master r ≡ true → is_starting_role r ≡ false
 lone-awake Starting e = absurd (true≢false (sym e))
 lone-awake _ e = refl
 

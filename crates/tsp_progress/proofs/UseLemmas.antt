@@ -1,8 +1,8 @@
 -- The header of small runs, and the ranges of their events.
-use Rattle.std.proofs.Common.{ap, arith, true≢false, ◌∙◌, ◌≡◌, ℕ, ◌==◌, pos, Bool, true, false, All, [], ◌∷◌}
+use Rattle.std.proofs.Common.{sym, ap, arith, true≢false, ◌∙◌, ◌≡◌, ℕ, ◌==◌, pos, Bool, true, false, All, List, [], ◌∷◌, ◌++◌}
 use Rattle.std.proofs.Common.{refl}
 use Rattle.std.proofs.lemmas.List.Elements.{All-nil, All-cons, All-contains}
-use Rattle.tsp_rules.specs.Values.{BootAt, Turn, Take, NodeLine}
+use Rattle.tsp_rules.specs.Values.{BootAt, Event, Turn, Take, NodeLine}
 use Rattle.tsp_base.specs.Words.{IsHeader, IsName, IsNet, KeepsDrift, first_port, is_among, peer_of}
 use Rattle.tsp_promises.specs.Setting.{Named, Setting}
 use Rattle.tsp_run.specs.{Ranges.IsInRange, Setting.SetBy}
@@ -54,3 +54,17 @@ ranges = All-cons IsInRange (Take 390020000 6) (Take 390010000 5 ∷ Turn 390000
     BootAt 0 0 0 ∷ []) tt (All-cons IsInRange (BootAt 310000000 1 0) (Turn 85000000 0 ∷ Turn 80000000 0 ∷ BootAt 0 0 0 ∷
     []) (omega arith) (All-cons IsInRange (Turn 85000000 0) (Turn 80000000 0 ∷ BootAt 0 0 0 ∷ []) tt (All-cons IsInRange (Turn 80000000 0) (BootAt 0 0 0 ∷
     []) tt (All-cons IsInRange (BootAt 0 0 0) ([]) (omega arith) (All-nil IsInRange))))))))))))
+
+-- whether these events are turns and takes alone
+abbrev pub are_plain : List Event → Bool
+are_plain [] = true
+are_plain (Take at k ∷ rest) = are_plain rest
+are_plain (Turn at node ∷ rest) = are_plain rest
+are_plain _ = false
+
+-- the ranges of such events after others
+pub later_ranges : (later before : List Event) → are_plain later ≡ true → All IsInRange before → All IsInRange (later ++ before)
+later_ranges [] before e all = all
+later_ranges (Take at k ∷ rest) before e all = All-cons IsInRange (Take at k) (rest ++ before) tt (later_ranges rest before e all)
+later_ranges (Turn at node ∷ rest) before e all = All-cons IsInRange (Turn at node) (rest ++ before) tt (later_ranges rest before e all)
+later_ranges _ before e all = absurd (true≢false (sym e))

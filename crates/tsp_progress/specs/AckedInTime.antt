@@ -43,7 +43,8 @@ pub record Begins (in_role : Role → Bool) (l : Line) (older : List Line) : Typ
   pub role_is : in_role (role (view l.port (of (node_of l) older))) ≡ true
 
 -- the send to p that begins at l is answered by p at most twice `long` later; then this comes next, unless the send ended before. It is never given up
-pub record Acknowledged (header : HeaderValue) (long : ℕ) (l : Line) (older world : List Line) (p : PeerId) (answer : MessageValue) (acts : ℕ → Past → List Act) :
+pub record Acknowledged (header : HeaderValue) (long : ℕ) (l : Line) (older world : List Line) (p : PeerId) (answer : MessageValue) (acts : ℕ → Past →
+    List Act) :
     Type 0 where
   pub taken : AnswerTaken long l older world p (Message answer)
   pub ends : EndedBefore p (Here l.did ∷ view l.port (of (node_of l) older)) (view l.port (of (node_of l) taken.before))
@@ -52,7 +53,8 @@ pub record Acknowledged (header : HeaderValue) (long : ℕ) (l : Line) (older wo
   pub kept : NeverGivenUp p (Here l.did ∷ view l.port (of (node_of l) older)) (view l.port (of (node_of l) world))
 
 -- a send of this kind, to a port for which this is so meanwhile, is answered so
-abbrev pub AckedAs : Kind → (Role → Bool) → (Line → List Line → PeerId → MessageValue → Type 0) → Kind → (PeerId → ℕ → Past → List Act) → HeaderValue → Setting →
+abbrev pub AckedAs : Kind → (Role → Bool) → (Line → List Line → PeerId → MessageValue → Type 0) → Kind → (PeerId → ℕ → Past → List Act) → HeaderValue →
+    Setting →
     ℕ → ℕ → (ℕ → Bool) → List Line → List Line → Type 0
 AckedAs kind in_role meanwhile answer acts header setting long t stays s world = (l : Line) (older : List Line) (p : PeerId) (m : MessageValue) →
     Asks setting long t stays s l older world p (Message m) → m.kind ≡ kind → Begins in_role l older → meanwhile l older p m →
@@ -71,7 +73,8 @@ pub record AckedInTime (header : HeaderValue) (setting : Setting) (long t : ℕ)
   pub quits : AckedAs QuitKind is_up_role (λ l older p m. Meanwhile header setting long l older world p (λ x past. is_up_role (role past.seen))) Ack
       (λ p x past. Acked p ∷ []) header setting long t stays s world
   -- a correction, to a follower that steers its clock, and meanwhile may take this correction or took it last
-  pub adjtimes : AckedAs AdjTime is_up_role (λ l older p m. Obedient header setting long l older world p (may_obey l m (takes_amount m.number (time_in m.body))))
+  pub adjtimes : AckedAs AdjTime is_up_role (λ l older p m. Obedient header setting long l older world p
+      (may_obey l m (takes_amount m.number (time_in m.body))))
       Ack (λ p x past. Acked p ∷ []) header setting long t stays s world
   pub settimes : AckedAs SetTime is_up_role (λ l older p m. Obedient header setting long l older world p (may_obey l m (takes_value m.number (time_in m.body))))
       Ack (λ p x past. Acked p ∷ []) header setting long t stays s world

@@ -43,6 +43,9 @@ pub record AckedUse : Type 0 where
   pub begins : Begins is_up_role set_line before_set
   pub obeys : (setting : Setting) → SetBy one_may setting → Obedient one_may setting 10000 set_line before_set (run one_may until_set) (peer 1)
       (may_obey set_line sets_b (takes_value 0 (time_in sets_b.body)))
+  -- that it may take it at each of its lines meanwhile isn't so, since it may not once it took it
+  pub takes_once : (setting : Setting) → SetBy one_may setting → ¬ Obedient one_may setting 10000 set_line before_set (run one_may until_set) (peer 1)
+      (takes_value 0 (time_in sets_b.body))
   pub delivered : (setting : Setting) → SetBy one_may setting → Delivered setting 10000 390050001 all_stay (run one_may until_wakes) (run one_may until_set)
   pub prompt : (setting : Setting) → SetBy one_may setting → IsPrompt setting 10000
   -- 1.6 s aren't prompt: the send is given up

@@ -9,6 +9,8 @@ pub mod ByTable
 pub mod CausesFit
 pub mod Corrects
 pub mod Delivered
+pub mod FirstSearch
+pub mod FirstSearchUse
 pub mod FoundInTime
 pub mod FoundUse
 pub mod FreshLeads
@@ -17,6 +19,7 @@ pub mod Heeds
 pub mod Humble
 pub mod InTime
 pub mod LoneLeads
+pub mod MeanwhileUse
 pub mod Measures
 pub mod Needed
 pub mod NeverLate
@@ -24,9 +27,12 @@ pub mod ObeyedInTime
 pub mod OneMay
 pub mod OneUse
 pub mod Progress
+pub mod ReachUse
+pub mod ReachesInTime
 pub mod RoundsRecur
 pub mod RunsWake
 pub mod SampledInTime
+pub mod SampledUse
 pub mod SendsEnd
 pub mod SentAway
 pub mod SentAwayUse
@@ -34,4 +40,5 @@ pub mod Stands
 pub mod TableUse
 pub mod Wakes
 pub mod Watched
+pub mod WinsLate
 pub mod Worked

@@ -97,6 +97,31 @@ pub fn answers_use()
     ensures { AnswersUse }
 {}
 
+ghost use Rattle.tsp_progress.specs.MeanwhileUse.{MeanwhileUse};
+/// Runs in which a QUIT and an ELECTION come to a node that boots before, and aren't answered.
+pub fn meanwhile_use()
+    ensures { MeanwhileUse }
+{}
+
+ghost use Rattle.tsp_progress.specs.ReachesInTime.{ClockedRunsReach, RunsReach};
+/// What a node is told reaches it in time: a MASTERUP or a QUIT, whose sender it follows if it has
+/// no master then, a SLAVEUP, whose sender a master takes in, and its master's correction, which
+/// moves its clock if it may take it then.
+pub fn runs_reach()
+    ensures { RunsReach }
+{}
+
+/// So it is in a run by any clocks.
+pub fn clocked_runs_reach()
+    ensures { ClockedRunsReach }
+{}
+
+ghost use Rattle.tsp_progress.specs.ReachUse.{ReachUse};
+/// A run in which a report reaches a master in time, and one in which it is lost.
+pub fn reach_use()
+    ensures { ReachUse }
+{}
+
 ghost use Rattle.tsp_progress.specs.FoundInTime.{ClockedRunsFind, RunsFind};
 /// Where datagrams are delivered in time, and twice that time is less than `WINDOW`, 5 s, a port
 /// that searches beside a master hears of it in time, and follows it, unless its role changed
@@ -115,6 +140,23 @@ ghost use Rattle.tsp_progress.specs.FoundUse.{FoundUse};
 /// doesn't.
 pub fn found_use()
     ensures { FoundUse }
+{}
+
+ghost use Rattle.tsp_progress.specs.FirstSearch.{ClockedRunsFindFirst, RunsFindFirst};
+/// So does a port whose quiet time ends beside a master: it asks for one in the same step.
+pub fn runs_find_first()
+    ensures { RunsFindFirst }
+{}
+
+/// So it is in a run by any clocks.
+pub fn clocked_runs_find_first()
+    ensures { ClockedRunsFindFirst }
+{}
+
+ghost use Rattle.tsp_progress.specs.FirstSearchUse.{FirstSearchUse};
+/// A run in which it does, and one in which nobody leads, so that it isn't answered.
+pub fn first_search_use()
+    ensures { FirstSearchUse }
 {}
 
 ghost use Rattle.tsp_progress.specs.SentAway.{ClockedRunsSendAway, RunsSendAway};
@@ -158,6 +200,17 @@ pub fn clocked_runs_give_up()
     ensures { ClockedRunsGiveUpLate }
 {}
 
+ghost use Rattle.tsp_progress.specs.WinsLate.{ClockedRunsWinLate, RunsWinLate};
+/// A candidate wins no sooner than `WINDOW`, 5 s, after it stood for election.
+pub fn runs_win_late()
+    ensures { RunsWinLate }
+{}
+
+/// So it is in a run by any clocks.
+pub fn clocked_runs_win_late()
+    ensures { ClockedRunsWinLate }
+{}
+
 ghost use Rattle.tsp_progress.specs.AckedInTime.{ClockedRunsAcknowledge, RunsAcknowledge};
 /// Where datagrams are delivered in time, and twice that time is less than `TRIES` times `RETRY`, 3
 /// s, a numbered send is acknowledged in time if its addressee acts on it, and is never given up.
@@ -187,6 +240,13 @@ pub fn runs_sample()
 /// So it is in a run by any clocks.
 pub fn clocked_runs_sample()
     ensures { ClockedRunsSample }
+{}
+
+ghost use Rattle.tsp_progress.specs.SampledUse.{SampledUse};
+/// A round in which a peer is measured and answers in time, and two in which its answers are lost or
+/// late, so that it leaves.
+pub fn sampled_use()
+    ensures { SampledUse }
 {}
 
 ghost use Rattle.tsp_progress.specs.InTime.{AllInTime, EndsInTime};

@@ -27,9 +27,11 @@
 //! `Wakes` (what every run has armed), `RunsWake`, `InTime`, `RoundsRecur`, `NeverLate`, `Stands`,
 //! `AloneStands`, `AloneLeads`, `FreshLeads`, `LoneLeads`, `OneMay`, and `Progress`, which puts
 //! most of them together; then `Worked`, `Needed` and `OneUse`, small runs. Of what is done at once
-//! read `ByTable`, `Heeds`, `Measures` and `Corrects`; of two nodes `Delivered`, `AnswersInTime`,
-//! `FoundInTime`, `SentAway` and `ObeyedInTime`; then `TableUse`, `AnswersUse`, `FoundUse` and
-//! `SentAwayUse`, small runs. The words of histories are those of `tsp_promises`.
+//! read `ByTable`, `Heeds`, `Measures` and `Corrects`; of two nodes `Delivered`, `ReachesInTime`,
+//! `AnswersInTime`, `FoundInTime`, `FirstSearch`, `SentAway`, `ObeyedInTime`, `GivenUp`,
+//! `AckedInTime` and `SampledInTime`; then `TableUse`, `AnswersUse`, `ReachUse`, `FoundUse`,
+//! `FirstSearchUse`, `SentAwayUse`, `AckedUse` and `SampledUse`, small runs. The words of histories
+//! are those of `tsp_promises`.
 //!
 //! # What is proved
 //!
@@ -73,17 +75,31 @@
 //! - So a port that searches beside a master follows it within that time, if that is less than 5 s
 //!   and its role didn't change before (`runs_find`, `clocked_runs_find`). A candidate that asks a
 //!   master for its vote is sent away, and follows it, and a QUIT is acknowledged (`runs_send_away`,
-//!   `clocked_runs_send_away`). So is a correction of a follower that may take it (`runs_obey`,
-//!   `clocked_runs_obey`).
+//!   `clocked_runs_send_away`). So is a correction of a follower that may take it at each of its
+//!   lines meanwhile (`runs_obey`, `clocked_runs_obey`); but it may not once it took it.
+//! - A port whose quiet time ends beside a master asks for one in the same step, and so finds it
+//!   (`runs_find_first`, `clocked_runs_find_first`). Within `long` a MASTERUP or a QUIT reaches its
+//!   addressee, which follows the sender if it has no master then, a SLAVEUP reaches a master, which
+//!   takes its sender in, and a correction a follower, which moves its clock if it may
+//!   (`runs_reach`, `clocked_runs_reach`).
+//! - In every run no send is given up before it is 3 s old (`runs_give_up`, `clocked_runs_give_up`).
+//!   So a QUIT, a correction and an ELECTION whose addressee acts on it end within twice `long`, if
+//!   that is less than 3 s, and are never given up (`runs_acknowledge`, `clocked_runs_acknowledge`).
+//! - Each peer that is measured has a sample when its round closes, if twice `long` is less than 8 s
+//!   (`runs_sample`, `clocked_runs_sample`).
 //! - It says something: a worked run (`prompt_use`), one that leads one tick before the bound
 //!   (`slow_use`), runs that are looked at one tick too late (`late_use`), histories without each
 //!   premise (`needed`), a run in which a second node may be master, and leads (`one_use`), one in
 //!   which a node finds its master and is set (`table_use`), with datagrams that are delivered in
-//!   time (`answers_use`), and others without that (`answers_use`, `found_use`), and one in which a
-//!   candidate is sent away (`sent_away_use`).
+//!   time (`answers_use`), and others without that (`answers_use`, `found_use`), one in which a
+//!   candidate is sent away (`sent_away_use`), one in which a quiet time ends beside a master and one
+//!   in which nobody leads (`first_search_use`), one in which a report reaches a master and one in
+//!   which it is lost (`reach_use`), one in which a correction is acknowledged and three in which one
+//!   is given up (`acked_use`), and rounds in which a slave has samples and in which it has none
+//!   (`sampled_use`).
 //!
-//! It isn't proved that no send is given up before its answer comes, that a network in which several
-//! nodes may be master gets one, or that all follow it and agree.
+//! It isn't proved that of two candidates at most one wins where elections aren't strict, that a
+//! network in which several nodes may be master gets one, or that all follow it and agree.
 #![tactic(auto)]
 
 pub mod laws;

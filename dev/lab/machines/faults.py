@@ -7,8 +7,9 @@ import time
 from lab.machines import network
 from lab.machines.network import journal, life_of, status_of, wanted
 
-# Seconds: a sleep, a stop by the hypervisor, a short time without a cable and one that is longer than the grace; and a host's quiet time with its join.
-ASLEEP, STOPPED, SHORT, GRACE, LONG = 30, 60, 10, 600, 660
+# Seconds: a sleep, a stop by the hypervisor, a short time without a cable, the grace, a time that is longer, and between two
+# looks in it; and how long something is waited for.
+ASLEEP, STOPPED, SHORT, GRACE, LONG, LOOKS = 30, 60, 10, 600, 660, 20
 AGAIN = 240
 CUTS, APART = 20, 90
 # Fills a disk without writing all of it.
@@ -84,20 +85,23 @@ def cable_short(net):
 
 
 def cable_long(net):
-    """A follower's cable is out for 11 minutes, longer than the grace: its page holds over, its daemon is ended and started again, and it follows within 350 s."""
+    """A follower's cable is out for 11 minutes, longer than the grace: its page holds over, until it leads alone if it may be master; its daemon is ended, started
+    again, and it follows within 350 s."""
     one = net.victim()
-    before, held = life_of(one), []
+    before, seen = life_of(one), []
     one.pull()
     until = time.monotonic() + LONG
     while time.monotonic() < until:
-        held.append(status_of(one))
-        time.sleep(20)
+        seen.append(network.page_of(one))
+        time.sleep(LOOKS)
     one.plug()
     took = net.joined_anew(one, before)
-    wanted('holding' in held and held[-1] in ('stale', ''), f'while its cable is out the page of {one.name} says {held}')
+    held, alone = sum(page.status == 'holding' for page in seen), sum(page.role == 'leads' for page in seen)
+    wanted(held and seen[-1].status in ('stale', '') and (one.number < network.SLAVE_FROM or not alone), f'while its cable is out the page of {one.name} says {seen}')
     said = journal(one, '| grep -o "hasn.t been for [0-9]* s" ')
     wanted(said, f'the journal of {one.name} doesn\'t say that the address is given up: {journal(one)}')
-    return f'the page held over for {20 * held.count("holding")} s; the address {said.splitlines()[-1]}; synchronised {took:.0f} s after the cable was in again'
+    led = f', and it led alone for {LOOKS * alone} s' if alone else ''
+    return f'the page held over for {LOOKS * held} s{led}; the address {said.splitlines()[-1]}; synchronised {took:.0f} s after the cable was in again'
 
 
 def master_long(net):

@@ -24,18 +24,17 @@ use Rattle.tsp_rules.specs.GateRows.{loosens_master, forwards, takes_loop_step, 
 use Rattle.tsp_rules.specs.GateRows.{answers_all, boots_on, boots_all}
 use Rattle.tsp_group.specs.Groups.{group_from, goes_before, better}
 use Rattle.tsp_codec.specs.Taken.{taken_of}
-use Rattle.std.proofs.Common.{ap, arith, inr, subst, sym, ◌∙◌, ◌≡◌, ℕ, ◌+◌, ◌*◌, ◌/◌, ◌<◌, true, List, ◌∷◌, All, []}
-use Rattle.std.proofs.lemmas.List.Elements.{All-cons}
-use Rattle.tsp_rules.specs.Values.{Take}
-use Rattle.tsp_rules.specs.SlaveRows.{takes_value}
-use Rattle.tsp_base.specs.Words.{first_port, is_among, peer_of, time_in, Within, Line}
+use Rattle.std.proofs.Common.{ap, true≢false, true, false, arith, inr, subst, sym, ◌∙◌, ◌≡◌, ℕ, ◌+◌, ◌*◌, ◌/◌, ◌<◌, ◌∷◌, []}
+use Rattle.tsp_rules.specs.{SlaveRows.takes_value, Values.Arm, Values.Elect, Values.Take}
+use Rattle.tsp_base.specs.Words.{Acts, Came, Step, first_port, is_among, line_of, peer_of, time_in}
 use Rattle.tsp_base.proofs.PlaceLemmas.{Within-all}
-use Rattle.tsp_promises.specs.{Setting.Named, Setting.Setting}
-use Rattle.tsp_run.specs.{Ranges.Accepted, Ranges.IsInRange, Run.run, Setting.SetBy}
+use Rattle.tsp_promises.specs.{Setting.Named}
+use Rattle.tsp_run.specs.{Ranges.Accepted, Run.run}
 use Rattle.tsp_run.proofs.{PossibleRun.accepted-possible, RunFits.possible-runs-fit}
 use Rattle.tsp_progress.specs.{AckedInTime.may_obey, AckedUse.before_set, AckedUse.set_line, AckedUse.sets_b, AckedUse.until_joins, AnswersUse.all_stay}
+use Rattle.tsp_progress.specs.{AnswersUse.tail_of}
 use Rattle.tsp_progress.specs.{AnswersUse.until_wakes, TableUse.until_reports, TableUse.until_set, Worked.one_may}
-use Rattle.tsp_progress.proofs.{DeliveredChecks.delivered_by, MeanwhileChecks.obedient_by, UseLemmas.header_is, UseLemmas.ranges}
+use Rattle.tsp_progress.proofs.{DeliveredChecks.delivered_by, MeanwhileChecks.obedient_by, UseLemmas.header_is, UseLemmas.later_ranges, UseLemmas.ranges}
 use Rattle.tsp_progress.proofs.laws.acked_use.Goals as goal
 
 -- the rules give this
@@ -70,21 +69,88 @@ returns c = record {
   begins = record { begins = refl; role_is = refl };
   obeys = λ setting set. obedient_by one_may setting 10000 set_line before_set (run one_may until_set) (peer_of 1)
       (may_obey set_line sets_b (takes_value 0 (time_in sets_b.body))) refl;
+  takes_once = λ setting set obeys.
+      let step : Step = record { at = 390040000; node = 1; cause = Came 8 } in
+      let line = line_of step 390040000 first_port (Acts (Arm Elect 690040000)) in
+      let before = tail_of (tail_of (tail_of (tail_of (tail_of (run one_may until_set))))) in
+      let o = obeys line before (inr (inr (inr (inr (Within-all (line ∷ before)))))) (inr (inr (inr (Within-all (run one_may until_joins))))) refl
+      (set.net_is 1 first_port ∙ sym (set.net_is 0 first_port)) (omega arith) in
+      let never : false ≡ true = o.1.1 in
+      true≢false (sym never);
   delivered = λ setting set. delivered_by setting 10000 390050001 all_stay (run one_may until_wakes) (run one_may until_set)
       (possible-runs-fit one_may setting until_set set (accepted-possible one_may until_set whole)).0 refl;
   prompt = λ setting set. subst (λ (d : ℕ). 2 * 10000 + (d * (2 * 10000) + 999999) / 1000000 < 3000000) (sym set.drift_is) (omega arith);
   slow = λ setting set prompt. omega (arith, prompt);
-  late_valid = (refl, (refl, (refl, (refl, (refl, (refl, (refl, (refl, (refl, (refl, (refl, (refl, (refl, (refl, (refl, (refl, (refl, (refl, tt))))))))))))))))));
+  late_valid = (
+    refl,
+    (
+      refl,
+      (
+        refl,
+        (
+          refl,
+          (
+            refl,
+            (
+              refl,
+              (
+                refl,
+                (
+                  refl,
+                  (
+                    refl,
+                    (
+                      refl,
+                      (refl, (refl, (refl, (refl, (refl, (refl, (refl, (refl, tt)))))))),
+                    ),
+                  ),
+                ),
+              ),
+            ),
+          ),
+        ),
+      ),
+    ),
+  );
   late = refl;
   lost_valid = (refl, (refl, (refl, (refl, (refl, (refl, (refl, (refl, (refl, (refl, (refl, (refl, (refl, (refl, (refl, (refl, (refl, tt)))))))))))))))));
   lost = refl;
-  idle_valid = (refl, (refl, (refl, (refl, (refl, (refl, (refl, (refl, (refl, (refl, (refl, (refl, (refl, (refl, (refl, (refl, (refl, (refl, tt))))))))))))))))));
+  idle_valid = (
+    refl,
+    (
+      refl,
+      (
+        refl,
+        (
+          refl,
+          (
+            refl,
+            (
+              refl,
+              (
+                refl,
+                (
+                  refl,
+                  (
+                    refl,
+                    (
+                      refl,
+                      (refl, (refl, (refl, (refl, (refl, (refl, (refl, (refl, tt)))))))),
+                    ),
+                  ),
+                ),
+              ),
+            ),
+          ),
+        ),
+      ),
+    ),
+  );
   idle = refl;
 } where
   whole : Accepted one_may until_set
   whole = record {
     header_is = header_is;
-    ranges = All-cons IsInRange (Take 390050000 9) (Take 390040000 8 ∷ until_joins) tt (All-cons IsInRange (Take 390040000 8) until_joins tt
-        (All-cons IsInRange (Take 390030000 7) until_reports tt ranges));
+    ranges = later_ranges (Take 390050000 9 ∷ Take 390040000 8 ∷ Take 390030000 7 ∷ []) until_reports refl ranges;
     valid = (refl, (refl, (refl, (refl, (refl, (refl, (refl, (refl, (refl, (refl, (refl, (refl, (refl, (refl, (refl, tt)))))))))))))));
   }
