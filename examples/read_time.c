@@ -1,4 +1,5 @@
-/* Prints the network's time once a second, with the interval in which the master's clock lies: cc -o read_time read_time.c */
+/* Prints the network's time once a second, with the interval in which the master's clock lies: cc -o read_time read_time.c
+ * (in a clone, here: cc -I ../tools -o read_time read_time.c) */
 #define _POSIX_C_SOURCE 200809L
 #include <stdio.h>
 #include <tsp_clock.h>
