@@ -31,6 +31,7 @@ pub mod PortSetups
 pub mod PortWakes
 pub mod ProgressProof
 pub mod ReachesProof
+pub mod RefusedProof
 pub mod RoundKept
 pub mod RoundsProof
 pub mod RunWakes
@@ -42,6 +43,7 @@ pub mod SentAwayProof
 pub mod StandsProof
 pub mod TableProof
 pub mod TableRows
+pub mod TimePlaces
 pub mod UseLemmas
 pub mod Waking
 pub mod WatchChecks

@@ -21,6 +21,7 @@ use Rattle.tsp_progress.specs.{ByTable.ByTable, ByTable.node_in, ByTable.port_be
 use Rattle.tsp_progress.specs.SampledInTime.{ClockedRunsSample, ClosesSince, IsSwift, Measured, RunsSample, SampledInTime}
 use Rattle.tsp_progress.proofs.{AnswersProof.answer_peer, AnswersProof.answers_in_time, MeasuresProof.all_measure, TableProof.clocked_runs_by_table}
 use Rattle.tsp_progress.specs.{Heeds.DoesNext, Heeds.role_before, Measures.sample_by}
+use Rattle.tsp_progress.proofs.TimePlaces.{before_time}
 use Rattle.tsp_progress.proofs.WorldPlaces.{WorldPlace, act_place, own_place, world_place}
 use Rattle.tsp_progress.proofs.RoundKept.{AskedAt, Going, Open, asked_at, back, persists, proper_view, walk}
 
@@ -167,11 +168,7 @@ module _ {clocks : Clocks} {header : HeaderValue} {setting : Setting} (set : Set
 
     -- a line before the close's time stands before the close
     before-close : (k : Line) (w : List Line) → Within (k ∷ w) world → k.did.step.at < c.did.step.at → Within (k ∷ w) older
-    before-close k w place less = elim (Within-comparable (k ∷ w) (c ∷ older) world place r.place) [
-      | inl (inl e) ↦ absurd (let same : k ≡ c = cc in let at = ap (λ (j : Line). j.did.step.at) same in omega (arith, at, less))
-      | inl (inr v) ↦ v
-      | inr v ↦ absurd (let order = place-time setting (c ∷ older) (k ∷ w) (fits_at setting (k ∷ w) world fits place) v in omega (arith, order, less))
-    ]
+    before-close k w place less = before_time setting world fits k w c older place r.place less
 
     -- the reply that is taken
     module _ (reply : ReplyValue) (word-is : reply.word ≡ asked.word) (counter-is : reply.counter ≡ asked.counter)

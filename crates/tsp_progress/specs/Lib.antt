@@ -29,6 +29,7 @@ pub mod OneUse
 pub mod Progress
 pub mod ReachUse
 pub mod ReachesInTime
+pub mod RefusedLoses
 pub mod RoundsRecur
 pub mod RunsWake
 pub mod SampledInTime

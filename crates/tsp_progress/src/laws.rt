@@ -230,6 +230,18 @@ pub fn acked_use()
     ensures { AckedUse }
 {}
 
+ghost use Rattle.tsp_progress.specs.RefusedLoses.{ClockedRunsRefuse, RunsRefuse};
+/// So a candidate whose vote is refused in time doesn't win, unless its send to who refuses ended
+/// otherwise before.
+pub fn runs_refuse()
+    ensures { RunsRefuse }
+{}
+
+/// So it is in a run by any clocks.
+pub fn clocked_runs_refuse()
+    ensures { ClockedRunsRefuse }
+{}
+
 ghost use Rattle.tsp_progress.specs.SampledInTime.{ClockedRunsSample, RunsSample};
 /// Where datagrams are delivered in time, and twice that time is less than `CLOSE`, 8 s, each peer
 /// that is measured has a sample when its round closes, if its clock is in its range.
