@@ -30,6 +30,7 @@ pub mod Progress
 pub mod ReachUse
 pub mod ReachesInTime
 pub mod RefusedLoses
+pub mod RefusedUse
 pub mod RoundsRecur
 pub mod RunsWake
 pub mod SampledInTime

@@ -242,6 +242,13 @@ pub fn clocked_runs_refuse()
     ensures { ClockedRunsRefuse }
 {}
 
+ghost use Rattle.tsp_progress.specs.RefusedUse.{RefusedUse};
+/// Two candidates at once, which are both refused in time and lose, and two whose refusals take 1.6
+/// s, so that both win.
+pub fn refused_use()
+    ensures { RefusedUse }
+{}
+
 ghost use Rattle.tsp_progress.specs.SampledInTime.{ClockedRunsSample, RunsSample};
 /// Where datagrams are delivered in time, and twice that time is less than `CLOSE`, 8 s, each peer
 /// that is measured has a sample when its round closes, if its clock is in its range.
