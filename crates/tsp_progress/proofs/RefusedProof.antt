@@ -1,18 +1,18 @@
 -- A candidate that is refused in time doesn't win.
-use Rattle.std.proofs.Common.{sym, ap, subst, arith, true≢false, inl, inr, ◌∙◌, ◌≡◌, ◌<◌, ◌≤◌, ◌⊎◌, ℕ, ◌+◌, ◌*◌, ◌==◌, Bool, true, false, List, [], ◌∷◌}
-use Rattle.std.proofs.Common.{eq-eqb, length, refl}
+use Rattle.std.proofs.Common.{sym, ap, subst, arith, inl, inr, ◌∙◌, ◌≡◌, ◌<◌, ℕ, ◌+◌, ◌*◌, Bool, List, [], ◌∷◌}
+use Rattle.std.proofs.Common.{refl}
 use Rattle.std.proofs.lemmas.Bool.{cases_lt}
-use Rattle.tsp_rules.specs.Values.{Boot, Become, Acked, Election, Loose, Refuse, Role, Master, Message, PeerId, Act, WINDOW}
-use Rattle.tsp_base.specs.Words.{Acts, Deed, Did, Elsewhere, HeaderValue, Here, Line, MessageValue, Past, Seen, Within, bare, line_of, of, peer_of, stood}
+use Rattle.tsp_rules.specs.Values.{Boot, Become, Acked, Loose, Refuse, Role, Message, PeerId, Act}
+use Rattle.tsp_base.specs.Words.{Acts, Deed, Did, Elsewhere, HeaderValue, Here, Line, MessageValue, Seen, Within, bare, line_of, of, stood}
 use Rattle.tsp_base.specs.Words.{stood_after, view}
 use Rattle.tsp_base.proofs.{PlaceLemmas.Within-all, PlaceLemmas.Within-length, PlaceLemmas.Within-tail, PlaceLemmas.Within-through, ViewPlaces.Within-view}
 use Rattle.tsp_promises.specs.{Fits.Fits, Fits.node_of, Setting.Setting}
 use Rattle.tsp_promises.proofs.{Clocks.tick-mono, ElectionFacts.stood_at, HistoryPlaces.own_in, OwnFitsProof.seen_in, OwnFitsProof.tick_in}
 use Rattle.tsp_run.specs.{Clocked.Clocks, Clocked.SetByClocks, Clocked.clocks_of, Clocked.run_by}
 use Rattle.tsp_run.proofs.{OwnClocks.possible_own, OwnClocks.runs_by_own_clocks, OwnClocks.set_own, RunFits.clocked_runs_fit}
-use Rattle.tsp_progress.specs.AckedInTime.{Acknowledged, AckedInTime, Begins, EndedBefore, IsPrompt, refuses_vote}
-use Rattle.tsp_progress.specs.AnswersInTime.{AnswerTaken, Asks, Meanwhile}
-use Rattle.tsp_progress.specs.{ByTable.ByTable, ByTable.node_in, Delivered.Delivered, GivenUp.GivesUpLate, GivenUp.Owes, Heeds.is_candidate_role}
+use Rattle.tsp_progress.specs.AckedInTime.{Acknowledged, EndedBefore, IsPrompt}
+use Rattle.tsp_progress.specs.AnswersInTime.{Asks}
+use Rattle.tsp_progress.specs.{ByTable.ByTable, ByTable.node_in, Delivered.Delivered, GivenUp.GivesUpLate, GivenUp.Owes}
 use Rattle.tsp_progress.specs.{Heeds.DoesNext, Heeds.arms_for_delay, SentAway.past_there, WinsLate.StoodLong, WinsLate.WinsLate, WinsLate.WonFits}
 use Rattle.tsp_progress.specs.RefusedLoses.{ClockedRunsRefuse, RefusedLoses, RunsRefuse, WinsAfter}
 use Rattle.tsp_progress.proofs.{AckedProof.acked_in_time, GiveUpProof.clocked_runs_give_up, TableProof.clocked_runs_by_table, TimePlaces.before_time}

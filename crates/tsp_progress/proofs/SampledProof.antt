@@ -8,11 +8,11 @@ use Rattle.tsp_base.specs.Words.{Acts, Begins, Deed, Did, HeaderValue, Here, Lin
 use Rattle.tsp_base.specs.Words.{estimate, estimate_of, exchange, is_among, is_shared, is_starting, line_of, of, plain, request_at_place}
 use Rattle.tsp_base.specs.Words.{role, seen_as, started, started_after, target_there, view, word}
 use Rattle.tsp_base.specs.RoundFacts.{is_starting_after}
-use Rattle.tsp_base.proofs.{PlaceLemmas.Within-comparable, PlaceLemmas.Within-tail, PlaceLemmas.Within-through}
+use Rattle.tsp_base.proofs.{PlaceLemmas.Within-tail, PlaceLemmas.Within-through}
 use Rattle.tsp_promises.specs.{Fits.Fits, Fits.SameStep, Fits.node_of, OwnFits.OwnFits, RoundFits.CloseFits}
 use Rattle.tsp_promises.specs.{MeasureFits.RequestFits, Setting.Setting, Setting.setup_of}
 use Rattle.tsp_promises.proofs.{Clocks.tick-mono, HistoryPlaces.line_on, HistoryPlaces.own_in, KnownProof.InStep, KnownProof.in-step, KnownProof.line-is}
-use Rattle.tsp_promises.proofs.OwnFitsProof.{deed_fits, fits_at, fits_in, locate, own_fits, own_fits_at, place-time, port_fits, seen_before, seen_in, tick_in}
+use Rattle.tsp_promises.proofs.OwnFitsProof.{deed_fits, fits_at, fits_in, locate, own_fits, own_fits_at, port_fits, seen_before, seen_in, tick_in}
 use Rattle.tsp_promises.proofs.{Leaves.nil-cons, OwnFitsProof.Located, RoundPlaces.started_at}
 use Rattle.tsp_run.specs.{Clocked.Clocks, Clocked.SetByClocks, Clocked.clocks_of, Clocked.run_by}
 use Rattle.tsp_run.proofs.{OwnClocks.possible_own, OwnClocks.runs_by_own_clocks, OwnClocks.set_own, RunFits.clocked_runs_fit}

@@ -1,6 +1,7 @@
 -- Two candidates at once: both are refused and lose, but both win where datagrams take too long.
 use Rattle.std.specs.Prelude.{◌≡◌, List, [], ◌∷◌, codes}
-use Rattle.tsp_rules.specs.Values.{Acked, Arm, Become, BootAt, Election, Elect, Event, Loose, Master, MasterUp, Message, Peer, Post, Refuse, Ring, Round, Take, Turn}
+use Rattle.tsp_rules.specs.Values.{Accept, Acked, Arm, Backer, Become, BootAt, Election, Elect, Event, Loose, Master, MasterUp, Message, Peer, Post, Refuse}
+use Rattle.tsp_rules.specs.Values.{Ring, Round, Take, Turn}
 use Rattle.tsp_rules.specs.Values.{Window}
 use Rattle.tsp_base.specs.Words.{Acts, Line, MessageValue, Turned, bare, first_port, line_of, peer_of as peer}
 use Rattle.tsp_promises.specs.Setting.{Setting}
@@ -43,6 +44,11 @@ refused_late =
     Take 388200000 7 ∷ Take 388200000 6 ∷ Turn 388000000 1 ∷ Turn 388000000 0 ∷ Take 387600000 5 ∷ Take 387600000 4 ∷ Turn 387000000 1 ∷ Turn 387000000 0 ∷
     Take 386600000 3 ∷ Take 386600000 2 ∷ Turn 386000000 1 ∷ Turn 386000000 0 ∷ Turn 385000000 1 ∷ Turn 385000000 0 ∷ until_elects
 
+-- b waits longer, and backs a
+abbrev pub b_backs : List Event
+b_backs = Take 385020000 3 ∷ Take 385010000 2 ∷ Turn 385000000 0 ∷ Turn 85000000 1 ∷ Turn 85000000 0 ∷ Turn 80000000 1 ∷ Turn 80000000 0 ∷
+    BootAt 0 1 10000000 ∷ BootAt 0 0 0 ∷ []
+
 pub record RefusedUse : Type 0 where
   -- a asks b for its vote, which is a candidate, too, and datagrams are delivered in time
   pub accepted : Accepted two_may both_lose
@@ -70,3 +76,7 @@ pub record RefusedUse : Type 0 where
       b_line 22 390000000 (Become Master) ∷
       b_line 22 390000000 (Arm Round 630000000) ∷
       b_posts 22 390000000 13 (tells_a (bare MasterUp 0 (codes "b"))) ∷ []
+  -- where b isn't a candidate it votes for a
+  pub backs_valid : Valid two_may b_backs
+  pub backs : gained two_may b_backs ≡
+      a_line 9 385020000 (a_takes (bare Accept 32768 (codes "b"))) ∷ a_line 9 385020000 (Acked (peer 1)) ∷ a_line 9 385020000 (Backer (peer 1)) ∷ []

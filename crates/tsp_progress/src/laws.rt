@@ -243,8 +243,8 @@ pub fn clocked_runs_refuse()
 {}
 
 ghost use Rattle.tsp_progress.specs.RefusedUse.{RefusedUse};
-/// Two candidates at once, which are both refused in time and lose, and two whose refusals take 1.6
-/// s, so that both win.
+/// Two candidates at once, which are both refused in time and lose, two whose refusals take 1.6 s, so
+/// that both win, and one that gets the other node's vote.
 pub fn refused_use()
     ensures { RefusedUse }
 {}

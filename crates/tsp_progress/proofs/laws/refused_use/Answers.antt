@@ -24,12 +24,12 @@ use Rattle.tsp_rules.specs.GateRows.{loosens_master, forwards, takes_loop_step, 
 use Rattle.tsp_rules.specs.GateRows.{answers_all, boots_on, boots_all}
 use Rattle.tsp_group.specs.Groups.{group_from, goes_before, better}
 use Rattle.tsp_codec.specs.Taken.{taken_of}
-use Rattle.std.proofs.Common.{ap, arith, inr, ◌∙◌, List, ◌∷◌, []}
+use Rattle.std.proofs.Common.{ap, arith, inr, ◌∙◌, ◌∷◌, []}
 use Rattle.tsp_rules.specs.Values.{BootAt, Take, Turn}
-use Rattle.tsp_base.specs.Words.{first_port, is_among, peer_of, Within, Line}
+use Rattle.tsp_base.specs.Words.{first_port, is_among, peer_of}
 use Rattle.tsp_base.proofs.PlaceLemmas.{Within-all}
-use Rattle.tsp_promises.specs.{Setting.Named, Setting.Setting}
-use Rattle.tsp_run.specs.{Ranges.Accepted, Run.run, Setting.SetBy}
+use Rattle.tsp_promises.specs.{Setting.Named}
+use Rattle.tsp_run.specs.{Ranges.Accepted, Run.run}
 use Rattle.tsp_run.proofs.{PossibleRun.accepted-possible, RunFits.possible-runs-fit}
 use Rattle.tsp_progress.specs.{AckedInTime.refuses_vote, AnswersUse.all_stay, OneUse.two_may}
 use Rattle.tsp_progress.specs.RefusedUse.{b_stands, before_election, both_lose, both_stand, election_line}
@@ -71,9 +71,41 @@ returns c = record {
   delivered = λ setting set. delivered_by setting 10000 385020001 all_stay (run two_may b_stands) (run two_may both_lose)
       (possible-runs-fit two_may setting both_lose set (accepted-possible two_may both_lose whole)).0 refl;
   loses = refl;
-  late_valid = (refl, (refl, (refl, (refl, (refl, (refl, (refl, (refl, (refl, (refl, (refl, (refl, (refl, (refl, (refl, (refl, (refl, (refl, (refl, (refl, (refl, (refl, tt))))))))))))))))))))));
+  late_valid = (
+    refl,
+    (
+      refl,
+      (
+        refl,
+        (
+          refl,
+          (
+            refl,
+            (
+              refl,
+              (
+                refl,
+                (
+                  refl,
+                  (
+                    refl,
+                    (
+                      refl,
+                      (refl, (refl, (refl, (refl, (refl, (refl, (refl, (refl, (refl, (refl, (refl, (refl, tt)))))))))))),
+                    ),
+                  ),
+                ),
+              ),
+            ),
+          ),
+        ),
+      ),
+    ),
+  );
   a_wins = refl;
   b_wins = refl;
+  backs_valid = (refl, (refl, (refl, (refl, (refl, (refl, (refl, (refl, (refl, tt)))))))));
+  backs = refl;
 } where
   whole : Accepted two_may both_lose
   whole = record {
