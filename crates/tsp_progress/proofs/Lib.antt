@@ -23,6 +23,7 @@ pub mod LoneProof
 pub mod MeanwhileChecks
 pub mod MeasuresProof
 pub mod NeverLateProof
+pub mod NoSecondProof
 pub mod NodeKeeps
 pub mod NodeWakes
 pub mod ObeyedProof
@@ -48,4 +49,5 @@ pub mod UseLemmas
 pub mod Waking
 pub mod WatchChecks
 pub mod WinsLateProof
+pub mod WinsNot
 pub mod WorldPlaces

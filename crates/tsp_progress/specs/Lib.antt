@@ -23,6 +23,7 @@ pub mod MeanwhileUse
 pub mod Measures
 pub mod Needed
 pub mod NeverLate
+pub mod NoSecondMaster
 pub mod ObeyedInTime
 pub mod OneMay
 pub mod OneUse

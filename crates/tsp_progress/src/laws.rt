@@ -242,6 +242,18 @@ pub fn clocked_runs_refuse()
     ensures { ClockedRunsRefuse }
 {}
 
+ghost use Rattle.tsp_progress.specs.NoSecondMaster.{ClockedRunsLeadAlone, RunsLeadAlone};
+/// And beside a master no candidate wins, if twice that time is less than `WINDOW`, 5 s, and no QUIT
+/// to it is open yet.
+pub fn runs_lead_alone()
+    ensures { RunsLeadAlone }
+{}
+
+/// So it is in a run by any clocks.
+pub fn clocked_runs_lead_alone()
+    ensures { ClockedRunsLeadAlone }
+{}
+
 ghost use Rattle.tsp_progress.specs.RefusedUse.{RefusedUse};
 /// Two candidates at once, which are both refused in time and lose, two whose refusals take 1.6 s, so
 /// that both win, and one that gets the other node's vote.
