@@ -1,7 +1,7 @@
 -- Beside a master no candidate wins.
-use Rattle.std.proofs.Common.{ap, subst, true≢false, sym, ◌∙◌, ◌≡◌, ℕ, Bool, true, false, List, [], ◌∷◌, refl}
-use Rattle.tsp_rules.specs.Values.{Ack, Become, Candidate, Election, Follow, Message, PeerId, Quit, QuitKind, Role}
-use Rattle.tsp_base.specs.Words.{HeaderValue, Line, MessageValue, bare, of, peer_of, role, view}
+use Rattle.std.proofs.Common.{ap, subst, true≢false, sym, ◌∙◌, ◌≡◌, ℕ, Bool, true, List, [], ◌∷◌, refl}
+use Rattle.tsp_rules.specs.Values.{Ack, Candidate, Follow, Message, PeerId, Quit, QuitKind, Role}
+use Rattle.tsp_base.specs.Words.{HeaderValue, Line, MessageValue, bare, of, role, view}
 use Rattle.tsp_promises.specs.{Fits.Fits, Fits.node_of, Setting.Setting}
 use Rattle.tsp_run.specs.{Clocked.Clocks, Clocked.SetByClocks, Clocked.clocks_of, Clocked.run_by}
 use Rattle.tsp_run.proofs.{OwnClocks.possible_own, OwnClocks.runs_by_own_clocks, OwnClocks.set_own, RunFits.clocked_runs_fit}

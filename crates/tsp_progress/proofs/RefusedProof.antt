@@ -1,7 +1,7 @@
 -- A candidate that is refused in time doesn't win.
-use Rattle.std.proofs.Common.{subst, arith, inl, inr, ◌≡◌, ℕ, Bool, List, [], ◌∷◌, refl}
-use Rattle.tsp_rules.specs.Values.{Acked, Become, Election, Loose, Message, PeerId, Refuse}
-use Rattle.tsp_base.specs.Words.{HeaderValue, Here, Line, MessageValue, Seen, bare, of, peer_of, view}
+use Rattle.std.proofs.Common.{subst, arith, inl, inr, ℕ, Bool, List, [], ◌∷◌, refl}
+use Rattle.tsp_rules.specs.Values.{Acked, Become, Loose, Message, PeerId, Refuse}
+use Rattle.tsp_base.specs.Words.{HeaderValue, Here, Line, MessageValue, bare, of, view}
 use Rattle.tsp_base.proofs.PlaceLemmas.{Within-through}
 use Rattle.tsp_promises.specs.{Fits.Fits, Fits.node_of, Setting.Setting}
 use Rattle.tsp_run.specs.{Clocked.Clocks, Clocked.SetByClocks, Clocked.clocks_of, Clocked.run_by}

@@ -1,5 +1,5 @@
 -- The header of small runs, and the ranges of their events.
-use Rattle.std.proofs.Common.{sym, ap, arith, true≢false, ◌∙◌, ◌≡◌, ℕ, ◌==◌, pos, Bool, true, false, All, List, [], ◌∷◌, ◌++◌}
+use Rattle.std.proofs.Common.{sym, ap, arith, true≢false, ◌∙◌, ◌≡◌, ◌<◌, ℕ, ◌==◌, pos, Bool, true, false, All, List, [], ◌∷◌, ◌++◌}
 use Rattle.std.proofs.Common.{refl}
 use Rattle.std.proofs.lemmas.List.Elements.{All-nil, All-cons, All-contains}
 use Rattle.tsp_rules.specs.Values.{BootAt, Event, Turn, Take, NodeLine}
@@ -54,8 +54,10 @@ two_header_is = record {
   few_ports = λ n. omega arith;
 }
 
-pub boot_ranges : All IsInRange (BootAt 0 1 0 ∷ BootAt 0 0 0 ∷ [])
-boot_ranges = All-cons IsInRange (BootAt 0 1 0) (BootAt 0 0 0 ∷ []) (omega arith) (All-cons IsInRange (BootAt 0 0 0) [] (omega arith) (All-nil IsInRange))
+-- both boot at once, b with a word in its range
+pub boot_ranges : (word : ℕ) → word < 18446744073709551616 → All IsInRange (BootAt 0 1 word ∷ BootAt 0 0 0 ∷ [])
+boot_ranges word small = All-cons IsInRange (BootAt 0 1 word) (BootAt 0 0 0 ∷ []) (omega (arith, small)) (All-cons IsInRange (BootAt 0 0 0) [] (omega arith)
+    (All-nil IsInRange))
 
 pub ranges : All IsInRange until_reports
 ranges = All-cons IsInRange (Take 390020000 6) (Take 390010000 5 ∷ Turn 390000000 1 ∷ Turn 390000000 0 ∷ Turn 388000000 0 ∷ Turn 387000000 0 ∷

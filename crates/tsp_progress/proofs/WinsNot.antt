@@ -1,24 +1,20 @@
 -- A candidate whose role changes in time doesn't win what it stood for.
-use Rattle.std.proofs.Common.{sym, ap, subst, arith, inl, inr, ◌∙◌, ◌≡◌, ◌<◌, ℕ, ◌+◌, ◌*◌, Bool, List, [], ◌∷◌}
+use Rattle.std.proofs.Common.{sym, ap, subst, arith, inl, inr, ◌∙◌, ◌≡◌, ◌<◌, ℕ, ◌+◌, ◌*◌, List, [], ◌∷◌}
 use Rattle.std.proofs.Common.{refl}
 use Rattle.std.proofs.Common.{length}
 use Rattle.std.proofs.lemmas.Bool.{cases_lt}
-use Rattle.tsp_rules.specs.Values.{Boot, Become, Datagram, Acked, Loose, Refuse, Role, Message, PeerId, Act}
-use Rattle.tsp_base.specs.Words.{Acts, Deed, Did, Elsewhere, HeaderValue, Here, Line, MessageValue, Seen, Within, bare, line_of, of, stood}
+use Rattle.tsp_rules.specs.Values.{Boot, Become, Datagram, Role, PeerId, Act}
+use Rattle.tsp_base.specs.Words.{Acts, Deed, Did, Elsewhere, Here, Line, Seen, Within, line_of, of, stood}
 use Rattle.tsp_base.specs.Words.{joined, placed, role, role_after, stood_after, view}
 use Rattle.tsp_base.proofs.{PlaceLemmas.Within-all, PlaceLemmas.Within-length, PlaceLemmas.Within-tail, PlaceLemmas.Within-through, ViewPlaces.Within-view}
 use Rattle.tsp_promises.specs.{Fits.Fits, Fits.node_of, Setting.Setting}
 use Rattle.tsp_promises.proofs.{Clocks.tick-mono, ElectionFacts.stood_at, HistoryPlaces.own_in, OwnFitsProof.seen_in, OwnFitsProof.tick_in}
-use Rattle.tsp_run.specs.{Clocked.Clocks, Clocked.SetByClocks, Clocked.clocks_of, Clocked.run_by}
-use Rattle.tsp_run.proofs.{OwnClocks.possible_own, OwnClocks.runs_by_own_clocks, OwnClocks.set_own, RunFits.clocked_runs_fit}
-use Rattle.tsp_progress.specs.AckedInTime.{Acknowledged, EndedBefore, IsPrompt}
 use Rattle.tsp_progress.specs.AnswersInTime.{AnswerTaken}
-use Rattle.tsp_progress.specs.{ByTable.ByTable, ByTable.node_in, Delivered.Delivered, GivenUp.GivesUpLate, GivenUp.Owes}
-use Rattle.tsp_progress.specs.{Heeds.DoesNext, Heeds.arms_for_delay, SentAway.past_there, WinsLate.StoodLong, WinsLate.WinsLate, WinsLate.WonFits}
+use Rattle.tsp_progress.specs.{GivenUp.Owes}
+use Rattle.tsp_progress.specs.{Heeds.DoesNext, WinsLate.StoodLong, WinsLate.WinsLate, WinsLate.WonFits}
 use Rattle.tsp_progress.specs.{FoundInTime.IsQuick}
-use Rattle.tsp_progress.specs.RefusedLoses.{ClockedRunsRefuse, RefusedLoses, RunsRefuse, WinsAfter}
-use Rattle.tsp_progress.proofs.{AckedProof.acked_in_time, GiveUpProof.clocked_runs_give_up, TableProof.clocked_runs_by_table, TimePlaces.before_time}
-use Rattle.tsp_progress.proofs.{WinsLateProof.clocked_runs_win_late}
+use Rattle.tsp_progress.specs.RefusedLoses.{WinsAfter}
+use Rattle.tsp_progress.proofs.{TimePlaces.before_time}
 use Rattle.tsp_progress.proofs.TableRows.{within_joined}
 use Rattle.tsp_progress.proofs.WorldPlaces.{Among, WorldPlace, act_place, world_place}
 

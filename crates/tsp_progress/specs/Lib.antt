@@ -36,6 +36,7 @@ pub mod RoundsRecur
 pub mod RunsWake
 pub mod SampledInTime
 pub mod SampledUse
+pub mod SecondUse
 pub mod SendsEnd
 pub mod SentAway
 pub mod SentAwayUse

@@ -254,6 +254,12 @@ pub fn clocked_runs_lead_alone()
     ensures { ClockedRunsLeadAlone }
 {}
 
+ghost use Rattle.tsp_progress.specs.SecondUse.{SecondUse};
+/// A candidate beside a master that is sent away in time, and two that aren't, and are master, too.
+pub fn second_use()
+    ensures { SecondUse }
+{}
+
 ghost use Rattle.tsp_progress.specs.RefusedUse.{RefusedUse};
 /// Two candidates at once, which are both refused in time and lose, two whose refusals take 1.6 s, so
 /// that both win, and one that gets the other node's vote.

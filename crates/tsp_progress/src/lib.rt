@@ -29,9 +29,9 @@
 //! most of them together; then `Worked`, `Needed` and `OneUse`, small runs. Of what is done at once
 //! read `ByTable`, `Heeds`, `Measures` and `Corrects`; of two nodes `Delivered`, `ReachesInTime`,
 //! `AnswersInTime`, `FoundInTime`, `FirstSearch`, `SentAway`, `ObeyedInTime`, `GivenUp`,
-//! `AckedInTime`, `WinsLate`, `RefusedLoses` and `SampledInTime`; then `TableUse`, `AnswersUse`,
-//! `ReachUse`, `FoundUse`, `FirstSearchUse`, `SentAwayUse`, `AckedUse`, `MeanwhileUse`, `RefusedUse`
-//! and `SampledUse`, small runs. The words of histories are those of `tsp_promises`.
+//! `AckedInTime`, `WinsLate`, `RefusedLoses`, `NoSecondMaster` and `SampledInTime`; then `TableUse`, `AnswersUse`,
+//! `ReachUse`, `FoundUse`, `FirstSearchUse`, `SentAwayUse`, `AckedUse`, `MeanwhileUse`, `RefusedUse`,
+//! `SecondUse` and `SampledUse`, small runs. The words of histories are those of `tsp_promises`.
 //!
 //! # What is proved
 //!
@@ -88,7 +88,9 @@
 //!   `clocked_runs_acknowledge`).
 //! - In every possible run no candidate wins before 5 s after it stood (`runs_win_late`,
 //!   `clocked_runs_win_late`). So one that is refused in time doesn't win, unless its send to who
-//!   refuses ended otherwise before (`runs_refuse`, `clocked_runs_refuse`).
+//!   refuses ended otherwise before (`runs_refuse`, `clocked_runs_refuse`); nor does one that asks a
+//!   master for its vote, if no QUIT to it is open yet (`runs_lead_alone`,
+//!   `clocked_runs_lead_alone`).
 //! - Each peer that is measured has a sample when its round closes, if twice `long` is less than 8 s
 //!   (`runs_sample`, `clocked_runs_sample`).
 //! - It says something: a worked run (`prompt_use`), one that leads one tick before the bound
@@ -100,8 +102,8 @@
 //!   in which nobody leads (`first_search_use`), one in which a report reaches a master and one in
 //!   which it is lost (`reach_use`), one in which a correction is acknowledged and three in which one
 //!   is given up (`acked_use`), runs in which nobody is up to answer (`meanwhile_use`), two candidates
-//!   at once that lose, and two that both win since datagrams take too long (`refused_use`), and
-//!   rounds in which a slave has samples and in which it has none (`sampled_use`).
+//!   at once that lose, and two that both win since datagrams take too long (`refused_use`),
+//!   candidates beside a master that lose and that win (`second_use`), and rounds in which a slave has samples and in which it has none (`sampled_use`).
 //!
 //! It isn't proved that of two candidates at most one wins where elections aren't strict, that a
 //! network in which several nodes may be master gets one, or that all follow it and agree.

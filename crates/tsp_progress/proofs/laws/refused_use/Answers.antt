@@ -111,6 +111,6 @@ returns c = record {
   whole = record {
     header_is = two_header_is;
     ranges = later_ranges (Take 385020000 5 ∷ Take 385020000 4 ∷ Take 385010000 2 ∷ Take 385010000 3 ∷ Turn 385000000 0 ∷ Turn 385000000 1 ∷
-        Turn 85000000 1 ∷ Turn 85000000 0 ∷ Turn 80000000 1 ∷ Turn 80000000 0 ∷ []) (BootAt 0 1 0 ∷ BootAt 0 0 0 ∷ []) refl boot_ranges;
+        Turn 85000000 1 ∷ Turn 85000000 0 ∷ Turn 80000000 1 ∷ Turn 80000000 0 ∷ []) (BootAt 0 1 0 ∷ BootAt 0 0 0 ∷ []) refl (boot_ranges 0 (omega arith));
     valid = (refl, (refl, (refl, (refl, (refl, (refl, (refl, (refl, (refl, (refl, (refl, (refl, tt))))))))))));
   }
