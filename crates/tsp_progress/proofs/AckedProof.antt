@@ -3,7 +3,7 @@ use Rattle.std.proofs.Common.{sym, ap, subst, arith, true≢false, inl, inr, ◌
 use Rattle.std.proofs.Common.{if◌then◌else◌, List, []}
 use Rattle.std.proofs.Common.{◌∷◌, eq-eqb, refl}
 use Rattle.std.proofs.lemmas.Bool.{and_parts}
-use Rattle.tsp_rules.specs.Values.{Act, Become, Backer, Acked, Back, Accept, Ack, AdjTime, Election, QuitKind, Refuse, SetTime, Message}
+use Rattle.tsp_rules.specs.Values.{Act, Become, Backer, Acked, Back, Accept, Ack, AdjTime, Conflict, Election, QuitKind, Refuse, SetTime, Message}
 use Rattle.tsp_rules.specs.Values.{PeerId, Role, Loose, Follow, Starting, RETRY, TRIES}
 use Rattle.tsp_rules.specs.{CommonRows.is_idle, Guards.is_starting_role, Guards.may_back_at, SendRows.answers_election, SendRows.answers_other}
 use Rattle.tsp_rules.specs.SlaveRows.{is_repeated, takes_amount, takes_value}
@@ -20,10 +20,10 @@ use Rattle.tsp_progress.specs.AckedInTime.{RunsAcknowledge, may_obey, refuses_vo
 use Rattle.tsp_progress.specs.AnswersInTime.{AnswerTaken, Asks, Meanwhile}
 use Rattle.tsp_progress.specs.{ByTable.ByTable, ByTable.node_in, Delivered.Arrives, Delivered.Delivered, GivenUp.GaveFits, GivenUp.GivesUpLate, GivenUp.Owes}
 use Rattle.tsp_progress.specs.{ObeyedInTime.Obedient, SentAway.past_there}
-use Rattle.tsp_progress.specs.Heeds.{DoesNext, Hears, arms_for_delay, is_candidate_role, is_up_role, moved_by, posts_bare, role_before, set_to}
-use Rattle.tsp_progress.proofs.AnswersProof.{answer_heard, answered, answers_in_time, arrival, candidate-awake, first_of, hears, up-awake}
+use Rattle.tsp_progress.specs.Heeds.{DoesNext, Hears, arms_for_delay, is_candidate_role, is_master_role, is_up_role, moved_by, posts_bare, role_before, set_to}
+use Rattle.tsp_progress.proofs.AnswersProof.{answer_heard, answered, answers_in_time, arrival, candidate-awake, first_of, hears, master-awake, up-awake}
 use Rattle.tsp_progress.proofs.{FoundProof.view-tick, GiveUpProof.clocked_runs_give_up, HeedsProof.adjtime_again, HeedsProof.all_heed}
-use Rattle.tsp_progress.proofs.HeedsProof.{idle_refuses, settime_again}
+use Rattle.tsp_progress.proofs.HeedsProof.{conflict_acks, idle_refuses, settime_again}
 use Rattle.tsp_progress.proofs.SearchKept.{rising_within, view_within}
 use Rattle.tsp_progress.proofs.SendKept.{Still, kept, never, sending}
 use Rattle.tsp_progress.proofs.{StandsProof.Rising, StandsProof.rising, TableProof.clocked_runs_by_table}
@@ -168,6 +168,19 @@ module _ {clocks : Clocks} {header : HeaderValue} {setting : Setting} (set : Set
       (λ p x past. Acked p ∷ []) header setting long t stays s world
   quits l older p m asks kind sends up = by-ack l older p m asks (rw kind refl) (rw kind refl) sends
       ((answers_in_time set world table long t stays s delivered).quit l older p m asks kind up)
+
+  conflicts : AckedAs Conflict is_up_role (λ l older p m. Meanwhile header setting long l older world p (λ x past. is_master_role (role past.seen))) Ack
+      (λ p x past. Acked p ∷ []) header setting long t stays s world
+  conflicts l older p m asks kind sends leads =
+      let a = arrival set world table long t stays s delivered l older p (Message m) asks in
+      let is = leads a.line a.before a.place a.later a.node a.net a.soon in
+      let ack = posts_bare Ack m.number (past_there header p.0 a.line a.before) (peer_of (node_of l)) in
+      by-ack l older p m asks (rw kind refl) (rw kind refl) sends
+      (answered set world table long t stays s delivered l older p (Message m) asks a (ack ∷ []) (Message (bare Ack m.number (node_in header p.0).name))
+      (first_of set world table long t stays s delivered ack [])
+      (conflict_acks (node_in header p.0) (of p.0 world) (table p.0) a.line (of p.0 a.before) (peer_of (node_of l)) m
+      (hears set world table long t stays s delivered l older p m asks a
+      (master-awake set world table long t stays s delivered (role_before (node_in header p.0) a.line (of p.0 a.before)) is)) kind is refl))
 
   third_of : (a b c : Act) → Among c (a ∷ b ∷ c ∷ [])
   third_of a b c = record { front = a ∷ b ∷ []; back = []; is = refl }
@@ -320,7 +333,7 @@ module _ {clocks : Clocks} {header : HeaderValue} {setting : Setting} (set : Set
       refused-ends l older p m asks kind sends (refused l older p m asks kind a (denies a.line a.before a.place a.later a.node a.net a.soon))
 
   pub acked_in_time : AckedInTime header setting long t stays s world
-  acked_in_time = record { quits = quits; adjtimes = adjtimes; settimes = settimes; votes = votes; refusals = refusals }
+  acked_in_time = record { quits = quits; conflicts = conflicts; adjtimes = adjtimes; settimes = settimes; votes = votes; refusals = refusals }
 
 pub clocked_runs_acknowledge : ClockedRunsAcknowledge
 clocked_runs_acknowledge clocks header setting events long t stays s set possible delivered prompt =

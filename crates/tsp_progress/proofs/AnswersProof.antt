@@ -235,9 +235,11 @@ module _ {clocks : Clocks} {header : HeaderValue} {setting : Setting} (set : Set
       let past = port_before (node_in header p.0) a.line (of p.0 a.before) in
       let x = a.line.did.tick in
       let r : ReplyValue = record { ticket = ticket_at x past; word = word; counter = counter; reading = target_at x past } in
-      let next = (all_measure header world table p.0).replies a.line (of p.0 a.before) (Peer (peer_of (node_of l))) word counter
-      (place-there l older p d asks.posts a) a.took (foreign-there l older p d asks.posts a) (meanwhile a.line a.before a.place a.later a.node a.net a.soon) in
-          (
+      let there = place-there l older p d asks.posts a in
+      let foreign = foreign-there l older p d asks.posts a in
+      let in_range = meanwhile a.line a.before a.place a.later a.node a.net a.soon in
+      let next = (all_measure header world table p.0).replies a.line (of p.0 a.before) (Peer (peer_of (node_of l))) word counter there a.took foreign in_range
+      in (
         r,
         (
           refl,

@@ -24,6 +24,8 @@ use Rattle.tsp_base.specs.Words.{timed}
 use Rattle.tsp_rules.specs.{Guards.target_at, Guards.ticket_at, SendRows.next_number}
 use Rattle.tsp_progress.specs.Heeds.{follow_acts, has_no_master, moved_by, posts_bare, set_to, is_candidate_role, is_loose, is_master_role, is_up_role}
 use Rattle.tsp_progress.specs.Heeds.{role_before}
+use Rattle.tsp_rules.specs.{ResolveRows.resolves, Values.Conflict}
+use Rattle.tsp_progress.proofs.WorldPlaces.{act_place}
 
 -- kinds of messages whose rows are those of the port's role
 abbrev pub is_said : Kind → Bool
@@ -268,6 +270,17 @@ module _ (node : NodePast) (lines : List Line) (table : KeepsTable node lines) w
   unfolding says-kind master_takes_kind posts
   resolve l older p m h kind in_role so = next node lines table l older p m h ResolveKind Master kind (master-is (role_before node l older) in_role) refl
       (unsteered _ ResolveKind refl) (posts_bare MasterAck m.number (port_before node l older) p ∷ []) refl
+
+  -- a follower's CONFLICT is acknowledged, whatever else comes of it
+  pub conflict_acks : Heeds Conflict is_master_role always (λ p m x past. posts_bare Ack m.number past p ∷ []) node lines
+  unfolding says-kind master_takes_kind ◌followed_by◌ posts
+  conflict_acks l older p m h kind in_role so =
+      let ack = posts_bare Ack m.number (port_before node l older) p in
+      let after = grown l.did.tick (After node lines table l older p m h) (ack ∷ []) in
+      let rest = resolves l.did.tick after in
+      act_place l.did.step l.did.tick l.port ack (ack ∷ rest) (l ∷ older) lines (record { front = []; back = rest; is = refl })
+      (next node lines table l older p m h Conflict Master kind (master-is (role_before node l older) in_role) refl (unsteered _ Conflict refl) (ack ∷
+      rest) refl)
 
   joins-next : Heeds SlaveUp is_master_role (λ p m x past. may_join p m.number x past)
       (λ p m x past. Join p ∷ (if may_set p m.number x past then Post (Peer p) (Message (timed SetTime m.number (target_at x past) past.name)) ∷ [] else []))

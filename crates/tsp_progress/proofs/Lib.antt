@@ -23,6 +23,7 @@ pub mod LoneProof
 pub mod MeanwhileChecks
 pub mod MeasuresProof
 pub mod NeverLateProof
+pub mod NoSecondProof
 pub mod NodeKeeps
 pub mod NodeWakes
 pub mod ObeyedProof
@@ -31,6 +32,7 @@ pub mod PortSetups
 pub mod PortWakes
 pub mod ProgressProof
 pub mod ReachesProof
+pub mod RefusedProof
 pub mod RoundKept
 pub mod RoundsProof
 pub mod RunWakes
@@ -42,8 +44,10 @@ pub mod SentAwayProof
 pub mod StandsProof
 pub mod TableProof
 pub mod TableRows
+pub mod TimePlaces
 pub mod UseLemmas
 pub mod Waking
 pub mod WatchChecks
 pub mod WinsLateProof
+pub mod WinsNot
 pub mod WorldPlaces

@@ -8,11 +8,11 @@ use Rattle.tsp_base.specs.Words.{Acts, Begins, Deed, Did, HeaderValue, Here, Lin
 use Rattle.tsp_base.specs.Words.{estimate, estimate_of, exchange, is_among, is_shared, is_starting, line_of, of, plain, request_at_place}
 use Rattle.tsp_base.specs.Words.{role, seen_as, started, started_after, target_there, view, word}
 use Rattle.tsp_base.specs.RoundFacts.{is_starting_after}
-use Rattle.tsp_base.proofs.{PlaceLemmas.Within-comparable, PlaceLemmas.Within-tail, PlaceLemmas.Within-through}
+use Rattle.tsp_base.proofs.{PlaceLemmas.Within-tail, PlaceLemmas.Within-through}
 use Rattle.tsp_promises.specs.{Fits.Fits, Fits.SameStep, Fits.node_of, OwnFits.OwnFits, RoundFits.CloseFits}
 use Rattle.tsp_promises.specs.{MeasureFits.RequestFits, Setting.Setting, Setting.setup_of}
 use Rattle.tsp_promises.proofs.{Clocks.tick-mono, HistoryPlaces.line_on, HistoryPlaces.own_in, KnownProof.InStep, KnownProof.in-step, KnownProof.line-is}
-use Rattle.tsp_promises.proofs.OwnFitsProof.{deed_fits, fits_at, fits_in, locate, own_fits, own_fits_at, place-time, port_fits, seen_before, seen_in, tick_in}
+use Rattle.tsp_promises.proofs.OwnFitsProof.{deed_fits, fits_at, fits_in, locate, own_fits, own_fits_at, port_fits, seen_before, seen_in, tick_in}
 use Rattle.tsp_promises.proofs.{Leaves.nil-cons, OwnFitsProof.Located, RoundPlaces.started_at}
 use Rattle.tsp_run.specs.{Clocked.Clocks, Clocked.SetByClocks, Clocked.clocks_of, Clocked.run_by}
 use Rattle.tsp_run.proofs.{OwnClocks.possible_own, OwnClocks.runs_by_own_clocks, OwnClocks.set_own, RunFits.clocked_runs_fit}
@@ -21,6 +21,7 @@ use Rattle.tsp_progress.specs.{ByTable.ByTable, ByTable.node_in, ByTable.port_be
 use Rattle.tsp_progress.specs.SampledInTime.{ClockedRunsSample, ClosesSince, IsSwift, Measured, RunsSample, SampledInTime}
 use Rattle.tsp_progress.proofs.{AnswersProof.answer_peer, AnswersProof.answers_in_time, MeasuresProof.all_measure, TableProof.clocked_runs_by_table}
 use Rattle.tsp_progress.specs.{Heeds.DoesNext, Heeds.role_before, Measures.sample_by}
+use Rattle.tsp_progress.proofs.TimePlaces.{before_time}
 use Rattle.tsp_progress.proofs.WorldPlaces.{WorldPlace, act_place, own_place, world_place}
 use Rattle.tsp_progress.proofs.RoundKept.{AskedAt, Going, Open, asked_at, back, persists, proper_view, walk}
 
@@ -167,11 +168,7 @@ module _ {clocks : Clocks} {header : HeaderValue} {setting : Setting} (set : Set
 
     -- a line before the close's time stands before the close
     before-close : (k : Line) (w : List Line) → Within (k ∷ w) world → k.did.step.at < c.did.step.at → Within (k ∷ w) older
-    before-close k w place less = elim (Within-comparable (k ∷ w) (c ∷ older) world place r.place) [
-      | inl (inl e) ↦ absurd (let same : k ≡ c = cc in let at = ap (λ (j : Line). j.did.step.at) same in omega (arith, at, less))
-      | inl (inr v) ↦ v
-      | inr v ↦ absurd (let order = place-time setting (c ∷ older) (k ∷ w) (fits_at setting (k ∷ w) world fits place) v in omega (arith, order, less))
-    ]
+    before-close k w place less = before_time setting world fits k w c older place r.place less
 
     -- the reply that is taken
     module _ (reply : ReplyValue) (word-is : reply.word ≡ asked.word) (counter-is : reply.counter ≡ asked.counter)

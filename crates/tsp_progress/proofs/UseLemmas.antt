@@ -1,12 +1,12 @@
 -- The header of small runs, and the ranges of their events.
-use Rattle.std.proofs.Common.{sym, ap, arith, true≢false, ◌∙◌, ◌≡◌, ℕ, ◌==◌, pos, Bool, true, false, All, List, [], ◌∷◌, ◌++◌}
+use Rattle.std.proofs.Common.{sym, ap, arith, true≢false, ◌∙◌, ◌≡◌, ◌<◌, ℕ, ◌==◌, pos, Bool, true, false, All, List, [], ◌∷◌, ◌++◌}
 use Rattle.std.proofs.Common.{refl}
 use Rattle.std.proofs.lemmas.List.Elements.{All-nil, All-cons, All-contains}
 use Rattle.tsp_rules.specs.Values.{BootAt, Event, Turn, Take, NodeLine}
 use Rattle.tsp_base.specs.Words.{IsHeader, IsName, IsNet, KeepsDrift, first_port, is_among, peer_of}
 use Rattle.tsp_promises.specs.Setting.{Named, Setting}
 use Rattle.tsp_run.specs.{Ranges.IsInRange, Setting.SetBy}
-use Rattle.tsp_progress.specs.{TableUse.until_reports, Worked.one_may}
+use Rattle.tsp_progress.specs.{OneUse.two_may, TableUse.until_reports, Worked.one_may}
 
 -- b's question to a is one to another member of its network
 pub member : (setting : Setting) → SetBy one_may setting → is_among (peer_of 0) (setting.members (setting.net 1 first_port)) ≡ true
@@ -38,6 +38,26 @@ header_is = record {
   nets_are = All-nil (IsNet 2);
   few_ports = λ n. omega arith;
 }
+
+-- where both may be master
+abbrev node_b_may : NodeLine
+node_b_may = record { name = 98 ∷ []; rate = pos 0; wall = pos 0; may = true }
+
+pub two_header_is : IsHeader two_may
+two_header_is = record {
+  small = omega arith;
+  few = omega arith;
+  kept = All-cons (KeepsDrift 0) node_a (node_b_may ∷ []) (keeps 97 true refl)
+      (All-cons (KeepsDrift 0) node_b_may [] (keeps 98 true refl) (All-nil (KeepsDrift 0)));
+  few_nets = omega arith;
+  nets_are = All-nil (IsNet 2);
+  few_ports = λ n. omega arith;
+}
+
+-- both boot at once, b with a word in its range
+pub boot_ranges : (word : ℕ) → word < 18446744073709551616 → All IsInRange (BootAt 0 1 word ∷ BootAt 0 0 0 ∷ [])
+boot_ranges word small = All-cons IsInRange (BootAt 0 1 word) (BootAt 0 0 0 ∷ []) (omega (arith, small)) (All-cons IsInRange (BootAt 0 0 0) [] (omega arith)
+    (All-nil IsInRange))
 
 pub ranges : All IsInRange until_reports
 ranges = All-cons IsInRange (Take 390020000 6) (Take 390010000 5 ∷ Turn 390000000 1 ∷ Turn 390000000 0 ∷ Turn 388000000 0 ∷ Turn 387000000 0 ∷

@@ -1,20 +1,20 @@
 -- A candidate wins no sooner than WINDOW after it stood for election.
-use Rattle.std.proofs.Common.{sym, ap, subst, arith, true≢false, ◌∙◌, ◌≡◌, ◌≤◌, ℕ, ◌+◌, Bool, true, false, List, [], ◌∷◌, Option, None, Some, refl}
-use Rattle.tsp_rules.specs.Values.{Act, Boot, Become, Arm, Ring, Late, Alarm, Quiet, Search, Elect, Window, Probe, CloseAlarm, ResolveAlarm, Round, Role, Master}
-use Rattle.tsp_rules.specs.Values.{Candidate, Loose, Starting, Follow, MasterUp, WINDOW, ROUND, Abandon}
+use Rattle.std.proofs.Common.{sym, ap, subst, arith, true≢false, ◌∙◌, ◌≡◌, ◌≤◌, ℕ, ◌+◌, Bool, true, false, List, [], ◌∷◌, Some, refl}
+use Rattle.tsp_rules.specs.Values.{Act, Boot, Become, Arm, Ring, Late, Alarm, Quiet, Search, Elect, Window, Probe, CloseAlarm, ResolveAlarm, Round, Master}
+use Rattle.tsp_rules.specs.Values.{MasterUp, WINDOW, ROUND}
 use Rattle.tsp_rules.specs.Answers.{alarm_rings, rings}
 use Rattle.tsp_rules.specs.CandidateRows.{has_won, lead_row, window_rings, yields}
 use Rattle.tsp_rules.specs.Guards.{is_due, is_in_time}
 use Rattle.tsp_rules.specs.SendRows.{due_sends}
-use Rattle.tsp_base.specs.Words.{Acts, Deed, Did, Elsewhere, Here, Leads, Line, Past, Row, Seen, armed, armed_after, arms, deadline, either_by, nothing, of, plain}
+use Rattle.tsp_base.specs.Words.{Acts, Deed, Did, Elsewhere, Here, Leads, Past, Seen, armed, armed_after, arms, either_by, nothing, of, plain}
 use Rattle.tsp_base.specs.Words.{posts_to_others, puts, stood, stood_after, tick_of, view, ◌followed_by◌}
 use Rattle.tsp_base.proofs.LeadsLemmas.{Leads_either, Leads_from, Leads_nothing, Leads_puts, Leads_then}
-use Rattle.tsp_rules.proofs.Emits.{Sort, Leading, Alarming, Posting, Emits, Emits_arms, Emits_posts_to_others, is_in, sort_of}
+use Rattle.tsp_rules.proofs.Emits.{Sort, Leading, Alarming, Posting, Emits_arms, Emits_posts_to_others, is_in, sort_of}
 use Rattle.tsp_rules.proofs.{BuiltSends.built_due_sends, BuiltSends.send_sorts, EmitsBuilt.emits_built, BuiltRoles.built_yields, BuiltRoles.yield_sorts}
 use Rattle.tsp_rules.proofs.BuiltRoles.{built_quiet_rings, built_search_rings, built_elect_rings, built_resolve_rings, resolve_sorts}
 use Rattle.tsp_rules.proofs.BuiltShared.{loose_sorts, standing_sorts}
 use Rattle.tsp_rules.proofs.BuiltRounds.{asking_sorts, built_close_rings, built_probe_rings, built_round_rings, close_sorts}
-use Rattle.tsp_promises.specs.{DeedFits.DeedFits, Fits.Fits, HoldFits.LeadFits, PortFits.PortFits, Setting.Setting, Setting.setup_of}
+use Rattle.tsp_promises.specs.{DeedFits.DeedFits, HoldFits.LeadFits, PortFits.PortFits, Setting.setup_of}
 use Rattle.tsp_promises.proofs.OwnFitsProof.{own_fits, port_fits}
 use Rattle.tsp_base.specs.Words.{Setup}
 use Rattle.tsp_run.specs.Clocked.{clocks_of, run_by}
@@ -30,7 +30,8 @@ abbrev RangFits : Deed → Did → List Seen → Type 0
 RangFits (Acts (Become Master)) here before = newest_is wins_by before ≡ true
 RangFits _ here before = Unit {0}
 
-unled : (sorts : List Sort) → is_in Leading sorts ≡ false → (a : Act) → is_in (sort_of a) sorts ≡ true → (d : Did) (before : List Seen) → RangFits (Acts a) d before
+unled : (sorts : List Sort) → is_in Leading sorts ≡ false → (a : Act) → is_in (sort_of a) sorts ≡ true → (d : Did) (before : List Seen) →
+    RangFits (Acts a) d before
 unled sorts none (Become Master) e d before = absurd (true≢false (sym e ∙ none))
 unled sorts none _ e d before = tt
 

@@ -1,6 +1,7 @@
 -- A numbered send whose addressee acts on it is acknowledged in time, and isn't given up.
 use Rattle.std.specs.Prelude.{◌≡◌, ◌≢◌, ◌<◌, ◌⊎◌, ℕ, ◌+◌, ◌*◌, ◌/◌, ◌==◌, ◌&&◌, ◌||◌, not, Bool, true, false, if◌then◌else◌, List, [], ◌∷◌}
-use Rattle.tsp_rules.specs.Values.{Act, Boot, Post, Become, Backer, Acked, Gave, Accept, Ack, AdjTime, Election, QuitKind, Refuse, SetTime, Message, Kind}
+use Rattle.tsp_rules.specs.Values.{Act, Boot, Post, Become, Backer, Acked, Gave, Accept, Ack, AdjTime, Conflict, Election, QuitKind, Refuse, SetTime, Message}
+use Rattle.tsp_rules.specs.Values.{Kind}
 use Rattle.tsp_rules.specs.Values.{PeerId, Peer, Role, Loose, Event, RETRY, TRIES}
 use Rattle.tsp_rules.specs.{CommonRows.is_idle, Guards.may_back_at, SlaveRows.is_repeated, SlaveRows.takes_amount}
 use Rattle.tsp_rules.specs.SlaveRows.{takes_value}
@@ -11,7 +12,7 @@ use Rattle.tsp_run.specs.Clocked.{Clocks, PossibleBy, SetByClocks, run_by}
 use Rattle.tsp_run.specs.{Possible.Possible, Run.run, Setting.SetBy}
 use Rattle.tsp_progress.specs.AnswersInTime.{AnswerTaken, Asks, Meanwhile}
 use Rattle.tsp_progress.specs.{ByTable.node_in, Delivered.Delivered, ObeyedInTime.Obedient, SentAway.past_there}
-use Rattle.tsp_progress.specs.Heeds.{DoesNext, arms_for_delay, is_candidate_role, is_up_role}
+use Rattle.tsp_progress.specs.Heeds.{DoesNext, arms_for_delay, is_candidate_role, is_master_role, is_up_role}
 
 -- a deed that ends the open send to p, but for a Gave: a boot, a change of the role, an Acked, and a new send to p
 abbrev pub ends_otherwise : PeerId → Deed → Bool → Bool
@@ -71,6 +72,9 @@ refuses_vote p x past = if is_candidate_role (role past.seen) then true else (is
 pub record AckedInTime (header : HeaderValue) (setting : Setting) (long t : ℕ) (stays : ℕ → Bool) (s world : List Line) : Type 0 where
   -- a QUIT, to a port that isn't Starting meanwhile
   pub quits : AckedAs QuitKind is_up_role (λ l older p m. Meanwhile header setting long l older world p (λ x past. is_up_role (role past.seen))) Ack
+      (λ p x past. Acked p ∷ []) header setting long t stays s world
+  -- a CONFLICT, to a port that is master meanwhile
+  pub conflicts : AckedAs Conflict is_up_role (λ l older p m. Meanwhile header setting long l older world p (λ x past. is_master_role (role past.seen))) Ack
       (λ p x past. Acked p ∷ []) header setting long t stays s world
   -- a correction, to a follower that steers its clock, and meanwhile may take this correction or took it last
   pub adjtimes : AckedAs AdjTime is_up_role (λ l older p m. Obedient header setting long l older world p

@@ -230,6 +230,43 @@ pub fn acked_use()
     ensures { AckedUse }
 {}
 
+ghost use Rattle.tsp_progress.specs.RefusedLoses.{ClockedRunsRefuse, RunsRefuse};
+/// So a candidate whose vote is refused in time doesn't win, unless its send to who refuses ended
+/// otherwise before.
+pub fn runs_refuse()
+    ensures { RunsRefuse }
+{}
+
+/// So it is in a run by any clocks.
+pub fn clocked_runs_refuse()
+    ensures { ClockedRunsRefuse }
+{}
+
+ghost use Rattle.tsp_progress.specs.NoSecondMaster.{ClockedRunsLeadAlone, RunsLeadAlone};
+/// And beside a master no candidate wins, if twice that time is less than `WINDOW`, 5 s, and no QUIT
+/// to it is open yet.
+pub fn runs_lead_alone()
+    ensures { RunsLeadAlone }
+{}
+
+/// So it is in a run by any clocks.
+pub fn clocked_runs_lead_alone()
+    ensures { ClockedRunsLeadAlone }
+{}
+
+ghost use Rattle.tsp_progress.specs.SecondUse.{SecondUse};
+/// A candidate beside a master that is sent away in time, and two that aren't, and are master, too.
+pub fn second_use()
+    ensures { SecondUse }
+{}
+
+ghost use Rattle.tsp_progress.specs.RefusedUse.{RefusedUse};
+/// Two candidates at once, which are both refused in time and lose, two whose refusals take 1.6 s, so
+/// that both win, and one that gets the other node's vote.
+pub fn refused_use()
+    ensures { RefusedUse }
+{}
+
 ghost use Rattle.tsp_progress.specs.SampledInTime.{ClockedRunsSample, RunsSample};
 /// Where datagrams are delivered in time, and twice that time is less than `CLOSE`, 8 s, each peer
 /// that is measured has a sample when its round closes, if its clock is in its range.

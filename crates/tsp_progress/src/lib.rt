@@ -29,9 +29,9 @@
 //! most of them together; then `Worked`, `Needed` and `OneUse`, small runs. Of what is done at once
 //! read `ByTable`, `Heeds`, `Measures` and `Corrects`; of two nodes `Delivered`, `ReachesInTime`,
 //! `AnswersInTime`, `FoundInTime`, `FirstSearch`, `SentAway`, `ObeyedInTime`, `GivenUp`,
-//! `AckedInTime` and `SampledInTime`; then `TableUse`, `AnswersUse`, `ReachUse`, `FoundUse`,
-//! `FirstSearchUse`, `SentAwayUse`, `AckedUse` and `SampledUse`, small runs. The words of histories
-//! are those of `tsp_promises`.
+//! `AckedInTime`, `WinsLate`, `RefusedLoses`, `NoSecondMaster` and `SampledInTime`; then `TableUse`, `AnswersUse`,
+//! `ReachUse`, `FoundUse`, `FirstSearchUse`, `SentAwayUse`, `AckedUse`, `MeanwhileUse`, `RefusedUse`,
+//! `SecondUse` and `SampledUse`, small runs. The words of histories are those of `tsp_promises`.
 //!
 //! # What is proved
 //!
@@ -83,8 +83,14 @@
 //!   takes its sender in, and a correction a follower, which moves its clock if it may
 //!   (`runs_reach`, `clocked_runs_reach`).
 //! - In every run no send is given up before it is 3 s old (`runs_give_up`, `clocked_runs_give_up`).
-//!   So a QUIT, a correction and an ELECTION whose addressee acts on it end within twice `long`, if
-//!   that is less than 3 s, and are never given up (`runs_acknowledge`, `clocked_runs_acknowledge`).
+//!   So a QUIT, a CONFLICT, a correction and an ELECTION whose addressee acts on it end within twice
+//!   `long`, if that is less than 3 s, and are never given up (`runs_acknowledge`,
+//!   `clocked_runs_acknowledge`).
+//! - In every possible run no candidate wins before 5 s after it stood (`runs_win_late`,
+//!   `clocked_runs_win_late`). So one that is refused in time doesn't win, unless its send to who
+//!   refuses ended otherwise before (`runs_refuse`, `clocked_runs_refuse`); nor does one that asks a
+//!   master for its vote, if no QUIT to it is open yet (`runs_lead_alone`,
+//!   `clocked_runs_lead_alone`).
 //! - Each peer that is measured has a sample when its round closes, if twice `long` is less than 8 s
 //!   (`runs_sample`, `clocked_runs_sample`).
 //! - It says something: a worked run (`prompt_use`), one that leads one tick before the bound
@@ -95,8 +101,9 @@
 //!   candidate is sent away (`sent_away_use`), one in which a quiet time ends beside a master and one
 //!   in which nobody leads (`first_search_use`), one in which a report reaches a master and one in
 //!   which it is lost (`reach_use`), one in which a correction is acknowledged and three in which one
-//!   is given up (`acked_use`), and rounds in which a slave has samples and in which it has none
-//!   (`sampled_use`).
+//!   is given up (`acked_use`), runs in which nobody is up to answer (`meanwhile_use`), two candidates
+//!   at once that lose, and two that both win since datagrams take too long (`refused_use`),
+//!   candidates beside a master that lose and that win (`second_use`), and rounds in which a slave has samples and in which it has none (`sampled_use`).
 //!
 //! It isn't proved that of two candidates at most one wins where elections aren't strict, that a
 //! network in which several nodes may be master gets one, or that all follow it and agree.
