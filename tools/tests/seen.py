@@ -24,8 +24,9 @@ while True:
     last, shown = told, now.shown or 0
     time.sleep(0.02)
 '''
-# How long something is stopped, how old a page may be, and how far two looks at the master are apart, in seconds of the network's time.
-STOPPED, LASTS, LOOKS = 60, 64, 16
+# How long something is stopped, how old a page may be, how far two looks at the master are apart, and how long a start takes at most on a busy machine, in
+# seconds of the network's time.
+STOPPED, LASTS, LOOKS, START = 60, 64, 16, 400
 
 
 class Seen:
@@ -82,7 +83,7 @@ class Seen:
         if lasted < LASTS - LOOKS - 5:
             raise SystemExit(f'seen: a page was read for {lasted:.0f} s only')
         self.lab.start(self.daemon)
-        if not self.wait_for(tsp_clock.WAITING, 60) or int(self.lines()[-1][2]) == life:
+        if not self.wait_for(tsp_clock.WAITING, START) or int(self.lines()[-1][2]) == life:
             raise SystemExit(f'seen: after another start a reader sees {self.lines()[-1]}')
         return lasted
 
