@@ -242,9 +242,13 @@ if in_system --install "$package"; then
     install -d "$out/system/var/lib/private/tsp"
     echo '0 0' >"$out/system/var/lib/private/tsp/rate"
     ln -s private/tsp "$out/system/var/lib/tsp"
+    # (where AppArmor keeps what it made of the profile)
+    install -d "$out/system/var/cache/apparmor/6b0d76a2.0"
+    : >"$out/system/var/cache/apparmor/6b0d76a2.0/tsp"
     in_system --purge tsp || fail "$(tail -n 1 "$out/told")"
     left >"$out/rest"
-    grep -v -x -e "$out/system" -e "$out/system/etc\(/systemd.*\)*" -e "$out/system/var\(/lib\(/private\|/systemd\|/prometheus\(/node-exporter\)*\)*\)*" "$out/rest" >"$out/beyond" || :
+    grep -v -x -e "$out/system" -e "$out/system/etc\(/systemd.*\)*" -e "$out/system/var\(/lib\(/private\|/systemd\|/prometheus\(/node-exporter\)*\)*\)*" \
+        -e "$out/system/var/cache\(/apparmor\(/6b0d76a2.0\)*\)*" "$out/rest" >"$out/beyond" || :
     [ ! -s "$out/beyond" ] && ! grep -q 'wants/tsp' "$out/rest" || fail "a purge leaves $(cat "$out/beyond")"
     [ -s "$out/system/etc/systemd/system/tsp.service.d/mine.conf" ] || fail "a purge takes along the administrator's own changes of the unit"
 else

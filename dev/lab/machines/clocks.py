@@ -108,6 +108,11 @@ def has_source(machine):
     return re.search(r'^.\*', machine.says('chronyc -n sources'), re.MULTILINE)
 
 
+def serves(machine):
+    """Whether chronyd has no source but its own clock, which it serves."""
+    return machine.says('chronyc -c tracking').startswith(LOCAL)
+
+
 def settled(machine, longest=SYNCHRONISED):
     """Waits until chronyd has a source, and gives the seconds that this took; None where it has none."""
     begun = time.monotonic()
@@ -119,8 +124,8 @@ def settled(machine, longest=SYNCHRONISED):
 
 
 def since_boot(machine, unit='chrony'):
-    """Waits until chronyd has a source on a machine that boots, and gives how many seconds that was after a unit was up."""
-    wanted(settled(machine) is not None, f'chronyd of {machine.name} has no source: {machine.says("chronyc -n sources")}')
+    """Waits until chronyd has a source on a machine that boots, or serves its own clock, and gives how many seconds that was after a unit was up."""
+    wanted(serves(machine) or settled(machine) is not None, f'chronyd of {machine.name} has no source: {machine.says("chronyc -n sources")}')
     up, started = machine.must(f'cut -d " " -f 1 /proc/uptime; systemctl show -p ActiveEnterTimestampMonotonic --value {unit}').split()
     return float(up) - int(started) / 1e6
 
@@ -220,14 +225,15 @@ def server_gone(net):
 
 
 def orphan_gone(net):
-    """The power of the host goes that the others follow as `local orphan`: another one serves."""
+    """The power of the host goes that the others follow as `local orphan`, and is back after five minutes, or as soon as another one serves."""
     machines = net.machines[:COMPARED]
-    victim = next(machine for machine in machines if machine.says('chronyc -c tracking').startswith(LOCAL))
+    victim = next(machine for machine in machines if serves(machine))
 
     def is_over(others):
         begun = time.monotonic()
-        while sum(machine.says('chronyc -c tracking').startswith(LOCAL) for machine in others) != 1 or sum(bool(has_source(machine)) for machine in others) != len(others) - 1:
-            wanted(time.monotonic() - begun < network.LED, 'nobody serves')
+        while sum(map(serves, others)) != 1 or sum(bool(has_source(machine)) for machine in others) != len(others) - 1:
+            if time.monotonic() - begun > GONE:
+                return f'in {GONE} s no other host served'
             time.sleep(network.OFTEN)
         return f'another host served {time.monotonic() - begun:.0f} s after the power went'
     return gone(net, victim, is_over, 'chrony')

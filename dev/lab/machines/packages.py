@@ -6,7 +6,7 @@ from lab.machines.network import life_of, page_of, status_of, wanted
 
 # What bears the package's name on a machine; what is there before the package is, and what lies in memory.
 NAMED = 'find / -xdev -name "*tsp*" -not -path "/srv/*" | sort'
-BEFORE, IN_MEMORY = '/srv/before', 'ls -d /run/tsp /dev/shm/*tsp* 2>/dev/null'
+BEFORE, IN_MEMORY = '/srv/before', 'ls -d /run/tsp /dev/shm/*tsp* 2>/dev/null; grep "^tsp " /sys/kernel/security/apparmor/profiles'
 # An upgraded host is waited for, in seconds, as the pages say.
 FOLLOWS = 350
 

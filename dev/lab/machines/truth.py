@@ -37,25 +37,27 @@ class Clock:
         return self.shown[place - 1] + share * (self.shown[place] - self.shown[place - 1])
 
 
+def both(answerer):
+    """The host's counter, and its own clock at it in microseconds."""
+    count, clock = subprocess.run([answerer, 'now'], stdout=subprocess.PIPE, check=True).stdout.split()
+    return int(count), int(clock) / 1000
+
+
 def counts_in_microsecond(answerer):
     """How many counts the host's counter makes in a microsecond, by the host's own clock."""
-    def both():
-        before = time.monotonic_ns()
-        count = int(subprocess.run([answerer, 'now'], stdout=subprocess.PIPE, check=True).stdout)
-        return (before + time.monotonic_ns()) / 2000, count
-    (begun, first), _, (ended, last) = both(), time.sleep(2), both()
+    (first, begun), _, (last, ended) = both(answerer), time.sleep(2), both(answerer)
     return (last - first) / (ended - begun)
 
 
 def now(network):
     """The host's counter."""
-    return int(subprocess.run([network.answerer, 'now'], stdout=subprocess.PIPE, check=True).stdout)
+    return both(network.answerer)[0]
 
 
 def begin(network, seconds, machines=None):
     """Begins samples on machines, for so many seconds."""
     def one(machine):
-        machine.must(f'rm -f /srv/samples; systemd-run --quiet --collect --unit=sampler sh -c "exec /srv/sampler {seconds} >/srv/samples"')
+        machine.must(f'systemctl stop sampler 2>/dev/null; rm -f /srv/samples; systemd-run --quiet --collect --unit=sampler sh -c "exec /srv/sampler {seconds} >/srv/samples"')
     network.each(one, machines)
 
 
