@@ -1,17 +1,18 @@
 -- What acts of one sort owe is owed in every run, if the rows that put such acts pay it.
 use Rattle.std.proofs.Common.{sym, subst, eqb-true, eq-eqb, ◌≡◌, ℕ, ◌==◌, Bool, true, false, List, [], ◌∷◌, Option, None, Some, slice_get, refl}
 use Rattle.std.proofs.lemmas.Bool.{or_right}
-use Rattle.tsp_rules.specs.Values.{Act, Boot, Took, Become, Abandon, Alarm, Quiet, Good, Message, Port, Starting, Placed, QUIET}
+use Rattle.tsp_rules.specs.Values.{Act, Boot, Took, Become, Abandon, Alarm, Quiet, Good, Message, Port, Starting, Placed, QUIET, Place, Taken}
 use Rattle.tsp_rules.specs.Values.{Event, BootAt, Turn, Take, Bytes}
 use Rattle.tsp_base.specs.Words.{Acts, Begins, Deed, Did, HeaderValue, Handed, Leads, Line, Past, Row, Seen, Step, Turned, Came}
 use Rattle.tsp_base.specs.Words.{arms, first_port, joined, line_of, of, puts, seen_as, stepped, view, ◌followed_by◌}
 use Rattle.tsp_codec.specs.{Taken.taken_of}
 use Rattle.tsp_rules.specs.GateRows.{GotOn, NodeGiven, NodeTurn, all_ports, answers_all, boots_all, boots_on}
-use Rattle.tsp_rules.specs.{Answers.rings, SendRows.due_sends}
+use Rattle.tsp_rules.specs.{Answers.rings, Answers.takes, SendRows.due_sends}
 use Rattle.tsp_rules.specs.NodeRows.{NodePast, NodeRow, for_ports, in_node_step, on, reading_all}
 use Rattle.tsp_rules.proofs.{BuiltAnswers.all_taken_sorts, BuiltAnswers.built_takes, BuiltGate.built_loosens_master, BuiltGate.built_reposts}
 use Rattle.tsp_rules.proofs.{BuiltGate.built_sends_loops, BuiltGate.built_starts, EmitsBuilt.emits_built, EmitsBuilt.nothing_taken, Unchanged.comes_unchanged}
-use Rattle.tsp_rules.proofs.Emits.{Sort, Booting, Rounding, Emits, Emits_puts, Keeps_by, is_in, is_part, sort_of, sort_of_kind}
+use Rattle.tsp_rules.proofs.Emits.{Sort, Alarming, Booting, Changing, Posting, Rounding, Taking, Emits, Emits_puts, Keeps_by, is_in, is_part, sort_of}
+use Rattle.tsp_rules.proofs.Emits.{sort_of_kind}
 use Rattle.tsp_promises.proofs.GateSteps.{All_after, All_reading, LeadsAll}
 use Rattle.tsp_run.specs.{Networks.networks, Setup.past_of, declared.arrival.Arrival.Arrival}
 use Rattle.tsp_run.specs.{Run.arrives, Run.joins, Run.posts}
@@ -43,18 +44,29 @@ module _ {sort : Sort} {debt : Deed → Did → List Seen → Type 0} (owed : Ow
 abbrev pub calm_sorts : List Sort
 calm_sorts = Booting ∷ Rounding ∷ all_taken_sorts
 
+-- a row that takes something, where such acts owe nothing
+pub takes_calmly : {sort : Sort} {debt : Deed → Did → List Seen → Type 0} (owed : OwedBy sort debt) → is_in sort calm_sorts ≡ false →
+    (steer charge : Bool) (from : Place) (t : Taken) → Leads (Paid debt) (takes steer charge from t) (Paid debt)
+takes_calmly owed apart steer charge from t = pays owed calm_sorts (takes steer charge from t) apart
+    (emits_built refl (built_takes steer charge from t (comes_unchanged from) tt tt (nothing_taken t)))
+
+-- the sorts of a boot, of a taking, of a round that is given up, of what is passed on and of a master that gives up
+abbrev pub quiet_sorts : List Sort
+quiet_sorts = Booting ∷ Rounding ∷ Taking ∷ Posting ∷ Changing ∷ Alarming ∷ []
+
 -- so does a node, and a run
-module _ {sort : Sort} {debt : Deed → Did → List Seen → Type 0} (owed : OwedBy sort debt) (apart : is_in sort calm_sorts ≡ false)
-    (sends : Leads (Paid debt) due_sends (Paid debt)) (rung : (own wait : Bool) (a : Alarm) → Leads (Paid debt) (rings own wait a) (Paid debt)) where
+module _ {sort : Sort} {debt : Deed → Did → List Seen → Type 0} (owed : OwedBy sort debt) (apart : is_in sort quiet_sorts ≡ false)
+    (sends : Leads (Paid debt) due_sends (Paid debt)) (rung : (own wait : Bool) (a : Alarm) → Leads (Paid debt) (rings own wait a) (Paid debt))
+    (took : (steer charge : Bool) (from : Place) (t : Taken) → Leads (Paid debt) (takes steer charge from t) (Paid debt)) where
   abbrev paid : Manner → ℕ → List Seen → Type 0
   paid m x seen = Owes debt seen
 
-  calm-pays : {row : Row} → Emits calm_sorts row → Leads (Paid debt) row (Paid debt)
-  calm-pays {row} e = pays owed calm_sorts row apart e
+  calm-pays : {row : Row} → Emits quiet_sorts row → Leads (Paid debt) row (Paid debt)
+  calm-pays {row} e = pays owed quiet_sorts row apart e
 
   family : Family paid
   family = record {
-    boots = λ m step x seen h. (owed.free calm_sorts apart Boot refl (record { step = step; tick = x; deed = Acts Boot }) seen, h);
+    boots = λ m step x seen h. (owed.free quiet_sorts apart Boot refl (record { step = step; tick = x; deed = Acts Boot }) seen, h);
     aside = λ m d x seen h. h;
   }
 
@@ -64,12 +76,12 @@ module _ {sort : Sort} {debt : Deed → Did → List Seen → Type 0} (owed : Ow
     weaken = λ x past h. h;
     sends = sends;
     rings = rung;
-    takes = λ steer charge from t ok. calm-pays (emits_built refl (built_takes steer charge from t (comes_unchanged from) tt tt (nothing_taken t)));
+    takes = λ steer charge from t ok. took steer charge from t;
     took = λ from m is ok. calm-pays (Emits_puts (Took from (Good (Message m))) refl);
     gives_up = calm-pays (emits_built refl built_loosens_master);
     abandons = calm-pays (Emits_puts Abandon refl);
     loops = λ q. calm-pays (emits_built refl (built_sends_loops q tt));
-    reposts = λ m is. calm-pays (emits_built (let part : is_part (sort_of_kind m.kind ∷ []) calm_sorts ≡ true = rw is refl in part) (built_reposts m tt));
+    reposts = λ m is. calm-pays (emits_built (let part : is_part (sort_of_kind m.kind ∷ []) quiet_sorts ≡ true = rw is refl in part) (built_reposts m tt));
   }
 
   answers-paid : (g : NodeGiven) → LeadsAll (Each paid) (answers_all g) (Each paid)

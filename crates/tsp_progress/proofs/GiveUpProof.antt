@@ -12,7 +12,7 @@ use Rattle.tsp_rules.proofs.Emits.{Sort, Giving, is_in, is_part, sort_of}
 use Rattle.tsp_run.specs.Clocked.{clocks_of}
 use Rattle.tsp_run.proofs.OwnClocks.{runs_by_own_clocks}
 use Rattle.tsp_progress.specs.GivenUp.{ClockedRunsGiveUpLate, GaveFits, GivesUpLate, RunsGiveUpLate}
-use Rattle.tsp_progress.proofs.{DebtKeeps.OwedBy, DebtKeeps.Paid, DebtKeeps.pays, DebtKeeps.runs_pay, PortWakes.Leads_if}
+use Rattle.tsp_progress.proofs.{DebtKeeps.OwedBy, DebtKeeps.Paid, DebtKeeps.pays, DebtKeeps.runs_pay, DebtKeeps.takes_calmly, PortWakes.Leads_if}
 
 ungiven : (sorts : List Sort) → is_in Giving sorts ≡ false → (a : Act) → is_in (sort_of a) sorts ≡ true → (d : Did) (before : List Seen) →
     GaveFits (Acts a) d before
@@ -66,7 +66,7 @@ sends = Leads_reading peers_at (for_each (λ p. reading (open_at p) (repeats_sen
     (Leads_each (λ p. reading (open_at p) (repeats_send p)) ps (λ p. Leads_reading (open_at p) (repeats_send p) (due p))))
 
 pub clocked_runs_give_up : ClockedRunsGiveUpLate
-clocked_runs_give_up clocks header events n q = runs_pay by-giving refl sends rung clocks header events n q
+clocked_runs_give_up clocks header events n q = runs_pay by-giving refl sends rung (takes_calmly by-giving refl) clocks header events n q
 
 pub runs_give_up : RunsGiveUpLate
 runs_give_up header events = subst (λ h. GivesUpLate h) (runs_by_own_clocks header events) (clocked_runs_give_up (clocks_of header) header events)

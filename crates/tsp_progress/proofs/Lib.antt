@@ -8,6 +8,7 @@ pub mod CorrectsProof
 pub mod CueAlarms
 pub mod CueRows
 pub mod DebtKeeps
+pub mod DecidedProof
 pub mod DeliveredChecks
 pub mod FirstSearchProof
 pub mod FoundProof

@@ -22,7 +22,8 @@ use Rattle.tsp_run.proofs.{OwnClocks.possible_own, OwnClocks.runs_by_own_clocks,
 use Rattle.tsp_progress.specs.AlarmsFit.{AlarmFits, AlarmsFit, Manner, newest_is}
 use Rattle.tsp_progress.specs.CausesFit.{wins_by}
 use Rattle.tsp_progress.specs.{GivenUp.Owes, RunsWake.manner_of, WinsLate.ClockedRunsWinLate, WinsLate.RunsWinLate, WinsLate.WinsLate, WinsLate.WonFits}
-use Rattle.tsp_progress.proofs.{DebtKeeps.OwedBy, DebtKeeps.Paid, DebtKeeps.pays, DebtKeeps.runs_pay, RunWakes.clocked_runs_wake, StandsProof.Rising}
+use Rattle.tsp_progress.proofs.{DebtKeeps.OwedBy, DebtKeeps.Paid, DebtKeeps.pays, DebtKeeps.runs_pay, DebtKeeps.takes_calmly, RunWakes.clocked_runs_wake}
+use Rattle.tsp_progress.proofs.{StandsProof.Rising}
 use Rattle.tsp_progress.proofs.StandsProof.{rising}
 
 -- who wins has just had its Window ring
@@ -150,7 +151,7 @@ clocked_runs_win_late clocks header setting events set possible n q =
     let world = run_by clocks header events in
     let fits = (clocked_runs_fit clocks header setting events set possible).0 in
     all-won (manner_of header n) (setup_of setting n q) (view q (of n world)) (port_fits setting n world fits q)
-    (runs_pay by-leading refl sends rung clocks header events n q) ((clocked_runs_wake clocks header events).1 n q).acts
+    (runs_pay by-leading refl sends rung (takes_calmly by-leading refl) clocks header events n q) ((clocked_runs_wake clocks header events).1 n q).acts
     (rising setting q (of n world) (own_fits setting n world fits))
 
 pub runs_win_late : RunsWinLate

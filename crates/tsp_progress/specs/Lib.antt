@@ -8,6 +8,7 @@ pub mod AnswersUse
 pub mod ByTable
 pub mod CausesFit
 pub mod Corrects
+pub mod Decided
 pub mod Delivered
 pub mod FirstSearch
 pub mod FirstSearchUse

@@ -242,6 +242,18 @@ pub fn clocked_runs_refuse()
     ensures { ClockedRunsRefuse }
 {}
 
+ghost use Rattle.tsp_progress.specs.Decided.{ClockedRunsDecide, RunsDecide};
+/// A candidate's send to a peer ends by an ACCEPT or a REFUSE of that peer with its number, if it is
+/// acknowledged.
+pub fn runs_decide()
+    ensures { RunsDecide }
+{}
+
+/// So it is in a run by any clocks.
+pub fn clocked_runs_decide()
+    ensures { ClockedRunsDecide }
+{}
+
 ghost use Rattle.tsp_progress.specs.NoSecondMaster.{ClockedRunsLeadAlone, RunsLeadAlone};
 /// And beside a master no candidate wins, if twice that time is less than `WINDOW`, 5 s, and no QUIT
 /// to it is open yet.
