@@ -90,7 +90,8 @@
 //!   `clocked_runs_win_late`). So one that is refused in time doesn't win, unless its send to who
 //!   refuses ended otherwise before (`runs_refuse`, `clocked_runs_refuse`); nor does one that asks a
 //!   master for its vote, if no QUIT to it is open yet (`runs_lead_alone`,
-//!   `clocked_runs_lead_alone`).
+//!   `clocked_runs_lead_alone`). An ELECTION is acknowledged only by an ACCEPT or a REFUSE of its
+//!   addressee with its number (`runs_decide`, `clocked_runs_decide`).
 //! - Each peer that is measured has a sample when its round closes, if twice `long` is less than 8 s
 //!   (`runs_sample`, `clocked_runs_sample`).
 //! - It says something: a worked run (`prompt_use`), one that leads one tick before the bound
@@ -103,7 +104,8 @@
 //!   which it is lost (`reach_use`), one in which a correction is acknowledged and three in which one
 //!   is given up (`acked_use`), runs in which nobody is up to answer (`meanwhile_use`), two candidates
 //!   at once that lose, and two that both win since datagrams take too long (`refused_use`),
-//!   candidates beside a master that lose and that win (`second_use`), and rounds in which a slave has samples and in which it has none (`sampled_use`).
+//!   candidates beside a master that lose and that win (`second_use`), and rounds in which a slave
+//!   has samples and in which it has none (`sampled_use`).
 //!
 //! It isn't proved that of two candidates at most one wins where elections aren't strict, that a
 //! network in which several nodes may be master gets one, or that all follow it and agree.
