@@ -52,6 +52,17 @@ def holds(folder, *options):
     wanted(found == (0, [f'{acts(folder)} acts alike, holds'], []), f'{folder}: {found}')
 
 
+def tells_progress(folder):
+    """What is said of looks and datagrams is true of a network in which no look at an alarm was later than LATE, nor one at a send than three times that, since
+    each counts from the one before; and no datagram was longer on its way than WAY has it."""
+    status, said, _ = judged(folder, '--drift', str(DRIFT), '--progress')
+    late = re.match(r'looks at alarms and sends came at most ([0-9.]+) s late', said[1])
+    took = re.match(r'they took at most ([0-9.]+) s, and at least ([0-9.]+) s in one case', said[3])
+    wanted(status == 0 and late and took, f'{folder}: {said}')
+    (looks,), (most, least) = ([round(float(text) * 10**6) for text in found.groups()] for found in (late, took))
+    wanted(wander.LATE // 2 <= looks <= 3 * wander.LATE and least <= wander.WAY[1] <= most, f'{folder}: {looks} us late, {least} to {most} us on their way')
+
+
 class Changed:
     """A copy of some traces, of which one file is changed."""
 
@@ -136,6 +147,7 @@ def main():
         wander.run(sys.argv[1], good, plan)
         wanted(any(b'lines of supervisors left out' in octets(path) for path in glob.glob(f'{good}/*.trace')), 'no question is left out')
         holds(good)
+        tells_progress(good)
         for _ in range(TIMES):
             finds_act(good, chance)
             finds_early(good, chance)

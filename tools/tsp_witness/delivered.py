@@ -1,6 +1,7 @@
 """How late the daemons of a network looked at their alarms and sends, how long their datagrams were on their way, and how long things took that the laws of
 progress bound (docs/PROGRESS.md)."""
 import bisect
+from collections import namedtuple
 
 from tsp_texts import progress
 from tsp_witness import faults
@@ -14,12 +15,9 @@ MOST_SHOWN = 10
 NEAR = 4
 
 
-class Way:
+class Way(namedtuple('Way', 'post take least most')):
     """A datagram that was taken: where it was posted and taken, and how many microseconds that took at least and at most; None where nothing tells that."""
-    __slots__ = ('post', 'take', 'least', 'most')
-
-    def __init__(self, post, take):
-        self.post, self.take, self.least, self.most = post, take, 0, None
+    __slots__ = ()
 
     def words(self):
         """Its message line."""
@@ -42,18 +40,22 @@ class Drift:
         return -self.most(-ticks)
 
 
-def bound(ways, back, drift):
-    """Bounds the times of datagrams from one start to another, by those around each in the same direction, and by those back. `ways` are in the order of posts,
-    `back` in the order in which they were taken."""
-    taken = [way.take.tick for way in back]
-    for place, way in enumerate(ways):
-        for other in ways[max(place - NEAR, 0):place + NEAR + 1]:
-            # (that one wasn't taken before it was posted)
-            if other is not way:
-                way.least = max(way.least, drift.least(way.take.tick - other.take.tick) + drift.least(other.post.tick - way.post.tick))
-        near = bisect.bisect(taken, way.post.tick)
-        bounds = [drift.most(way.take.tick - other.post.tick) + drift.most(other.take.tick - way.post.tick) for other in back[max(near - NEAR, 0):near + NEAR]]
-        way.most = max(way.least, min(bounds)) if bounds else None
+class Pair:
+    """Two starts, and the datagrams from the first to the second whose posts are known, and those back, each as its post and its take."""
+
+    def __init__(self, forth, back):
+        self.forth, self.back = sorted(forth, key=lambda way: way[0].tick), sorted(back, key=lambda way: way[1].tick)
+        self.posted, self.taken = [way[0].tick for way in self.forth], [way[1].tick for way in self.back]
+
+    def way(self, post, take, drift):
+        """A datagram from the first to the second, whose time is bounded by those around it in the same direction, none of which was taken before it was posted,
+        and by those back."""
+        near = bisect.bisect(self.posted, post.tick)
+        least = [drift.least(take.tick - other[1].tick) + drift.least(other[0].tick - post.tick)
+                 for other in self.forth[max(near - NEAR, 0):near + NEAR] if other[1] is not take]
+        near = bisect.bisect(self.taken, post.tick)
+        most = [drift.most(take.tick - other[0].tick) + drift.most(other[1].tick - post.tick) for other in self.back[max(near - NEAR, 0):near + NEAR]]
+        return Way(post, take, max([0, *least]), min(most, default=None))
 
 
 class Delivery:
@@ -61,22 +63,34 @@ class Delivery:
     turn and act. None of both where no times fit."""
 
     def __init__(self, judgement):
-        self.judgement, self.fitting = judgement, judgement.fitting
-        self.ways, self.lost, self.readings = [], [], {}
+        self.judgement, self.fitting, self.drift = judgement, judgement.fitting, Drift(judgement.drift)
+        self.ways, self.lost, self.readings, self.pairs = [], [], {}, {}
+        known = {}
         for take, post in self.fitting.posts.items():
-            self.ways.append(Way(post, take))
+            if len(judgement.matching.candidates(take)) == 1:
+                known.setdefault((post.life, take.life), []).append((post, take))
+        self.known = known
+        for take, post in self.fitting.posts.items():
+            self.ways.append(self.way(take, post))
         self.find_lost()
-        self.bound_all(Drift(judgement.drift))
 
-    def bound_all(self, drift):
-        """Bounds the times of all."""
-        pairs = {}
-        for way in self.ways:
-            pairs.setdefault((way.post.life, way.take.life), []).append(way)
-        for ways in pairs.values():
-            ways.sort(key=lambda way: (way.post.tick, way.take.tick))
-        for (here, there), ways in pairs.items():
-            bound(ways, sorted(pairs.get((there, here), []), key=lambda way: way.take.tick), drift)
+    def bounded(self, post, take):
+        """A datagram with its bounds."""
+        here, there = post.life, take.life
+        if (here, there) not in self.pairs:
+            self.pairs[here, there] = Pair(self.known.get((here, there), ()), self.known.get((there, here), ()))
+        return self.pairs[here, there].way(post, take, self.drift)
+
+    def way(self, take, post):
+        """A datagram that was taken. One that equals several posts counts as the last of them that it can have been."""
+        posts = self.judgement.matching.candidates(take)
+        if len(posts) > 1:
+            last = self.time(take) + LONG
+            for other in sorted((other.turn for other in posts if self.time(other.turn) <= last), key=self.time, reverse=True)[:NEAR]:
+                way = self.bounded(other, take)
+                if way.most is None or way.most >= 0:
+                    return way
+        return self.bounded(post, take)
 
     def time(self, turn):
         """Roughly a turn's time: that of the reading next to it in its start, and the ticks between."""
@@ -111,7 +125,6 @@ class Delivery:
                 way = next((way for way in twice if at <= self.time(way.take) < at + LONG), None)
                 if way:
                     twice.remove(way)
-                    way.post = post.turn
                 else:
                     yield post
 
@@ -139,7 +152,7 @@ class Delivery:
         if longest:
             yield f'they took at most {progress.seconds(longest.most)}, and at least {progress.seconds(max(way.least for way in self.ways))} in one case: ' \
                 f'the longest was "{longest.words()}", posted by {self.name(longest.post)}'
-        late = [(self.time(way.post), f'"{way.words()}"', way.post) for way in self.ways if (way.most or way.least) >= LONG]
+        late = [(self.time(way.post), f'"{way.words()}"', way.post) for way in self.ways if way.least >= LONG]
         lost = [(self.time(post.turn), f'"{" ".join(post.act.words[3:])}"', post.turn) for post in self.lost]
         if late or lost:
             at, what, turn = max(late + lost, key=lambda broken: broken[0])
