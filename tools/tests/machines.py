@@ -59,13 +59,16 @@ def main():
     stepped = [sample(moment, 5000 * (moment >= half), LEADS) for moment in moments()]
     judged, outside = made(stepped, follows).missed()
     late = sum(moment > half + 20_000_000 for moment in moments(123_456)) - 1
-    wanted(late - 2 <= outside <= late + 1 and judged <= len(follows) - 39, f'of {judged} readings {outside} miss a master that was corrected, and {late} are late')
+    wanted(late - 2 <= outside <= late + 1 and judged <= len(follows) - 39, 
+           f'of {judged} readings {outside} miss a master that was corrected, and {late} are late')
     # An own clock that is stepped back by 120 ms, beside one that is slewed by 8 percent all the time; and the distances of the first half alone.
-    seen = made([sample(moment, 0, 1, own=moment * 8 // 100) for moment in moments()], [sample(moment, 0, 1, own=-120_000 * (moment >= half)) for moment in moments()])
+    seen = made([sample(moment, 0, 1, own=moment * 8 // 100) for moment in moments()],
+                [sample(moment, 0, 1, own=-120_000 * (moment >= half)) for moment in moments()])
     seen.machines = [SimpleNamespace(name='m1'), SimpleNamespace(name='m2')]
     wanted(seen.stepped() == 'm2 by -120 ms', f'stepped were {seen.stepped()}')
     seen = made(leads, [sample(moment, 300 + 700 * (moment >= half), 1) for moment in moments()])
-    wanted(three(seen.apart('shown', 0, half - PACE)) == '300, 300, 300', f'in the first half shown values are {three(seen.apart("shown", 0, half - PACE))} apart')
+    first = three(seen.apart('shown', 0, half - PACE))
+    wanted(first == '300, 300, 300', f'in the first half shown values are {first} apart')
     # Each command for systemd on the pages has a step, and no step is without a page; the guide has the blocks that the lab runs.
     wanted(printed.not_tried() == ([], []), f'commands without a step, and steps without a command: {printed.not_tried()}')
     wanted(len(pages.blocks(paths.SECTION)) == 3 and len(pages.blocks('Four ways')) == 2, 'the guide has other blocks than the lab runs')
