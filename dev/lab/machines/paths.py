@@ -158,7 +158,7 @@ def tunnelled(net):
     back(net, members, before)
     ways = 'by wg-quick, after its restart, with the firewall, after a reboot and by systemd-networkd'
     return (f'{ways} 0 of {2 * TIMES} forged datagrams got in, and all {TIMES} of a peer; without the rule {without} of {TIMES}; {leads.name} led through the '
-            f'tunnel, and a host that rebooted was synchronised after {again:.0f} s; shortest and middle round trips {tunnel} ms through the tunnel, {bare} without')
+            f'tunnel, and a host that rebooted was synchronised after {again:.0f} s; shortest and middle round trips {tunnel} ms in it, {bare} without')
 
 
 def back(net, members, before):
