@@ -1,11 +1,13 @@
 """What dev/machines reckons of samples, against distances that were worked out by hand: `machines.py`, from the top of the repository."""
 import os
 import sys
+from types import SimpleNamespace
 
 HERE = os.path.dirname(os.path.realpath(__file__))
 TOP = os.path.dirname(os.path.dirname(HERE))
 sys.dont_write_bytecode = True
 sys.path[:0] = os.path.join(TOP, 'dev'), os.path.join(TOP, 'tools')
+from lab.machines import pages, paths, printed  # noqa: E402
 from lab.machines.truth import LEADS, SYNCHRONISED, Clock, Sample, Truth, three  # noqa: E402
 
 # Counts in a microsecond, and microseconds: between two samples, and of the whole.
@@ -57,7 +59,19 @@ def main():
     stepped = [sample(moment, 5000 * (moment >= half), LEADS) for moment in moments()]
     judged, outside = made(stepped, follows).missed()
     late = sum(moment > half + 20_000_000 for moment in moments(123_456)) - 1
-    wanted(late - 2 <= outside <= late + 1 and judged <= len(follows) - 39, f'of {judged} readings {outside} miss a master that was corrected, and {late} are late')
+    wanted(late - 2 <= outside <= late + 1 and judged <= len(follows) - 39, 
+           f'of {judged} readings {outside} miss a master that was corrected, and {late} are late')
+    # An own clock that is stepped back by 120 ms, beside one that is slewed by 8 percent all the time; and the distances of the first half alone.
+    seen = made([sample(moment, 0, 1, own=moment * 8 // 100) for moment in moments()],
+                [sample(moment, 0, 1, own=-120_000 * (moment >= half)) for moment in moments()])
+    seen.machines = [SimpleNamespace(name='m1'), SimpleNamespace(name='m2')]
+    wanted(seen.stepped() == 'm2 by -120 ms', f'stepped were {seen.stepped()}')
+    seen = made(leads, [sample(moment, 300 + 700 * (moment >= half), 1) for moment in moments()])
+    first = three(seen.apart('shown', 0, half - PACE))
+    wanted(first == '300, 300, 300', f'in the first half shown values are {first} apart')
+    # Each command for systemd on the pages has a step, and no step is without a page; the guide has the blocks that the lab runs.
+    wanted(printed.not_tried() == ([], []), f'commands without a step, and steps without a command: {printed.not_tried()}')
+    wanted(len(pages.blocks(paths.SECTION)) == 3 and len(pages.blocks('Four ways')) == 2, 'the guide has other blocks than the lab runs')
     # A clock isn't told where samples are far apart.
     clock = Clock([(0, 0), (1000, 1000), (9_000_000, 9_000_000)])
     wanted((clock.read(500), clock.read(5_000_000), clock.read(-1), clock.read(10_000_000)) == (500, None, None, None), 'a clock is told where it isn\'t known')

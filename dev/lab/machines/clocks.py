@@ -28,7 +28,8 @@ rtcsync
 '''
 # Clocks are compared on machines that nothing befalls: the first ones.
 COMPARED = 3
-# Seconds: until a source is taken, and until chronyd has settled with it; two rounds; how long a server is gone at least; and how long clocks are sampled around that.
+# Seconds: until a source is taken, and until chronyd has settled with it; two rounds; how long a server is gone at least; and how long clocks are sampled
+# around that.
 SYNCHRONISED, SETTLED, ROUNDS, GONE, AROUND = 600, 60, 480, 300, 60
 LEARNED = 1800
 SORTS = 'own', 'shown', 'middle'
@@ -80,7 +81,8 @@ def busy(net):
 def unlearned(net):
     """The same without learned rates: all daemons are started again with TSP_RATE=0, and later again as they were."""
     def with_rate(line):
-        net.each(lambda machine: machine.must(f'sed -i /^TSP_RATE=/d /etc/default/tsp; echo {line} >>/etc/default/tsp; systemctl restart tsp', patience=network.UP))
+        command = f'sed -i /^TSP_RATE=/d /etc/default/tsp; echo {line} >>/etc/default/tsp; systemctl restart tsp'
+        net.each(lambda machine: machine.must(command, patience=network.UP))
         net.led()
     with_rate('TSP_RATE=0')
     line, outside = measured(net)
@@ -98,9 +100,11 @@ def learned(net):
     took = time.monotonic() - begun
     time.sleep(ROUNDS)
     rates = [page_of(machine).rate / 1000 for machine in net.machines]
-    counted = [rate + machine.ppm for rate, machine in zip(rates, net.machines)]
-    return (f'all followers counted by a learned rate after {took:.0f} s, and {ROUNDS} s later by {", ".join(f"{rate:+.2f}" for rate in rates)} parts in a million; with '
-            f'what their hardware is off their counters were at most {max(counted) - min(counted):.2f} apart, and {max(one.ppm for one in net.machines) - min(one.ppm for one in net.machines)} before')
+    hardware = [machine.ppm for machine in net.machines]
+    counted = [rate + off for rate, off in zip(rates, hardware)]
+    shown = ', '.join(f'{rate:+.2f}' for rate in rates)
+    return (f'all followers counted by a learned rate after {took:.0f} s, and {ROUNDS} s later by {shown} parts in a million; with what their hardware is off '
+            f'their counters were at most {max(counted) - min(counted):.2f} apart, and {max(hardware) - min(hardware)} before')
 
 
 def has_source(machine):
@@ -194,7 +198,8 @@ def gone(net, victim, is_over, unit):
     moments.append(truth.now(net) / rate)
     time.sleep(2 * AROUND)
     seen = truth.Truth(net, others)
-    parts = [truth.three(seen.apart('own', *part)) for part in ((0, moments[0]), (moments[0], moments[1]), (moments[1], moments[2]), (moments[2], moments[2] * 2))]
+    bounds = [0, *moments, float('inf')]
+    parts = [truth.three(seen.apart('own', begun, ended)) for begun, ended in zip(bounds, bounds[1:])]
     return (f'{took}; own clocks of the others were apart by {parts[0]} us before, {parts[1]} while it was gone, {parts[2]} until it had a source again, '
             f'{parts[3]} then; {victim.name} had a source {again:.0f} s after its unit {unit} was up; stepped: {seen.stepped()} of the others, '
             f'{victim.name} {steps_of(victim)}')

@@ -9,8 +9,9 @@ PROFILE = '/etc/apparmor.d/tsp'
 # What the kernel's log has of a profile: what is refused, or noted as what would be.
 NOTED = re.compile(r'apparmor="(ALLOWED|DENIED)" .*profile="tsp')
 # What a machine's user calls while the daemon is confined: each ends well, or by a status that says something of the network. A page or two of each is enough.
-TOOLS = ('tsp-launch --lint', 'tsp-launch -n', 'tsp-status', 'tsp-now', 'tsp-now --tracking', 'tsp-now --offset', 'tsp-watch --lines | tail -n 3', 'tsp-watch --json | head -n 1',
-         'tsp-witness --help | head -n 1', 'tsp clockdiff 10.77.0.1:525', 'python3 -c "import tsp_clock; print(tsp_clock.Clock().now().status)"', 'tsp-run date')
+TOOLS = ('tsp-launch --lint', 'tsp-launch -n', 'tsp-status', 'tsp-now', 'tsp-now --tracking', 'tsp-now --offset', 'tsp-watch --lines | tail -n 3',
+         'tsp-watch --json | head -n 1', 'tsp-witness --help | head -n 1', 'tsp clockdiff 10.77.0.1:525',
+         'python3 -c "import tsp_clock; print(tsp_clock.Clock().now().status)"', 'tsp-run date')
 # What the profile is meant to refuse: a file that only root may read, tried by a program that the profile has.
 REFUSED = 'aa-exec -p tsp -- /usr/bin/head -n 1 /etc/shadow'
 
@@ -32,7 +33,7 @@ def label(machine):
 
 
 def exercise(net, one):
-    """All that the daemon and its supervisor do, one after the other: a reload, a daemon that is killed, a cable that is out, a question of each tool, a restart."""
+    """All that the daemon and its supervisor do, one after the other: a reload, a killed daemon, a cable that is out, a question of each tool, a restart."""
     one.must('systemctl reload tsp')
     before = life_of(one)
     one.must('pkill -KILL -x tsp')
@@ -56,8 +57,8 @@ def exercise(net, one):
 
 
 def confined(net):
-    """The profile for AppArmor, as the package loads it and then by aa-enforce: the kernel's log has nothing that the daemon or its supervisor lacks, whatever they
-    do, with the feed and the tools beside them; and a file of root's is refused."""
+    """The profile for AppArmor, as the package loads it and then by aa-enforce: the kernel's log has nothing that the daemon or its supervisor lacks, whatever
+    they do, with the tools beside them; and a file of root's is refused."""
     one = net.victim()
     wanted(one.says('cat /sys/module/apparmor/parameters/enabled') == 'Y', 'the kernel has no AppArmor')
     found, since = [], cursor(one)
@@ -74,7 +75,8 @@ def confined(net):
         found.append(f'{mode}: nothing noted, synchronised {took:.0f} s after the last restart')
     status, _ = one.run(REFUSED)
     last = noted(one, since)
-    wanted(status and last and all('DENIED' in line and '/etc/shadow' in line for line in last), f'/etc/shadow is read with status {status}, and the kernel notes {last}')
+    wanted(status and last and all('DENIED' in line and '/etc/shadow' in line for line in last),
+           f'/etc/shadow is read with status {status}, and the kernel notes {last}')
     one.must(f'aa-complain {PROFILE}', patience=network.UP)
     return f'{"; ".join(found)}; /etc/shadow was refused'
 

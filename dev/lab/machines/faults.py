@@ -85,8 +85,8 @@ def cable_short(net):
 
 
 def cable_long(net):
-    """A follower's cable is out for 11 minutes, longer than the grace: its page holds over, until it leads alone if it may be master; its daemon is ended, started
-    again, and it follows within 350 s."""
+    """A follower's cable is out for 11 minutes, longer than the grace: its page holds over, until it leads alone if it may be master; its daemon is ended,
+    started again, and it follows within 350 s."""
     one = net.victim()
     before, seen = life_of(one), []
     one.pull()
@@ -97,7 +97,8 @@ def cable_long(net):
     one.plug()
     took = net.joined_anew(one, before)
     held, alone = sum(page.status == 'holding' for page in seen), sum(page.role == 'leads' for page in seen)
-    wanted(held and seen[-1].status in ('stale', '') and (one.number < network.SLAVE_FROM or not alone), f'while its cable is out the page of {one.name} says {seen}')
+    wanted(held and seen[-1].status in ('stale', '') and (one.number < network.SLAVE_FROM or not alone),
+           f'while its cable is out the page of {one.name} says {seen}')
     said = journal(one, '| grep -o "hasn.t been for [0-9]* s" ')
     wanted(said, f'the journal of {one.name} doesn\'t say that the address is given up: {journal(one)}')
     led = f', and it led alone for {LOOKS * alone} s' if alone else ''

@@ -5,8 +5,8 @@ import subprocess
 
 HERE = os.path.dirname(os.path.realpath(__file__))
 PACKAGES = ('systemd', 'systemd-sysv', 'dbus', 'udev', 'kmod', 'linux-image-amd64', 'initramfs-tools', 'chrony', 'nftables', 'wireguard-tools', 'python3',
-            'libfaketime', 'iproute2', 'iputils-ping', 'logrotate', 'procps', 'util-linux', 'stress-ng', 'e2fsprogs', 'apparmor', 'apparmor-utils', 'needrestart',
-            'prometheus-node-exporter', 'curl')
+            'libfaketime', 'iproute2', 'iputils-ping', 'logrotate', 'procps', 'util-linux', 'stress-ng', 'e2fsprogs', 'apparmor', 'apparmor-utils',
+            'needrestart', 'prometheus-node-exporter', 'curl')
 SUITE, SIZE = 'bookworm', '2G'
 UNWANTED = ('apt-daily.timer', 'apt-daily-upgrade.timer', 'fstrim.timer', 'e2scrub_all.timer', 'dpkg-db-backup.timer', 'e2scrub_reap.service', 'systemd-timesyncd.service',
             'systemd-binfmt.service', 'getty.target')

@@ -18,8 +18,8 @@ TOP = os.path.dirname(os.path.dirname(os.path.dirname(HERE)))
 # By how many parts in a million the hardware of each machine counts too fast.
 RATES = (40, -25, 5, 60, -50)
 SLAVE_FROM = 4
-# Seconds: after which a host may be told to stand, a network has a master, a host has joined it (80 of quiet, and a round more where one met it in these, since a
-# master whose correction wasn't acknowledged begins no other one for 70), a unit is up, and between two looks.
+# Seconds: after which a host may be told to stand, a network has a master, a host has joined it (80 of quiet, and a round more, since a master
+# that still counts it among its slaves corrects it in its next round), a unit is up, and between two looks.
 MAY_STAND, LED, JOINED, UP, OFTEN = 300, 900, 350, 300, 4
 # The place of the role in a line of `tsp-status --csv`; and what a page says, by its numbers.
 ROLE = 7

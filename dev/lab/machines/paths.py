@@ -94,7 +94,7 @@ def forged(forger, target, source, name, port=525):
 
 
 def nothing_gets_in(forger, members, way):
-    """That no datagram comes in that is forged on the wire, from the daemon's port or another one; and that a peer's own do, but not with another one's address."""
+    """That no datagram comes in that is forged on the wire, from the daemon's port or another one; and a peer's own do, but not with another one's address."""
     target, source, third = members
     for port in (525, 3333):
         got = forged(forger, target, source, f'{way}-{port}', port)
@@ -106,7 +106,7 @@ def nothing_gets_in(forger, members, way):
 
 
 def trips(one, address):
-    """How long round trips to a daemon take, in milliseconds: the least and the median, by how far its clock's measurement may be wrong, which is half of one."""
+    """How long round trips to a daemon take, in milliseconds: the least and the median, by how far its measured clock may be wrong, which is half of one."""
     said = one.must(f'for _ in $(seq {TRIPS}); do /usr/lib/tsp/tsp clockdiff {address}:525; done', patience=300)
     errors = sorted(map(int, re.findall(r'^clockdiff -?[0-9]+ ([0-9]+)$', said, re.MULTILINE)))
     wanted(len(errors) > TRIPS / 2, f'{len(errors)} of {TRIPS} questions are answered: {said[:200]}')
@@ -124,7 +124,7 @@ def without_rule(forger, target, source):
 
 
 def tunnelled(net):
-    """Three hosts at addresses of a tunnel over IPv6, by the kernel's WireGuard and the commands of the operator's guide, and a fourth machine on the wire beneath that
+    """Three hosts at addresses of a tunnel over IPv6, by the kernel's WireGuard and the commands of the operator's guide, and a fourth machine on the wire that
     sends with a peer's address: none of its datagrams gets in, with wg-quick, after a reboot, and with systemd-networkd. One host leads, and all follow it."""
     members, forger = net.machines[:3], net[4]
     before = {machine: machine.must('cat /etc/tsp/hosts') for machine in net.machines}
@@ -138,8 +138,8 @@ def tunnelled(net):
     without = without_rule(forger, net[1], net[2])
     wanted(without, 'without the rule no forged datagram gets in, so nothing is tried')
     nothing_gets_in(forger, members, 'restarted')
-    net.each(lambda one: one.must('mkdir -p /etc/nftables.d; tsp-launch --firewall nft >/etc/nftables.d/tsp.nft; grep iifname.*tsp.*saddr /etc/nftables.d/tsp.nft; '
-                                  'nft -f /etc/nftables.d/tsp.nft'), members)
+    net.each(lambda one: one.must('mkdir -p /etc/nftables.d; tsp-launch --firewall nft >/etc/nftables.d/tsp.nft; '
+                                  'grep iifname.*tsp.*saddr /etc/nftables.d/tsp.nft; nft -f /etc/nftables.d/tsp.nft'), members)
     nothing_gets_in(forger, members, 'firewall')
     tunnel = trips(net[2], inside(net[1]))
     leads = net.led(machines=members)
@@ -156,9 +156,9 @@ def tunnelled(net):
     nothing_gets_in(forger, members, 'networkd')
     leads = net.led(machines=members)
     back(net, members, before)
-    return (f'by wg-quick, after its restart, with the firewall, after a reboot and by systemd-networkd 0 of {2 * TIMES} forged datagrams got in, and all {TIMES} of a peer; without '
-            f'the rule {without} of {TIMES}; {leads.name} led through the tunnel, and a host that rebooted was synchronised after {again:.0f} s; shortest and middle round '
-            f'trips {tunnel} ms through the tunnel, {bare} without')
+    ways = 'by wg-quick, after its restart, with the firewall, after a reboot and by systemd-networkd'
+    return (f'{ways} 0 of {2 * TIMES} forged datagrams got in, and all {TIMES} of a peer; without the rule {without} of {TIMES}; {leads.name} led through the '
+            f'tunnel, and a host that rebooted was synchronised after {again:.0f} s; shortest and middle round trips {tunnel} ms in it, {bare} without')
 
 
 def back(net, members, before):

@@ -20,7 +20,8 @@ STALE, SYNCHRONISED = 0, 2
 
 
 class Step(namedtuple('Step', 'command before proof edited', defaults=('',))):
-    """A command of the pages, what is done before it, and what is to be so afterwards: `proof` raises Failed; and what is written in the editor that it calls."""
+    """A command of the pages, what is done before it, what is to be so afterwards, or else `proof` raises Failed, and what is written in the editor
+    that it calls."""
     __slots__ = ()
 
     def call(self, one):
@@ -77,7 +78,7 @@ def writes_metrics(one, _):
         served = one.says('curl -s http://127.0.0.1:9100/metrics | grep -E "^tsp_" | sed "s/[{ ].*//" | sort | uniq -c')
         if 'tsp_clock_' in served and 'tsp_host_' in served:
             break
-        wanted(time.monotonic() < until, f'node_exporter serves {served!r}: {one.says("ls -la " + COLLECTED + "; systemctl status tsp-metrics --no-pager -l | tail -n 9")}')
+        wanted(time.monotonic() < until, f'node_exporter serves {served!r}; there are {one.says(f"ls -la {COLLECTED}")}')
         time.sleep(5)
     one.must('systemctl disable --now tsp-metrics.timer; systemctl stop prometheus-node-exporter')
 

@@ -57,7 +57,8 @@ def now(network):
 def begin(network, seconds, machines=None):
     """Begins samples on machines, for so many seconds."""
     def one(machine):
-        machine.must(f'systemctl stop sampler 2>/dev/null; rm -f /srv/samples; systemd-run --quiet --collect --unit=sampler sh -c "exec /srv/sampler {seconds} >/srv/samples"')
+        machine.must('systemctl stop sampler 2>/dev/null; rm -f /srv/samples; '
+                     f'systemd-run --quiet --collect --unit=sampler sh -c "exec /srv/sampler {seconds} >/srv/samples"')
     network.each(one, machines)
 
 
