@@ -160,6 +160,9 @@ def try_metrics(made, before):
     after = reckoned(*made)
     wanted(status == 0, f'the metrics end with status {status}')
     found = dict(line.rsplit(' ', 1) for line in text.splitlines() if not line.startswith('#'))
+    if 'width_us' not in before:
+        # (nothing is known of the network's time, so nothing is off it)
+        del before['own_offset_us']
     for name, key in (('life', 'life_us'), ('to_slew', 'to_slew_us'), ('correction_age', 'correction_age_us'), ('own_offset', 'own_offset_us'),
                       ('look_age', 'look_age_us'), ('width', 'width_us'), ('master_offset', 'master_offset_us'), ('error', 'error_us')):
         beside(key, number(found.get(f'tsp_clock_{name}_seconds', '')), before, after)
@@ -175,8 +178,10 @@ def try_metrics(made, before):
 
 def try_offset(made, before):
     """The offset alone, which has the other sign."""
-    text, _ = ran('--offset')
+    text, status = ran('--offset')
     beside('own_offset_us', -number(text), before, reckoned(*made))
+    is_known = 'width_us' in before
+    wanted(status == (0 if is_known else 5) and text.endswith(' unsynchronised\n') != is_known, f'status {status} with {text}')
 
 
 def main(path, count):

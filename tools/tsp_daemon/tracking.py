@@ -183,7 +183,7 @@ def gauge(name, text, value, kind='gauge'):
 def times_of(seen):
     """The names of metrics in seconds, what they tell, and their values in microseconds."""
     return [
-        ('own_offset', 'By how much this machine\'s own clock is ahead of the network\'s time.', seen.own_offset),
+        ('own_offset', 'By how much this machine\'s own clock is ahead of the network\'s time.', None if seen.width is None else seen.own_offset),
         ('error', 'How far the network\'s time, as it is shown here, may be from the master\'s clock.', seen.error),
         ('master_offset', 'By how much the middle of the interval is ahead of the shown time.', seen.master_offset),
         ('width', 'How wide the interval is in which the master\'s clock lies.', seen.width),
