@@ -129,7 +129,7 @@ def try_words(made, before):
     daemon, look = made
     wanted(rows['Status'] == exact(made)['status'], f'the status is {rows["Status"]}')
     wanted(rows['Rate'].startswith(f'{daemon.rate / 1000:+.3f} parts in a million'), f'the rate is {rows["Rate"]}')
-    learned = f'{look.learned / 1000:+.3f} parts in a million' if look.had else 'none, by the page'
+    learned = f'{look.learned / 1000:+.3f} parts in a million' if look.had else 'none yet'
     wanted(rows['Learned rate'] == learned, f'the learned rate is {rows["Learned rate"]}')
     wanted(rows['Steps'] == f'{daemon.steps} in this life', f'the steps are {rows["Steps"]}')
     leads = {LEADS: 'this host', FOLLOWS: 'peer 3, whose clock isn\'t looked at yet', NOBODY: 'nobody; alpha was the last one' if look.had else 'nobody'}

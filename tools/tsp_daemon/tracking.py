@@ -140,7 +140,7 @@ def rows(seen, is_utc):
     yield 'Steps', f'{daemon.steps} in this life'
     yield 'Life', f'{metrics.seconds(seen.tick)} seconds since the daemon\'s start, number {daemon.life:016x}'
     yield 'Rate', f'{parts(daemon.rate)}, by which the daemon counts faster than the counter'
-    yield 'Learned rate', parts(seen.look.learned) if is_looked and seen.look.learned else 'none, by the page'
+    yield 'Learned rate', parts(seen.look.learned) if is_looked and seen.look.learned else 'none yet' if not is_looked else 'none, by the page'
     yield 'Drift allowed', f'{seen.look.drift} parts in a million' if is_looked else 'not known'
     yield 'Counter', COUNTERS[daemon.counter]
 
