@@ -80,6 +80,9 @@ is_an_hour_ahead "@$said"
 echo 'master delta' >"$ANSWERS/msite-192.0.2.12:526"
 ends 78 beta
 [ "$told" = "tsp-now: its master, delta, is no host of the hosts file, so nobody can say how far its clock is from that one's" ] || fail "it tells '$told'"
+echo 'master alpha' >"$ANSWERS/msite-192.0.2.12:526"
+ends 78 --file "$out/none" 192.0.2.12:526
+[ "$told" = "tsp-now: $out/none: there is no such file; a hosts file is still needed for the address of its master, alpha" ] || fail "without a hosts file it tells '$told'"
 rm "$ANSWERS"/*-192.0.2.12:526
 ends 0 -u alpha
 case ${said%% *} in *Z) is_an_hour_ahead "${said%% *}" ;; *) fail "in UTC it says '$said'" ;; esac
