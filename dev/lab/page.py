@@ -31,7 +31,8 @@ All daemons' clocks are made from one clock of the machine, by rates and wall cl
 - **most**: the greatest share of the promised distance that any two clocks reached, at any moment.
 
 **learned** are the same networks once more, for as long, whose daemons count with the rates that their traces of the first run gave, as after a restart.
-**rates** is then the greatest difference of two counters, in parts in a million, and **simulated** how far apart nodes' clocks are whose rates are -1, 0 or 1.
+Rates are drawn anew in each case, so rows don't compare: the same drift may be two counters that are far from each other, or two that are close.
+**rates** is the greatest difference of two counters, in parts in a million, and **simulated** how far apart nodes' clocks are whose rates are -1, 0 or 1.
 `tsp-witness` asks of counters only that they stay within the drift, so it judges the runs with learned rates as it does the others.
 
 The simulations are runs of `tsp-sim` with as many nodes and as much drift. In them a datagram takes the daemons' least error, and up to the jitter besides.

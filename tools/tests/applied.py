@@ -181,14 +181,15 @@ def told():
         learned.recent.rate = rate
         applied.ask(keeper)
     wanted(keeper.rates == [40_000, -40_000], f'it asks for {keeper.rates}')
-    warning = 'the counter needs 40001 parts in 10^9, and TSP_DRIFT, 40 parts in a million, allows less: the daemon keeps its rate'
+    warning = 'the counter needs +40.001 parts in a million, and TSP_DRIFT, 40 parts in a million, allows less: the daemon keeps its rate'
     wanted(said == [('beyond', warning, log.WARNING)], f'it says {said}')
     said.clear()
-    for tick, rate in (5, 900), (6, 900), (7, 1100), (8, 500), (9, 100):
+    for tick, rate in (5, 900), (6, 900), (7, 1100), (8, 500), (9, 100), (10, -2500):
         applied.changed(tick, rate)
-    text = 'the daemon counts {} parts in 10^9 faster than the machine from now on, as its corrections ask for'
-    wanted(said == [('rate', text.format(rate), log.INFO) for rate in (1100, 100)], f'it says {said}')
-    wanted([note.split()[2] for note in notes] == ['5', '7', '8', '9'] and learned.applied == 100, f'it notes {notes}')
+    text = 'the daemon counts {} than the machine from now on, as its corrections ask for'
+    rates = '1.100 parts in a million faster', '0.100 parts in a million faster', '2.500 parts in a million slower'
+    wanted(said == [('rate', text.format(rate), log.INFO) for rate in rates], f'it says {said}')
+    wanted([note.split()[2] for note in notes] == ['5', '7', '8', '9', '10'] and learned.applied == -2500, f'it notes {notes}')
 
 
 learning()

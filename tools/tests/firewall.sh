@@ -15,11 +15,17 @@ tools/tsp-launch --firewall nft -f "$out/hosts" -s alone >"$out/rules" || fail '
 ! grep saddr "$out/rules" || fail 'a host alone lets something in'
 TSP_ASKERS='192.0.2.0/28,192.0.2.7 10.0.0.0/8' tools/tsp-launch --firewall systemd -f "$out/hosts" -s alone >"$out/rules" || fail 'there is no drop-in'
 grep -qx 'IPAddressDeny=any' "$out/rules" && grep -q '^IPAddressAllow=127.0.0.0/8 10.0.0.0/8 192.0.2.0/28' "$out/rules" || fail "the drop-in is $(cat "$out/rules")"
+# The text is the same each time, also of peers on one machine.
+{ cat "$out/hosts"; for port in 7 3 9 2 8; do echo "h$port 192.0.2.2:$port slave"; done; } >"$out/ports"
+for number in 1 2 3 4; do
+    tools/tsp-launch --firewall nft -f "$out/ports" -s alone >"$out/other" || fail 'there are no rules of hosts on one machine'
+    grep -q 'sport { 192.0.2.2 . 2, 192.0.2.2 . 3, 192.0.2.2 . 7, 192.0.2.2 . 8, 192.0.2.2 . 9 }' "$out/other" || fail "time $number hosts on one machine have the rules $(cat "$out/other")"
+done
 grep -qx 'CapabilityBoundingSet=' "$out/rules" || fail 'a port above 1023 keeps the capability'
-for askers in x 192.0.2.1/24 ::1; do
+for askers in x 192.0.2.1/24 ::1 192.0.2.7/33; do
     status=0
     TSP_ASKERS=$askers tools/tsp-launch --firewall nft -f "$out/hosts" -s alone >"$out/rules" 2>"$out/told" || status=$?
-    [ "$status" -eq 78 ] && [ ! -s "$out/rules" ] && grep -q '^tsp-launch: TSP_ASKERS: ' "$out/told" || fail "askers '$askers': status $status, $(cat "$out/told")"
+    [ "$status" -eq 78 ] && [ ! -s "$out/rules" ] && grep -q "^tsp-launch: TSP_ASKERS '$askers': an address " "$out/told" || fail "askers '$askers': status $status, $(cat "$out/told")"
 done
 
 # What they do.

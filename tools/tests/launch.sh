@@ -116,6 +116,11 @@ given=TSP_SELF=elsewhere
 printf '%s\n' 'a 192.0.2.11 master' >"$out/linted"
 ends 0 --lint -f "$out/linted"
 given=''
+# (it may be called on a machine that isn't in the file; a host that is named has to be there)
+for name in nosuch nosuch.example.org; do
+    ends 78 --lint -f "$out/linted" -s "$name"
+    [ "$(cat "$out/told")" = "tsp-launch: $out/linted: no line for this host, $name" ] || fail "of a host that isn't in the file --lint says '$(cat "$out/told")'"
+done
 ! tools/tsp-launch --lint -f daemon/hosts -s alpha 2>&1 >"$out/digest" | grep . || fail 'the example of a hosts file has a fault'
 # The digest: what counts changes it, and what doesn't doesn't. It is the beginning of a sum that anybody can make of what is listed.
 [ "$(cat "$out/digest")" = "$(tools/tsp-launch -l -f daemon/hosts | sha256sum | cut -c 1-16)" ] || fail "the digest is $(cat "$out/digest")"
@@ -126,6 +131,12 @@ for change in 's/gamma/delta/' 's/192.0.2.12/192.0.2.14/' 's/5525/5526/' '/gamma
     digest=$(tools/tsp-launch --lint -f "$out/other" -s alpha 2>"$out/told") || fail "'$change' makes a file that can't work: $(cat "$out/told")"
     [ "$digest" != "$(cat "$out/digest")" ] || fail "'$change' doesn't change the digest"
 done
+
+# Words and variables that are wrong are named as they are written.
+refuses_words "--firewall '-f': nft or systemd" --firewall -f daemon/hosts
+given=TSP_DRIFT=5000
+refuses_words "TSP_DRIFT '5000': parts in a million, from 0 to 1000" -n -f daemon/hosts -s alpha
+given=''
 
 # A host in two networks is a gateway. Its words have a + between its networks.
 gives gate 'serve 192.0.2.1:525 gate m 1000000000 192.0.2.11:525 192.0.2.12:526 + 198.51.100.7:525'
@@ -209,7 +220,7 @@ done
 for gone in x -1 86401; do
     status=0
     TSP_GONE=$gone tools/tsp-launch -n -f "$hosts" -s alpha >"$out/said" 2>"$out/told" || status=$?
-    [ "$status" -eq 2 ] && grep -qx "tsp-launch: gone '$gone': a number of seconds from 0 to 86400" "$out/told" || fail "of TSP_GONE=$gone it says '$(cat "$out/told")', status $status"
+    [ "$status" -eq 2 ] && grep -qx "tsp-launch: TSP_GONE '$gone': a number of seconds from 0 to 86400" "$out/told" || fail "of TSP_GONE=$gone it says '$(cat "$out/told")', status $status"
 done
 printf 'alpha 192.0.2.11 master\nbeta\0 192.0.2.12 slave\n' >"$out/hosts"
 refuses "$out/hosts:2: the line has a NUL" -l -f "$out/hosts"

@@ -141,6 +141,32 @@ def leading(host):
               (4, 'port 1: has no master; it followed beta for 0:50, since 2027-01-15 14:22:30 UTC'))
 
 
+def dates():
+    """A date at a host that leads has its hosts leave and report again: none is lost. A round that sets the clock loses those that were silent."""
+    host = Heard('alpha', 'beta', 'gamma')
+    host.act(400, 'become loose')
+    host.act(405, 'become candidate')
+    host.act(410, 'become master')
+    host.act(411, 'join 1')
+    host.act(411.1, 'join 2')
+    host.time.go_on(430)
+    host.take()
+    for line in ('took - setdate 7 1800000500000000 x', 'correct 60000000 step 1800000500000000', 'leave 1', 'leave 2', 'post 1 9 masterup 1 alpha'):
+        host.act(440, line)
+    host.act(440.1, 'join 1')
+    host.act(440.2, 'join 2')
+    host.time.go_on(460)
+    host.says((5, 'the clock was set, by +60.000 s, to 2027-01-15 08:08:20.000 UTC'), (6, 'a date was set; its hosts report again'),
+              (6, 'leads beta, gamma: 2 hosts now'))
+    for line in ('close 2 0 0 1', 'correct -30000000 step 1800000470000000', 'leave 2'):
+        host.act(650, line)
+    # (how many are left is so when it goes, also if it is soon back)
+    host.act(655, 'join 2')
+    host.time.go_on(670)
+    host.says((5, 'the clock was set, by -30.000 s, to 2027-01-15 08:07:50.000 UTC'), (4, 'lost gamma, which didn\'t answer a whole round: 1 host now'),
+              (6, 'leads gamma: 2 hosts now'))
+
+
 def other_files():
     """Hosts that have other hosts files, by what they send. Of a stranger who goes on it is said seldom."""
     host = Heard('alpha', 'beta')
@@ -287,6 +313,7 @@ def main():
     what, *rest = sys.argv[1:]
     if what == 'lines':
         one_of_three()
+        dates()
         other_files()
         marks()
     elif what == 'day':

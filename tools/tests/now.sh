@@ -80,6 +80,9 @@ is_an_hour_ahead "@$said"
 echo 'master delta' >"$ANSWERS/msite-192.0.2.12:526"
 ends 78 beta
 [ "$told" = "tsp-now: its master, delta, is no host of the hosts file, so nobody can say how far its clock is from that one's" ] || fail "it tells '$told'"
+echo 'master alpha' >"$ANSWERS/msite-192.0.2.12:526"
+ends 78 --file "$out/none" 192.0.2.12:526
+[ "$told" = "tsp-now: $out/none: there is no such file; a hosts file is still needed for the address of its master, alpha" ] || fail "without a hosts file it tells '$told'"
 rm "$ANSWERS"/*-192.0.2.12:526
 ends 0 -u alpha
 case ${said%% *} in *Z) is_an_hour_ahead "${said%% *}" ;; *) fail "in UTC it says '$said'" ;; esac
@@ -91,6 +94,10 @@ is_an_hour_ahead "$said"
 ends 0 --offset alpha
 [ "$said" = +3600.000000 ] || fail "the offset is '$said'"
 echo 'clockdiff -1 0' >"$ANSWERS/clockdiff-192.0.2.12:526"
+echo 'no master' >"$ANSWERS/msite-192.0.2.12:526"
+ends 5 --offset beta
+[ "$said" = '-0.000001 unsynchronised' ] || fail "without a master the offset is '$said'"
+echo 'master alpha' >"$ANSWERS/msite-192.0.2.12:526"
 ends 0 --offset beta
 [ "$said" = -0.000001 ] || fail "a small offset is '$said'"
 TSP_SELF=beta.example.org
@@ -101,6 +108,7 @@ ends 0 --offset
 # A gateway with another address in each network listens at all of them, and is asked over the loopback on its own machine.
 printf '%s\n' + 'beta 198.51.100.12:526 slave' >>"$out/hosts"
 echo 'clockdiff 7 0' >"$ANSWERS/clockdiff-127.0.0.1:526"
+echo 'master alpha' >"$ANSWERS/msite-127.0.0.1:526"
 ends 0 --offset
 [ "$said" = +0.000007 ] || fail "the offset of a gateway is '$said', asked by '$(cat "$CALLS")'"
 sed -i '/^+$/,$d' "$out/hosts"
@@ -186,6 +194,8 @@ until=$(($(date -d "$said" +%s%6N) - 7200000000))
 page 1
 ends 5
 [ "${said#* }" = unsynchronised ] || fail "a page without a master gives '$said'"
+ends 5 --offset
+case $said in *' unsynchronised') ;; *) fail "the offset of a page without a master is '$said'" ;; esac
 ends 1 --wait --timeout 0.2
 [ "$told" = 'tsp-now: not synchronised in that time' ] || fail "a wait tells '$told'"
 # A long wait says once what it waits for.

@@ -657,7 +657,7 @@ def learned():
             server.process.send_signal(signal.SIGHUP)
             until(lambda: server.daemon() not in (None, first) and server.answers(), 'the daemon isn\'t started again')
             wanted(variable(server.daemon(), 'TSP_RATE') == '-5000', 'a daemon that starts again doesn\'t take what was learned')
-            wanted('the daemon counts -5000 parts in 10^9 faster than the machine' in server.read(), f'it says {server.read()}')
+            wanted('the daemon counts 5.000 parts in a million slower than the machine' in server.read(), f'it says {server.read()}')
         server.end()
     one = Supervised('--rate', 'learn', TSP_LEARN=file)
     one.ready()

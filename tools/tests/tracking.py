@@ -129,7 +129,7 @@ def try_words(made, before):
     daemon, look = made
     wanted(rows['Status'] == exact(made)['status'], f'the status is {rows["Status"]}')
     wanted(rows['Rate'].startswith(f'{daemon.rate / 1000:+.3f} parts in a million'), f'the rate is {rows["Rate"]}')
-    learned = f'{look.learned / 1000:+.3f} parts in a million' if look.had else 'none, by the page'
+    learned = f'{look.learned / 1000:+.3f} parts in a million' if look.had else 'none yet'
     wanted(rows['Learned rate'] == learned, f'the learned rate is {rows["Learned rate"]}')
     wanted(rows['Steps'] == f'{daemon.steps} in this life', f'the steps are {rows["Steps"]}')
     leads = {LEADS: 'this host', FOLLOWS: 'peer 3, whose clock isn\'t looked at yet', NOBODY: 'nobody; alpha was the last one' if look.had else 'nobody'}
@@ -160,6 +160,9 @@ def try_metrics(made, before):
     after = reckoned(*made)
     wanted(status == 0, f'the metrics end with status {status}')
     found = dict(line.rsplit(' ', 1) for line in text.splitlines() if not line.startswith('#'))
+    if 'width_us' not in before:
+        # (nothing is known of the network's time, so nothing is off it)
+        del before['own_offset_us']
     for name, key in (('life', 'life_us'), ('to_slew', 'to_slew_us'), ('correction_age', 'correction_age_us'), ('own_offset', 'own_offset_us'),
                       ('look_age', 'look_age_us'), ('width', 'width_us'), ('master_offset', 'master_offset_us'), ('error', 'error_us')):
         beside(key, number(found.get(f'tsp_clock_{name}_seconds', '')), before, after)
@@ -175,8 +178,10 @@ def try_metrics(made, before):
 
 def try_offset(made, before):
     """The offset alone, which has the other sign."""
-    text, _ = ran('--offset')
+    text, status = ran('--offset')
     beside('own_offset_us', -number(text), before, reckoned(*made))
+    is_known = 'width_us' in before
+    wanted(status == (0 if is_known else 5) and text.endswith(' unsynchronised\n') != is_known, f'status {status} with {text}')
 
 
 def main(path, count):

@@ -280,6 +280,34 @@ for _ in $(seq 500); do cat "$trace"; done >"$out/long"
 { tools/tsp-watch "$out/long" 2>"$out/told" || :; } | head -n 1 >/dev/null
 [ ! -s "$out/told" ] || fail "where nobody reads on it tells $(cat "$out/told")"
 
+# This machine has no trace, neither in a file nor in the journal: --lines says so, and --own says what it waits for, and takes it once it is there.
+mkdir "$out/path" "$out/log"
+printf '#!/bin/sh\n' >"$out/path/journalctl"
+chmod +x "$out/path/journalctl"
+cat >"$out/elsewhere" <<'END'
+import runpy
+import sys
+sys.dont_write_bytecode = True
+sys.path.insert(0, 'tools')
+from tsp_daemon import kept
+from tsp_supervise import trail
+kept.VARIABLES, trail.PATH, sys.argv = '/nonexistent', sys.argv[1], ['tools/tsp-watch', *sys.argv[2:]]
+runpy.run_path('tools/tsp-watch', run_name='__main__')
+END
+status=0
+PATH=$out/path:$PATH TSP_TRACE='' python3 "$out/elsewhere" "$out/log/none/trace" --lines >"$out/said" 2>"$out/told" || status=$?
+[ "$status" -eq 3 ] && [ ! -s "$out/said" ] || fail "without a trace --lines ends with $status: $(cat "$out/said")"
+tells "there is no trace at $out/log/none/trace"
+PATH=$out/path:$PATH TSP_TRACE='' python3 "$out/elsewhere" "$out/log/none/trace" --own >"$out/said" 2>"$out/told" &
+note_process
+for _ in $(seq 200); do [ ! -s "$out/told" ] || break; sleep 0.1; done
+tells "waits for $out/log/none/trace, which isn't there yet"
+mkdir "$out/log/none"
+cp "$trace" "$out/log/none/trace"
+for _ in $(seq 200); do [ ! -s "$out/said" ] || break; sleep 0.1; done
+head -n 1 "$out/said" | grep -q '^577.714 stands for election$' || fail "once there is a trace --own says '$(cat "$out/said" "$out/told")'"
+end_all
+
 # An interrupt ends it by the signal, without a word.
 ended=$(interrupted tools/tsp-watch)
 [ "$ended" = "(b'', b'tsp-watch: interrupted\\n') -2" ] || fail "an interrupt ends with $ended"

@@ -57,15 +57,23 @@ CapabilityBoundingSet='''
 
 def asking_networks(text):
     """The networks of TSP_ASKERS: A.B.C.D or A.B.C.D/BITS, with spaces or commas between."""
+    return [asking_network(word) for word in text.replace(',', ' ').split()]
+
+
+def asking_network(word):
+    """One of them."""
     try:
-        return [ipaddress.IPv4Network(word) for word in text.replace(',', ' ').split()]
-    except ValueError as fault:
-        raise Fault(f'TSP_ASKERS: {fault}', usage.BAD_FILE) from fault
+        network = ipaddress.IPv4Network(word, strict=False)
+    except ValueError:
+        raise Fault(f'TSP_ASKERS \'{word}\': an address A.B.C.D or a network A.B.C.D/BITS; names aren\'t looked up', usage.BAD_FILE) from None
+    if network.prefixlen < 32 and word.split('/')[0] != str(network.network_address):
+        raise Fault(f'TSP_ASKERS \'{word}\': an address in the network {network}, and neither a network nor one address', usage.BAD_FILE)
+    return network
 
 
 def by_number(addresses):
     """Each address once, in their order."""
-    return sorted(set(addresses), key=lambda address: ipaddress.IPv4Address(address.split(':')[0]))
+    return sorted(set(addresses), key=lambda address: (ipaddress.IPv4Address(address.split(':')[0]), int(address.split(':')[1])))
 
 
 def together(addresses, networks):

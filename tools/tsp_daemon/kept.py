@@ -9,12 +9,15 @@ import subprocess
 import time
 
 from tsp_supervise import trail
-from tsp_texts.tool import Fault, reason
+from tsp_texts.tool import Fault, reason, say
 
 # The unit's variables; the last line of one counts.
 VARIABLES = '/etc/default/tsp'
 # (without -q journalctl says that it can't be read)
 JOURNAL = ['journalctl', '-u', 'tsp', '-o', 'cat', '--no-pager']
+LAST_LINE = [*JOURNAL, '-q', '-n', '1']
+# What journalctl writes if the journal has nothing.
+NO_LINES = (b'', b'-- No entries --')
 START, TIME = b'in the trace peer 0 is ', re.compile(rb'^\.\.\. it is ([0-9-]{10}T[0-9:]{8})Z$')
 # What others that rotate files put behind a name: the newer one has the less number.
 ROTATED = re.compile(r'\.([0-9]{1,5})(?:\.gz)?')
@@ -159,13 +162,38 @@ def of_command(words):
 def kept(since=None):
     """This machine's trace, in pieces, from the last start before a time on."""
     path = place()
-    return of_files(path, since) if path else of_journal(since)
+    return of_files(path, since) if path else there(of_journal(since))
+
+
+def there(pieces):
+    """The journal's lines; none at all are a fault."""
+    is_there = False
+    for octets in pieces:
+        is_there = is_there or octets.strip() not in NO_LINES
+        yield octets
+    if not is_there:
+        raise Fault('the journal has no line of the unit tsp' if is_in_journal() else f'there is no trace at {trail.PATH}', 3)
+
+
+def is_in_journal():
+    """Whether the trace is asked to be in the journal."""
+    return variable('TSP_TRACE') == 'journal'
 
 
 def followed():
     """This machine's trace as it comes, from the newest file on, in pieces; none where nothing came for a while."""
     path = place()
+    if not path and not is_in_journal() and all(octets.strip() in NO_LINES for octets in of_command(LAST_LINE)):
+        path = awaited(trail.PATH)
     yield from (follow(path) if path else of_command([*JOURNAL, '-n', '20000', '-f']))
+
+
+def awaited(path):
+    """The path, once there is a file."""
+    say(f'waits for {path}, which isn\'t there yet')
+    while not os.path.exists(path):
+        time.sleep(PAUSE)
+    return path
 
 
 def follow(path):

@@ -109,7 +109,12 @@ def by_questions(asker, own, address, file):
 
 def master_of(asker, name, address, file):
     """The clock of a host's master, or None where that is the host itself."""
-    masters = [host.address for host in hosts.listed(file) if host.name == name]
+    try:
+        masters = [host.address for host in hosts.listed(file) if host.name == name]
+    except Fault as fault:
+        if str(fault).endswith(': there is no such file'):
+            raise Fault(f'{fault}; a hosts file is still needed for the address of its master, {name}', usage.BAD_FILE) from fault
+        raise
     if not masters:
         raise Fault(f'its master, {name}, is no host of the hosts file, so nobody can say how far its clock is from that one\'s', usage.BAD_FILE)
     if address in masters:

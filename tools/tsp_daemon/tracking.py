@@ -140,7 +140,7 @@ def rows(seen, is_utc):
     yield 'Steps', f'{daemon.steps} in this life'
     yield 'Life', f'{metrics.seconds(seen.tick)} seconds since the daemon\'s start, number {daemon.life:016x}'
     yield 'Rate', f'{parts(daemon.rate)}, by which the daemon counts faster than the counter'
-    yield 'Learned rate', parts(seen.look.learned) if is_looked and seen.look.learned else 'none, by the page'
+    yield 'Learned rate', parts(seen.look.learned) if is_looked and seen.look.learned else 'none yet' if not is_looked else 'none, by the page'
     yield 'Drift allowed', f'{seen.look.drift} parts in a million' if is_looked else 'not known'
     yield 'Counter', COUNTERS[daemon.counter]
 
@@ -183,7 +183,7 @@ def gauge(name, text, value, kind='gauge'):
 def times_of(seen):
     """The names of metrics in seconds, what they tell, and their values in microseconds."""
     return [
-        ('own_offset', 'By how much this machine\'s own clock is ahead of the network\'s time.', seen.own_offset),
+        ('own_offset', 'By how much this machine\'s own clock is ahead of the network\'s time.', None if seen.width is None else seen.own_offset),
         ('error', 'How far the network\'s time, as it is shown here, may be from the master\'s clock.', seen.error),
         ('master_offset', 'By how much the middle of the interval is ahead of the shown time.', seen.master_offset),
         ('width', 'How wide the interval is in which the master\'s clock lies.', seen.width),

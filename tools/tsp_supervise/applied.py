@@ -5,6 +5,16 @@ from tsp_supervise import log
 SAID = 1000
 
 
+def faster(rate):
+    """By how much a daemon counts faster or slower than its machine, in words, of a rate in parts in 10^9."""
+    return f'{abs(rate) / 1000:.3f} parts in a million {"slower" if rate < 0 else "faster"} than the machine'
+
+
+def rate_line(rate):
+    """The same as the trace has it."""
+    return f'the daemon counts {rate} parts in 10^9 faster than the machine'
+
+
 class Applied:
     """The rate of a daemon. `learning` is what is learned of it, `drift` what TSP_DRIFT says; `say` takes a line of a kind and its priority, and `note` one
     that belongs to the trace."""
@@ -26,7 +36,7 @@ class Applied:
             keeper.ask_for_rate(rate)
         elif not self.is_beyond:
             self.is_beyond = True
-            self.say('beyond', f'the counter needs {rate} parts in 10^9, and TSP_DRIFT, {self.drift} parts in a million, allows less: the daemon keeps its rate',
+            self.say('beyond', f'the counter needs {rate / 1000:+.3f} parts in a million, and TSP_DRIFT, {self.drift} parts in a million, allows less: the daemon keeps its rate',
                      log.WARNING)
 
     def changed(self, tick, rate):
@@ -34,7 +44,7 @@ class Applied:
         if rate == self.learning.applied:
             return
         self.learning.applies(tick, rate)
-        self.note(f'from tick {tick} on the daemon counts {rate} parts in 10^9 faster than the machine')
+        self.note(f'from tick {tick} on {rate_line(rate)}')
         if abs(rate - self.said) >= SAID:
             self.said = rate
-            self.say('rate', f'the daemon counts {rate} parts in 10^9 faster than the machine from now on, as its corrections ask for', log.INFO)
+            self.say('rate', f'the daemon counts {faster(rate)} from now on, as its corrections ask for', log.INFO)

@@ -7,7 +7,7 @@ from tsp_supervise.log import INFO, NOTICE, WARNING, Seldom
 
 # Acts that are told of. Most lines of a trace have none of these words.
 SIGNS = (b' become ', b' join ', b' leave ', b' gave ', b' late ', b' abandon', b' rival ', b' quit ', b' correct ', b' close ', b' refuse ', b' masterup ', b' slaveup ', b' election ')
-ACT = re.compile(rb'^[0-9]+ 0 ([0-3]) [0-9]+ (?:(become|join|leave|gave|late|rival|quit|correct|close) (.+)|(abandon)'
+ACT = re.compile(rb'^[0-9]+ 0 ([0-3]) ([0-9]+) (?:(become|join|leave|gave|late|rival|quit|correct|close) (.+)|(abandon)'
                  rb'|took (\S+) (refuse|masterup|slaveup|election) \S+ (\S+))$', re.MULTILINE)
 # A correction by more microseconds is told of.
 MUCH = 1000
@@ -31,10 +31,10 @@ def times(count, what):
 
 
 class Port:
-    """What is known of the daemon on one of its networks: its role since when, whom it followed or that it led before, and who follows it."""
+    """What is known of the daemon on one of its networks: its role since when, whom it followed or that it led before, who follows it, and when a date had these leave last."""
 
     def __init__(self, role='starting', master=None, since=0):
-        self.role, self.master, self.since, self.before, self.slaves = role, master, since, '', set()
+        self.role, self.master, self.since, self.before, self.slaves, self.dated = role, master, since, '', set(), None
 
 
 class Corrections:
@@ -56,6 +56,8 @@ class News:
     def begin(self):
         """A daemon starts."""
         self.ports, self.corrections, self.silent = {}, Corrections(self.wall()), None
+        # When the act was that is read, when a round ended last, and when the clock was set last that no round set.
+        self.tick = self.closed = self.dated = None
         self.loop.after('news', PERIOD, self.tell_all)
 
     def end(self):
@@ -71,7 +73,8 @@ class News:
     def hear(self, lines):
         """Takes whole lines of the daemon's trace."""
         if any(sign in lines for sign in SIGNS):
-            for port, *words in ACT.findall(lines):
+            for port, tick, *words in ACT.findall(lines):
+                self.tick = int(tick)
                 word, rest, alone, who, message, name = (each.decode('ascii', 'replace') for each in words)
                 if message:
                     self.took(int(port), who, message, name)
@@ -132,23 +135,31 @@ class News:
 
     def on_leave(self, number, who):
         """A host that this one leads is silent."""
-        self.port(number).slaves.discard(who)
-        self.gather(number, 'leave', who)
+        port = self.port(number)
+        port.slaves.discard(who)
+        if self.dated != self.tick:
+            self.gather(number, 'leave', who)
+        elif port.dated != self.tick:
+            port.dated = self.tick
+            self.tell(number, 'a date was set; its hosts report again', INFO, 'date')
 
     def gather(self, number, what, who):
         """Hosts that come or go together are told of in one line."""
         key = ('gather', number, what)
         if key not in self.gathered:
-            self.gathered[key] = []
+            self.gathered[key] = [], 0
             self.loop.after(key, TOGETHER, lambda: self.tell_hosts(key))
-        self.gathered[key].append(self.name(who))
+        names, _ = self.gathered[key]
+        names.append(self.name(who))
+        self.gathered[key] = names, len(self.port(number).slaves)
 
     def tell_hosts(self, key):
         """Says which hosts came or went."""
         _, number, what = key
-        names = list(dict.fromkeys(self.gathered.pop(key)))
+        names, count = self.gathered.pop(key)
+        names = list(dict.fromkeys(names))
         shown = ', '.join(names[:MOST_NAMES]) + (f' and {len(names) - MOST_NAMES} more' if len(names) > MOST_NAMES else '')
-        follow = f'{times(len(self.port(number).slaves), "host")} now' if self.port(number).role == 'master' else 'it leads no more'
+        follow = f'{times(count, "host")} now' if self.port(number).role == 'master' else 'it leads no more'
         if what == 'join':
             self.tell(number, f'leads {shown}: {follow}', INFO, 'join')
         else:
@@ -186,6 +197,7 @@ class News:
 
     def on_close(self, number, count, *_):
         """A round ended."""
+        self.closed = self.tick
         slaves = len(self.port(number).slaves)
         if int(count) == 1 and slaves:
             self.tell(number, f'no clock of {times(slaves, "host")} is within 20 ms of another one, so none was averaged', WARNING, 'close')
@@ -194,6 +206,8 @@ class News:
         """The clock was corrected."""
         amount, seen = int(amount), self.corrections
         if way == 'step':
+            # (a round sets the clock as it ends; else it is a date, which has all slaves leave and report again)
+            self.dated = None if self.closed == self.tick else self.tick
             self.tell(number, f'the clock was set, by {amount / MILLION:+.3f} s, to {views.time_text(int(shown))}', NOTICE, 'step')
             return
         seen.count += 1

@@ -14,7 +14,7 @@ sys.path.insert(0, os.path.dirname(os.path.dirname(os.path.realpath(__file__))))
 from tsp_daemon import hosts, learn, machine, sockets, usage, views  # noqa: E402
 from tsp_supervise import log, trail  # noqa: E402
 from tsp_supervise.absence import Address  # noqa: E402
-from tsp_supervise.applied import Applied  # noqa: E402
+from tsp_supervise.applied import Applied, faster, rate_line  # noqa: E402
 from tsp_supervise.follow import Follow  # noqa: E402
 from tsp_supervise.keeper import Keeper  # noqa: E402
 from tsp_supervise.loop import Loop  # noqa: E402
@@ -232,10 +232,8 @@ class Supervisor:
         if self.applied:
             self.applied.begin(rate)
         if rate:
-            text = f'the daemon counts {rate} parts in 10^9 faster than the machine'
-            self.say(text, log.INFO)
-            if self.lines.path:
-                self.note(text)
+            self.say(f'the daemon counts {faster(rate)}', log.INFO)
+            self.note(rate_line(rate))
         drift = self.drift()
         if abs(rate) > 1000 * drift:
             self.say(f'that is more than TSP_DRIFT, {drift} parts in a million, allows a counter to be wrong: are intervals wide enough?', log.WARNING)
