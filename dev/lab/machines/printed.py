@@ -111,10 +111,12 @@ def nothing(_):
 
 
 # Each command of the pages, in an order in which they can be called on a host that follows. Those of the tunnel are in the scenario `tunnelled`.
-ELSEWHERE = ('systemctl enable --now wg-quick@tsp', 'systemctl restart wg-quick@tsp')
+ELSEWHERE = ('systemctl enable --now wg-quick@tsp', 'systemctl restart wg-quick@tsp', 'systemctl disable --now wg-quick@tsp')
 STEPS = (
     Step('systemctl enable --now tsp', nothing, is_on('tsp')),
     Step('systemctl start tsp', nothing, is_same),
+    Step('systemctl is-active tsp', nothing, shows('systemctl is-active tsp', r'^active$')),
+    Step('journalctl -u tsp -p warning --since yesterday', nothing, is_same),
     Step('systemctl status tsp', nothing, shows('systemctl status tsp --no-pager -l', r'Status: ".*follows')),
     Step('journalctl -u tsp', nothing, shows('journalctl -u tsp --no-pager', r'runs and answers at .* by a hosts file with the digest [0-9a-f]{16}')),
     Step('journalctl -u tsp -o cat -n 1 -q --no-pager -g "hosts file with the digest"', nothing,
@@ -122,8 +124,6 @@ STEPS = (
     Step('systemctl reload tsp', nothing, read_again),
     Step('systemctl edit tsp', nothing, has_dropin('tsp', 'After=time-sync.target'), '[Unit]\nAfter=time-sync.target\n'),
     Step('systemctl daemon-reload', nothing, is_same),
-    Step('systemctl edit tsp-metrics', nothing, has_dropin('tsp-metrics', 'HOSTS=off'), '[Service]\nEnvironment=TSP_METRICS_HOSTS=off\n'),
-    Step('systemctl edit tsp-metrics.service', nothing, has_dropin('tsp-metrics', 'HOSTS=on'), '[Service]\nEnvironment=TSP_METRICS_HOSTS=on\n'),
     Step('systemctl enable --now tsp-metrics.timer', nothing, writes_metrics),
     Step('systemctl restart chrony', with_chrony, shows('chronyc -n sources', 'TSP')),
     Step('systemctl enable --now tsp-feed', nothing, is_on('tsp-feed')),
