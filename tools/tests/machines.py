@@ -71,7 +71,7 @@ def main():
     wanted(first == '300, 300, 300', f'in the first half shown values are {first} apart')
     # Each command for systemd on the pages has a step, and no step is without a page; the guide has the blocks that the lab runs.
     wanted(printed.not_tried() == ([], []), f'commands without a step, and steps without a command: {printed.not_tried()}')
-    wanted(len(pages.blocks(paths.SECTION)) == 3 and len(pages.blocks('Four ways')) == 2, 'the guide has other blocks than the lab runs')
+    wanted(len(pages.blocks(paths.SECTION)) == 3 and len(pages.blocks(printed.NEAR)) == 3, 'the guide has other blocks than the lab runs')
     # A clock isn't told where samples are far apart.
     clock = Clock([(0, 0), (1000, 1000), (9_000_000, 9_000_000)])
     wanted((clock.read(500), clock.read(5_000_000), clock.read(-1), clock.read(10_000_000)) == (500, None, None, None), 'a clock is told where it isn\'t known')

@@ -19,8 +19,8 @@ def read(page):
 
 
 def section(title):
-    """The text of a section of the operator's guide."""
-    found = re.search(rf'^#+ {re.escape(title)}\n(.*?)(?=^## |\Z)', read(GUIDE), re.MULTILINE | re.DOTALL)
+    """The text of a section of the operator's guide, up to the next heading."""
+    found = re.search(rf'^#+ {re.escape(title)}\n(.*?)(?=^##|\Z)', read(GUIDE), re.MULTILINE | re.DOTALL)
     return found[1]
 
 

@@ -8,7 +8,7 @@ from lab.machines import network, pages
 from lab.machines.network import wanted
 from tsp_witness.datagram import octets_of
 
-SECTION = 'On a network that you don\'t trust'
+SECTION = 'A tunnel of WireGuard'
 # A forger sends so many datagrams, which bear a name that says where they come from; a peer's questions for how long a round trip takes are as many.
 TIMES, TRIPS = 20, 60
 TRACE = '/var/log/tsp/trace'

@@ -17,6 +17,8 @@ CHRONY = 'driftfile /var/lib/chrony/chrony.drift\nconfdir /etc/chrony/conf.d\n'
 # Versions of the header: one of each version of the page that programs were built with, by the commit that had it last.
 HEADERS = (('1', '975fbc1f'), ('2', '77bc3f38'))
 STALE, SYNCHRONISED = 0, 2
+# The section of the guide on chronyd and the date.
+NEAR = 'Keep it near true time'
 
 
 class Step(namedtuple('Step', 'command before proof edited', defaults=('',))):
@@ -94,14 +96,14 @@ def with_chrony(one):
     """chronyd without a source, as the guide has it, up to its restart."""
     one.write('/etc/chrony/chrony.conf', CHRONY)
     one.must('mkdir -p /etc/chrony/conf.d')
-    for line in pages.blocks('Four ways')[0].splitlines():
+    for line in pages.blocks(NEAR)[0].splitlines():
         if line.startswith('cp '):
             one.must(line)
 
 
 def with_true(one):
     """The units of the guide by which a host sets the true date."""
-    for name, text in re.findall(r'^# (/etc/systemd/system/\S+?)[;\n].*?\n?((?:^[^#\n].*\n|^\n)+)', pages.blocks('Four ways')[1] + '\n', re.MULTILINE):
+    for name, text in re.findall(r'^# (/etc/systemd/system/\S+?)[;\n].*?\n?((?:^[^#\n].*\n|^\n)+)', pages.blocks(NEAR)[-1] + '\n', re.MULTILINE):
         one.write(name, text)
     one.must('systemctl daemon-reload')
 
