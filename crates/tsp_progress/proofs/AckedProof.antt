@@ -19,7 +19,7 @@ use Rattle.tsp_progress.specs.AckedInTime.{Acknowledged, AckedAs, AckedInTime, B
 use Rattle.tsp_progress.specs.AckedInTime.{RunsAcknowledge, may_obey, refuses_vote}
 use Rattle.tsp_progress.specs.AnswersInTime.{AnswerTaken, Asks, Meanwhile}
 use Rattle.tsp_progress.specs.{ByTable.ByTable, ByTable.node_in, Delivered.Arrives, Delivered.Delivered, GivenUp.GaveFits, GivenUp.GivesUpLate, GivenUp.Owes}
-use Rattle.tsp_progress.specs.{ObeyedInTime.Obedient, SentAway.past_there}
+use Rattle.tsp_progress.specs.{Obedient.Obedient, SentAway.past_there}
 use Rattle.tsp_progress.specs.Heeds.{DoesNext, Hears, arms_for_delay, is_candidate_role, is_master_role, is_up_role, moved_by, posts_bare, role_before, set_to}
 use Rattle.tsp_progress.proofs.AnswersProof.{answer_heard, answered, answers_in_time, arrival, candidate-awake, first_of, hears, master-awake, up-awake}
 use Rattle.tsp_progress.proofs.{FoundProof.view-tick, GiveUpProof.clocked_runs_give_up, HeedsProof.adjtime_again, HeedsProof.all_heed}

@@ -27,7 +27,6 @@ pub mod NeverLateProof
 pub mod NoSecondProof
 pub mod NodeKeeps
 pub mod NodeWakes
-pub mod ObeyedProof
 pub mod PaceProof
 pub mod PortSetups
 pub mod PortWakes

@@ -7,7 +7,7 @@ use Rattle.tsp_rules.specs.GateRows.{steers}
 use Rattle.tsp_base.specs.Words.{HeaderValue, Line, Past, Within, of, peer_of}
 use Rattle.tsp_base.proofs.PlaceLemmas.{Within-length}
 use Rattle.tsp_promises.specs.{Fits.node_of, Setting.Setting}
-use Rattle.tsp_progress.specs.{AnswersInTime.Meanwhile, ByTable.before_line, ByTable.node_in, ByTable.port_before, Heeds.role_before, ObeyedInTime.Obedient}
+use Rattle.tsp_progress.specs.{AnswersInTime.Meanwhile, ByTable.before_line, ByTable.node_in, ByTable.port_before, Heeds.role_before, Obedient.Obedient}
 
 -- a line of this node, after so many others, by this true time
 abbrev is_meant : ℕ → ℕ → ℕ → Line → List Line → Bool

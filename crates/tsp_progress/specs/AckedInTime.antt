@@ -11,7 +11,7 @@ use Rattle.tsp_promises.specs.{Fits.node_of, Setting.Setting}
 use Rattle.tsp_run.specs.Clocked.{Clocks, PossibleBy, SetByClocks, run_by}
 use Rattle.tsp_run.specs.{Possible.Possible, Run.run, Setting.SetBy}
 use Rattle.tsp_progress.specs.AnswersInTime.{AnswerTaken, Asks, Meanwhile}
-use Rattle.tsp_progress.specs.{ByTable.node_in, Delivered.Delivered, ObeyedInTime.Obedient, SentAway.past_there}
+use Rattle.tsp_progress.specs.{ByTable.node_in, Delivered.Delivered, Obedient.Obedient, SentAway.past_there}
 use Rattle.tsp_progress.specs.Heeds.{DoesNext, arms_for_delay, is_candidate_role, is_master_role, is_up_role}
 
 -- a deed that ends the open send to p, but for a Gave: a boot, a change of the role, an Acked, and a new send to p

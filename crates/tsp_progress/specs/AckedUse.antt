@@ -6,7 +6,7 @@ use Rattle.tsp_base.specs.Words.{Acts, Came, Line, MessageValue, first_port, lin
 use Rattle.tsp_promises.specs.Setting.{Setting}
 use Rattle.tsp_run.specs.{Ranges.Accepted, Refusals.Valid, Run.gained, Run.run, Setting.SetBy}
 use Rattle.tsp_progress.specs.{AckedInTime.Begins, AckedInTime.IsPrompt, AckedInTime.may_obey, AnswersInTime.Asks, AnswersUse.all_stay, AnswersUse.tail_of}
-use Rattle.tsp_progress.specs.{AnswersUse.until_wakes, Delivered.Delivered, Heeds.is_up_role, ObeyedInTime.Obedient}
+use Rattle.tsp_progress.specs.{AnswersUse.until_wakes, Delivered.Delivered, Heeds.is_up_role, Obedient.Obedient}
 use Rattle.tsp_progress.specs.{TableUse.until_reports, TableUse.until_set, Worked.a_line, Worked.one_may}
 
 -- a takes b in, and sends it the time

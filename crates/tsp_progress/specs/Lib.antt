@@ -25,7 +25,7 @@ pub mod Measures
 pub mod Needed
 pub mod NeverLate
 pub mod NoSecondMaster
-pub mod ObeyedInTime
+pub mod Obedient
 pub mod OneMay
 pub mod OneUse
 pub mod Progress

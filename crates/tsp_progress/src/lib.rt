@@ -28,7 +28,7 @@
 //! `AloneStands`, `AloneLeads`, `FreshLeads`, `LoneLeads`, `OneMay`, and `Progress`, which puts
 //! most of them together; then `Worked`, `Needed` and `OneUse`, small runs. Of what is done at once
 //! read `ByTable`, `Heeds`, `Measures` and `Corrects`; of two nodes `Delivered`, `ReachesInTime`,
-//! `AnswersInTime`, `FoundInTime`, `FirstSearch`, `SentAway`, `ObeyedInTime`, `GivenUp`,
+//! `AnswersInTime`, `FoundInTime`, `FirstSearch`, `SentAway`, `Obedient`, `GivenUp`,
 //! `AckedInTime`, `WinsLate`, `RefusedLoses`, `NoSecondMaster` and `SampledInTime`; then `TableUse`, `AnswersUse`,
 //! `ReachUse`, `FoundUse`, `FirstSearchUse`, `SentAwayUse`, `AckedUse`, `MeanwhileUse`, `RefusedUse`,
 //! `SecondUse` and `SampledUse`, small runs. The words of histories are those of `tsp_promises`.
@@ -75,8 +75,7 @@
 //! - So a port that searches beside a master follows it within that time, if that is less than 5 s
 //!   and its role didn't change before (`runs_find`, `clocked_runs_find`). A candidate that asks a
 //!   master for its vote is sent away, and follows it, and a QUIT is acknowledged (`runs_send_away`,
-//!   `clocked_runs_send_away`). So is a correction of a follower that may take it at each of its
-//!   lines meanwhile (`runs_obey`, `clocked_runs_obey`); but it may not once it took it.
+//!   `clocked_runs_send_away`).
 //! - A port whose quiet time ends beside a master asks for one in the same step, and so finds it
 //!   (`runs_find_first`, `clocked_runs_find_first`). Within `long` a MASTERUP or a QUIT reaches its
 //!   addressee, which follows the sender if it has no master then, a SLAVEUP reaches a master, which
@@ -111,4 +110,6 @@
 //! network in which several nodes may be master gets one, or that all follow it and agree.
 #![tactic(auto)]
 
+pub mod delivered;
 pub mod laws;
+pub mod table;

@@ -1,5 +1,0 @@
-use Rattle.tsp_progress.proofs.laws.clocked_runs_give_up.Goals as goal
-use Rattle.tsp_progress.proofs.GiveUpProof.{clocked_runs_give_up}
-
-pub returns : goal.returns
-returns c = clocked_runs_give_up

@@ -1,5 +1,0 @@
-use Rattle.tsp_progress.proofs.laws.runs_answer.Goals as goal
-use Rattle.tsp_progress.proofs.AnswersProof.{runs_answer}
-
-pub returns : goal.returns
-returns c = runs_answer

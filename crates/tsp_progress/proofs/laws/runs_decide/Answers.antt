@@ -1,5 +1,0 @@
-use Rattle.tsp_progress.proofs.laws.runs_decide.Goals as goal
-use Rattle.tsp_progress.proofs.DecidedProof.{runs_decide}
-
-pub returns : goal.returns
-returns c = runs_decide

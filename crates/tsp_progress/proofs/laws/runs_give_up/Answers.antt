@@ -1,5 +1,0 @@
-use Rattle.tsp_progress.proofs.laws.runs_give_up.Goals as goal
-use Rattle.tsp_progress.proofs.GiveUpProof.{runs_give_up}
-
-pub returns : goal.returns
-returns c = runs_give_up

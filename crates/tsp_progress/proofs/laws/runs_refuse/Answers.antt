@@ -1,5 +1,0 @@
-use Rattle.tsp_progress.proofs.laws.runs_refuse.Goals as goal
-use Rattle.tsp_progress.proofs.RefusedProof.{runs_refuse}
-
-pub returns : goal.returns
-returns c = runs_refuse

@@ -1,5 +1,0 @@
-use Rattle.tsp_progress.proofs.laws.runs_send_away.Goals as goal
-use Rattle.tsp_progress.proofs.SentAwayProof.{runs_send_away}
-
-pub returns : goal.returns
-returns c = runs_send_away
