@@ -5,7 +5,7 @@ use Rattle.std.proofs.lemmas.{Bool.or_left, List.Folds.list_any-append}
 use Rattle.tsp_rules.specs.Values.{Post, Acked, Message, PeerId, Peer}
 use Rattle.tsp_base.specs.Words.{Acts, Did, Here, Line, Seen, of, view, MessageValue, Within, is_correction, is_numbered, open_to, peer_of}
 use Rattle.tsp_promises.specs.{Everywhere.Everywhere, Fits.node_of, Setting.Setting, Once.ConfirmedAt, Once.ObeysAt, Once.OfSend, Once.OnceAt, Once.SpacedAt}
-use Rattle.tsp_promises.proofs.{EverywhereLemmas.Everywhere-at, EverywhereLemmas.Everywhere-from, SendProof.opened}
+use Rattle.tsp_promises.proofs.{shared.EverywhereLemmas.Everywhere-at, shared.EverywhereLemmas.Everywhere-from, promised.SendProof.opened}
 use Rattle.tsp_base.proofs.PlaceLemmas.{Within-all, Within-tail, Within-through}
 use Rattle.tsp_audit.proofs.SendPlaces.{one-number, one-place, send-number, takes-one}
 use Rattle.tsp_audit.specs.Acting.{ActedIs, ActsAt, Corrects, TakenIn, TakesAs, TakesSend, TakesWell, is_in, is_unknown, with_send}

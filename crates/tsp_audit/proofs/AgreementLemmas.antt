@@ -4,7 +4,7 @@ use Rattle.std.proofs.Common.{Some, List, [], ◌∷◌, length, refl}
 use Rattle.std.proofs.lemmas.{Int.ints, List.get_or_default}
 use Rattle.tsp_promises.specs.Agreed.{FromRound, ClocksAgree, MasterAgrees, PeersAgree, RightAfter, Unchanged, UnchangedBut}
 use Rattle.tsp_base.specs.Words.{HeaderValue, Acts, Begins, Deed, Line, dids, from_act, from_act_at, of, all_corrects, lives, moved, Within, width}
-use Rattle.tsp_promises.{proofs.EverywhereLemmas.Everywhere-at, specs.ClockAt.clock_at, specs.Fits.node_of, specs.Setting.Setting}
+use Rattle.tsp_promises.{proofs.shared.EverywhereLemmas.Everywhere-at, specs.ClockAt.clock_at, specs.Fits.node_of, specs.Setting.Setting}
 use Rattle.tsp_base.proofs.PlaceLemmas.{Within-all, Within-comparable, Within-length, Within-tail, Within-through}
 use Rattle.tsp_audit.specs.Agreeing.{AgreementIs, AfterAs, AfterIs, AllAgree, BossAgrees, IsAtPlace, LiveAs, LiveIs, MasterNearWithSpare, NodeIs, Numbered}
 use Rattle.tsp_audit.specs.Agreeing.{PairAgrees, PairNear, FromRoundStands, err_less, shown_by}

@@ -5,7 +5,7 @@ use Rattle.tsp_rules.specs.Values.{Act, Post, Become, Back, Message, Kind, Accep
 use Rattle.tsp_base.specs.Words.{Acts, Begins, Deed, Line, is_shared, of, seen_as, view, MessageValue}
 use Rattle.tsp_promises.specs.{Everywhere.Everywhere, Fits.node_of, StepFacts.backed, StepFacts.is_unbacked, StepFacts.is_unbacked_after}
 use Rattle.tsp_promises.specs.OneBack.{BacksAt, HoldsAt, IsBacked, OneBack}
-use Rattle.tsp_promises.proofs.EverywhereLemmas.{Everywhere-at, Everywhere-from}
+use Rattle.tsp_promises.proofs.shared.EverywhereLemmas.{Everywhere-at, Everywhere-from}
 use Rattle.tsp_base.proofs.ViewPlaces.{or-false, port-same}
 use Rattle.tsp_audit.specs.Backing.{Backs, Settled, deed_backs, is_stand, is_standing, post_backs}
 use Rattle.tsp_history.specs.Holding.{HoldsApart}

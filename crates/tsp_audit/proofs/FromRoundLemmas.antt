@@ -5,8 +5,8 @@ use Rattle.tsp_base.specs.Words.{Acts, Did, Here, Line, Seen, dids, of, view, Me
 use Rattle.tsp_base.specs.Words.{posted}
 use Rattle.tsp_promises.specs.{Agreed.FromRound, Agreed.ReadingOf, Fits.node_of, Once.ActsOn, Once.OfSend}
 use Rattle.tsp_base.proofs.PlaceLemmas.{Within-tail, Within-through}
-use Rattle.tsp_promises.proofs.{HistoryPlaces.line_on, OwnFitsProof.seen_same}
-use Rattle.tsp_promises.proofs.SendPlaces.{post_unique, posted-mono, posted-post, same-number}
+use Rattle.tsp_promises.proofs.{shared.HistoryPlaces.line_on, promised.OwnFitsProof.seen_same}
+use Rattle.tsp_promises.proofs.shared.SendPlaces.{post_unique, posted-mono, posted-post, same-number}
 use Rattle.tsp_audit.proofs.{Prefixes.history-within, SendPlaces.brings-one, SendPlaces.send-number, TakeLemmas.same-noted, Alike.here-same}
 use Rattle.tsp_audit.{specs.Acting.TakesSend, specs.Agreeing.FromRoundAs, specs.Agreeing.IsFromNoRound, proofs.Alike.first-same}
 use Rattle.tsp_audit.specs.FromRounds.{BegunAt, HasNoRound, IsAdjusting, RoundAs, Rounds}

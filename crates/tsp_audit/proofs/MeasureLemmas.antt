@@ -2,9 +2,9 @@
 use Rattle.std.proofs.Common.{sym, ap, subst, subst₂, ◌∙◌, get_or, take, ◌≡◌, ◌+◌, ℕ, ℤ, ◌-ℤ◌, Bool, true, false, List, ◌∷◌, MatchBool}
 use Rattle.tsp_rules.specs.Values.{Sample, Stamp, PeerId, Peer, Reply}
 use Rattle.tsp_base.specs.Words.{HeaderValue, Acts, Did, Here, Line, Seen, dids, of, plain, view, target, exchange, is_going, half_up, peer_of, posted}
-use Rattle.tsp_promises.{proofs.EverywhereLemmas.Everywhere-at, proofs.EverywhereLemmas.Everywhere-from, specs.Everywhere.Everywhere}
+use Rattle.tsp_promises.{proofs.shared.EverywhereLemmas.Everywhere-at, proofs.shared.EverywhereLemmas.Everywhere-from, specs.Everywhere.Everywhere}
 use Rattle.tsp_promises.specs.{Measured.MeasuredAt, Measured.ReadBy, Measured.TripAt, Measured.TripOf, ClockAt.clock, ClockAt.clock_at}
-use Rattle.tsp_promises.{proofs.SendPlaces.post_unique, proofs.SendPlaces.same-number, specs.Setting.Setting, specs.Fits.node_of}
+use Rattle.tsp_promises.{proofs.shared.SendPlaces.post_unique, proofs.shared.SendPlaces.same-number, specs.Setting.Setting, specs.Fits.node_of}
 use Rattle.tsp_base.proofs.Views.{plain_view}
 use Rattle.tsp_audit.specs.{Acting.CameAt, Acting.IsUnposted, Parts.MeasuresWell, Settings.HasClocks, Settings.clock_in}
 use Rattle.tsp_audit.specs.Measuring.{IsWithinError, MeasuresAt, Replies, RepliesAt, RepliesTo}

@@ -1,7 +1,7 @@
 -- The history of some lines, and of those before them.
 use Rattle.std.proofs.Common.{sym, ap, subst, ◌∙◌, take, drop, get_or, ◌≡◌, ◌<◌, ◌≤◌, ◌+◌, ℕ, List, [], ◌∷◌, length}
 use Rattle.std.proofs.lemmas.List.{take-append-drop}
-use Rattle.tsp_promises.{proofs.EverywhereLemmas.Everywhere-at, proofs.EverywhereLemmas.Everywhere-within, specs.Everywhere.Everywhere}
+use Rattle.tsp_promises.{proofs.shared.EverywhereLemmas.Everywhere-at, proofs.shared.EverywhereLemmas.Everywhere-within, specs.Everywhere.Everywhere}
 use Rattle.tsp_base.{proofs.PlaceLemmas.Within-all, proofs.PlaceLemmas.Within-tail, specs.Words.Line, specs.Words.Within}
 use Rattle.tsp_history.specs.{Histories.line_of, Histories.noted_after, Histories.history_of, declared.line.HistoryLine.HistoryLine}
 use Rattle.tsp_history.proofs.HistoryLemmas.{Within-noted, history-more, noted-append}

@@ -4,7 +4,7 @@ use Rattle.std.proofs.lemmas.List.{length-take}
 use Rattle.tsp_rules.specs.Values.{Port}
 use Rattle.tsp_base.specs.Words.{Came, Line, dids, of, view, all_corrects, lives, Within, Sampled, best, peer_of, posted}
 use Rattle.tsp_base.proofs.PlaceLemmas.{Within-through}
-use Rattle.tsp_promises.{proofs.SendPlaces.posted-mono, proofs.SendPlaces.posted-post, specs.Fits.node_of, specs.StepFacts.closed}
+use Rattle.tsp_promises.{proofs.shared.SendPlaces.posted-mono, proofs.shared.SendPlaces.posted-post, specs.Fits.node_of, specs.StepFacts.closed}
 use Rattle.tsp_audit.specs.FromRounds.{BegunAt, HasNoRound, RoundAs, Rounds, TakesNone, TakesThen}
 use Rattle.tsp_audit.specs.{declared.round_correction.RoundCorrection.RoundCorrection, Agreeing.FromRoundAs, Agreeing.IsFromNoRound}
 use Rattle.tsp_audit.proofs.{FromRoundLemmas.begun-from_round, FromRoundLemmas.begun-none, FromRoundLemmas.lines-one, TakeLemmas.same-noted}

@@ -2,8 +2,8 @@
 use Rattle.std.proofs.Common.{sym, ap, subst, subst₂, ◌∙◌, ◌≡◌, ℕ, List, ◌∷◌, refl}
 use Rattle.tsp_rules.specs.Values.{Post, Message, PeerId, Peer, Port}
 use Rattle.tsp_base.specs.Words.{Acts, Did, Here, Line, Seen, dids, of, view, MessageValue, Within, begun_to, peer_of, posted}
-use Rattle.tsp_promises.proofs.{SendPlaces.post_unique, SendPlaces.same-number, SendPlaces.not-shared, HistoryPlaces.line_on}
-use Rattle.tsp_promises.proofs.{OwnFitsProof.locate, OwnFitsProof.view-line, OwnFitsProof.seen_same, SendProof.begun_at}
+use Rattle.tsp_promises.proofs.{shared.SendPlaces.post_unique, shared.SendPlaces.same-number, shared.SendPlaces.not-shared, shared.HistoryPlaces.line_on}
+use Rattle.tsp_promises.proofs.{promised.OwnFitsProof.locate, promised.OwnFitsProof.view-line, promised.OwnFitsProof.seen_same, promised.SendProof.begun_at}
 use Rattle.tsp_promises.specs.{Once.Brings, Once.OfSend, Fits.node_of}
 use Rattle.tsp_base.proofs.PlaceLemmas.{Within-through}
 use Rattle.tsp_audit.{proofs.Alike.carry, proofs.Alike.first-same, proofs.Alike.here-same, proofs.Alike.rest-same, specs.Acting.TakesSend}

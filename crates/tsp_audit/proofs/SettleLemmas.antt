@@ -6,7 +6,7 @@ use Rattle.tsp_audit.specs.{Changes.LeavesState, Settings.HasClocks, declared.ag
 use Rattle.tsp_audit.specs.declared.round_correction.NodeState.{NodeState}
 use Rattle.tsp_base.specs.Words.{HeaderValue, Line, tick_at, width}
 use Rattle.tsp_history.specs.{Histories.deed_of, declared.line.HistoryLine.HistoryLine}
-use Rattle.tsp_promises.{proofs.Clocks.ticks_over, specs.Setting.Setting}
+use Rattle.tsp_promises.{proofs.shared.Clocks.ticks_over, specs.Setting.Setting}
 use Rattle.tsp_run.specs.Setup.{node_line}
 
 -- by how much a tick may leave the true time over a while, s before it and s' after it

@@ -6,7 +6,7 @@ use Rattle.tsp_rules.specs.Values.{Boot, Correct}
 use Rattle.tsp_base.specs.Words.{Acts, Deed, Did, Line, dids, from_act, of, all_corrects, all_corrects_after, lives, lives_after, moved, moved_after, Within}
 use Rattle.tsp_promises.specs.{Agreed.FromRound, Fits.node_of}
 use Rattle.tsp_base.proofs.{PlaceLemmas.Within-all, PlaceLemmas.Within-comparable, ViewPlaces.Within-dids}
-use Rattle.tsp_promises.proofs.HistoryPlaces.{Within-of, of-other, of-own}
+use Rattle.tsp_promises.proofs.shared.HistoryPlaces.{Within-of, of-other, of-own}
 use Rattle.tsp_audit.specs.Agreeing.{AfterIs, FromRoundAs, FirstIs, IsFromNoRound, LiveIs, NodeIs}
 use Rattle.tsp_audit.specs.{Changes.IsCorrect, Changes.LeavesState, declared.round_correction.NodeState.NodeState}
 use Rattle.tsp_audit.specs.declared.round_correction.RoundCorrection.{RoundCorrection}

@@ -6,7 +6,7 @@ use Rattle.tsp_rules.specs.Values.{Post, Correct, Datagram, Message, PeerId, Pla
 use Rattle.tsp_base.specs.Words.{Acts, Came, Here, Line, Seen, dids, of, view, MessageValue, HeaderValue, lives, moved, role, Within, begun_to, is_correction}
 use Rattle.tsp_base.specs.Words.{is_numbered, heard, peer_of, posted, time_in}
 use Rattle.tsp_promises.specs.{Once.Brings, Once.Obeys, Once.ObeysAt, Once.SpacedAt, ClockAt.clock_at, CorrectFits.amount_of, Fits.node_of, Setting.Setting}
-use Rattle.tsp_promises.proofs.{OwnFitsProof.view-line, SendPlaces.post_unique, SendPlaces.posted-mono, SendPlaces.posted-post, SendPlaces.same-number}
+use Rattle.tsp_promises.proofs.{promised.OwnFitsProof.view-line, shared.SendPlaces.post_unique, shared.SendPlaces.posted-mono, shared.SendPlaces.posted-post, shared.SendPlaces.same-number}
 use Rattle.tsp_history.proofs.HistoryLemmas.{history-more}
 use Rattle.tsp_audit.{proofs.SendPlaces.brings-one, specs.Settings.HasClocks, specs.Settings.clock_in, proofs.Alike.correct-same}
 use Rattle.tsp_audit.specs.Acting.{ActsNow, BringsAt, CameAt, Corrects, IsNumbered, IsUnposted, PostsMove, PostsTo, TakesSend, deed_corrects}

@@ -6,7 +6,7 @@ use Rattle.tsp_audit.specs.{Ends.AreDated, Looking.Grown, Looking.Looks, Remembe
 use Rattle.tsp_audit.specs.{Verdicts.AllHold, Verdicts.IsFound, Verdicts.IsFoundOfAll, declared.premises.Premises.Premises}
 use Rattle.tsp_audit.proofs.EventLemmas.{found-more, grown-claims, holds-none, joins-within}
 use Rattle.tsp_audit.proofs.{JudgeLemmas.prefix-is, NumberedLemmas.AllName}
-use Rattle.tsp_promises.{proofs.EverywhereLemmas.Everywhere-within, specs.Setting.Setting}
+use Rattle.tsp_promises.{proofs.shared.EverywhereLemmas.Everywhere-within, specs.Setting.Setting}
 use Rattle.tsp_base.specs.Words.{HeaderValue, Line, Within}
 use Rattle.tsp_base.proofs.PlaceLemmas.{Within-all, Within-length, Within-through}
 use Rattle.tsp_claims.specs.ClaimedHistory.{Claim, claimed, events_of, posts_of, step_of}

@@ -10,10 +10,10 @@ use Rattle.tsp_gateway.specs.{GateConfigs.peers_of_ports, PortOf.has_other_peer,
 use Rattle.tsp_io.specs.{Links.Arrival, declared.addr.Addr.Addr}
 use Rattle.tsp_promises.specs.{Dated.SetsAt, Fits.Fits, Fits.Finished, PortFits.PortFits, PortFits.setup_in, StepFacts.StepEnds}
 use Rattle.tsp_promises.specs.Setting.{Setting, setup_of}
-use Rattle.tsp_promises.proofs.{ChainProof.looped_in, EverywhereLemmas.Everywhere-from, GateSteps.AllPorts, GateLeads.GivenOn}
-use Rattle.tsp_promises.proofs.{GateLeads.answers_all_lead, Known.Ended, Known.Fresh, NodeLeads.begins_all, NodeLeads.boots_all_lead}
-use Rattle.tsp_promises.proofs.{LookedProof.looked, OwnFitsProof.fits_at, SafeProof.safe, OnceObeyedProof.sets_at}
-use Rattle.tsp_promises.proofs.RunLeads.{ended_later, ends_of, nothing-done, nothing-ends}
+use Rattle.tsp_promises.proofs.{promised.ChainProof.looped_in, shared.EverywhereLemmas.Everywhere-from, leads.GateSteps.AllPorts, leads.GateLeads.GivenOn}
+use Rattle.tsp_promises.proofs.{leads.GateLeads.answers_all_lead, leads.Known.Ended, leads.Known.Fresh, leads.NodeLeads.begins_all, leads.NodeLeads.boots_all_lead}
+use Rattle.tsp_promises.proofs.{promised.LookedProof.looked, promised.OwnFitsProof.fits_at, promised.SafeProof.safe, promised.OnceObeyedProof.sets_at}
+use Rattle.tsp_promises.proofs.leads.RunLeads.{ended_later, ends_of, nothing-done, nothing-ends}
 use Rattle.tsp_query.specs.{Arrivals.next_arrival, Ends.Outside}
 use Rattle.tsp_rules.specs.GateRows.{NodeGiven, NodeTurn, GotOn, answers_all, boots_all}
 use Rattle.tsp_rules.specs.NodeRows.{NodePast, NodeRow, PortSetup, in_node_step, no_port, on, on_port, port_setup, spread}

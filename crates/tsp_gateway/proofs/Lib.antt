@@ -4,7 +4,7 @@ pub mod AsideLemmas
 pub mod BootLemmas
 pub mod DueLemmas
 pub mod LiftLemmas
-pub mod LoopLemmas
+pub mod PortsInTurn
 pub mod PostLemmas
 pub mod ReadingLemmas
 pub mod RestLemmas

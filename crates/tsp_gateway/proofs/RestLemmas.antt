@@ -9,7 +9,7 @@ use Rattle.tsp_gateway.specs.{declared.gateway.Gateway.Gateway, Dues.IsGatewayDu
 use Rattle.tsp_gateway.specs.GatewayStands.{GatewayBegun, GatewayStands, GatewayTurning}
 use Rattle.tsp_gateway.proofs.{DueLemmas.before-over, DueLemmas.none_over, TurnLemmas.All_waits, TurnLemmas.Waits-before}
 use Rattle.tsp_gateway.proofs.LiftLemmas.{All_nothing, All_same, part_of, ports_many}
-use Rattle.tsp_gateway.proofs.LoopLemmas.{last_port, left, next_port, upset_all}
+use Rattle.tsp_gateway.proofs.PortsInTurn.{last_port, left, next_port, upset_all}
 
 -- nothing of a node is due before its deadline
 pub RestsUntil-deadline : (g : Gateway) (due : ℕ) → IsGatewayDue g due → RestsUntil due g

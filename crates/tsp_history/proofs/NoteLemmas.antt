@@ -9,7 +9,7 @@ use Rattle.tsp_history.specs.{Changes.BeginsOn, Clocks.IsSumOf, Histories.line_o
 use Rattle.tsp_history.specs.Notes.{LastAt, NodeKnown, NoteIs, PortKnown, Quiet, Told}
 use Rattle.tsp_history.specs.{Spacing.SpacedBy, declared.line.HistoryLine.HistoryLine, declared.notes.NodeNote.NodeNote}
 use Rattle.tsp_history.{proofs.HistoryLemmas.history-more, proofs.SpacingLemmas.spaced-other, specs.declared.notes.PortNote.PortNote}
-use Rattle.tsp_promises.proofs.HistoryPlaces.{of-other}
+use Rattle.tsp_promises.proofs.shared.HistoryPlaces.{of-other}
 
 -- a history is longer by its lines
 pub length-noted : (h : List Line) (ns : List HistoryLine) → length (noted_after h ns) ≡ length h + length ns

@@ -3,7 +3,7 @@ use Rattle.std.proofs.Common.{◌∙◌, ap, sym, subst, arith, refl, inl, inr, 
 use Rattle.std.proofs.Common.{List, [], ◌∷◌, Option, None, Some, MatchBool}
 use Rattle.std.proofs.lemmas.Bool.{ltb-false, ltb-true}
 use Rattle.tsp_base.specs.declared.{act.Act.Act, act.Act.TheVariants.Boot, act.Act.TheVariants.Correct, constants.TheConstants.GAP}
-use Rattle.tsp_promises.{proofs.HistoryPlaces.of-other, proofs.SteadyProof.lives-more, specs.Fits.node_of}
+use Rattle.tsp_promises.{proofs.shared.HistoryPlaces.of-other, proofs.promised.SteadyProof.lives-more, specs.Fits.node_of}
 use Rattle.tsp_base.specs.Words.{Acts, Line, of, dids, lives, lives_after, Within}
 use Rattle.tsp_base.proofs.PlaceLemmas.{Within-tail}
 use Rattle.tsp_history.specs.declared.brief.Brief.{Brief, TheVariants.Boot as BriefBoot, TheVariants.Correct as BriefCorrect}

@@ -4,7 +4,7 @@ use Rattle.tsp_rules.specs.Values.{Event, Peer, Placed, Stamp, Reply}
 use Rattle.tsp_base.specs.Words.{Acts, Begins, Line, Step, Within, dids, first_port, joined, line_of, lives, moved, of, peer_of as peer, posted, time_of}
 use Rattle.tsp_query.specs.Arrivals.{all_but_first}
 use Rattle.tsp_promises.specs.{ClockAt.clock, Everywhere.Everywhere, Measured.Measured, Measured.MeasuredAt, Measured.ReadBy, Setting.Setting}
-use Rattle.tsp_promises.proofs.SendPlaces.{post_unique, same-number}
+use Rattle.tsp_promises.proofs.shared.SendPlaces.{post_unique, same-number}
 use Rattle.tsp_run.specs.{Clocked.happening_by, Clocked.run_by, Run.Happening, Run.joins}
 use Rattle.tsp_network.specs.{ClocksUse.ForgetsLives, ClocksUse.LivesCount, ClocksUse.two_wanderers, ClocksUse.wandered, ClocksUse.wandering}
 use Rattle.tsp_network.proofs.WanderLemmas.{after_reply, clock_of, is_wandered, reply_line, sample_line, sampled}

@@ -37,8 +37,8 @@ use Rattle.tsp_promises.specs.{
   Setting.Setting,
   Setting.setup_of,
 }
-use Rattle.tsp_promises.proofs.OwnFitsProof.{deed_fits, fits_at, own_fits, of-tick, tick_in, place-time}
-use Rattle.tsp_promises.proofs.{HistoryPlaces.Within-of, HistoryPlaces.of-own, SinceProof.since, Clocks.near}
+use Rattle.tsp_promises.proofs.promised.OwnFitsProof.{deed_fits, fits_at, own_fits, of-tick, tick_in, place-time}
+use Rattle.tsp_promises.proofs.{shared.HistoryPlaces.Within-of, shared.HistoryPlaces.of-own, promised.SinceProof.since, shared.Clocks.near}
 use Rattle.tsp_rules.specs.CommonRows.{master_name_in}
 use Rattle.tsp_page_laws.specs.Named.{LeadsAfter}
 

@@ -31,7 +31,7 @@ use Rattle.std.proofs.lemmas.{Int.ints, Bool.leb-true}
 use Rattle.tsp_base.proofs.PlaceLemmas.{Within-all}
 use Rattle.tsp_base.specs.Words.{Line, of, dids, lives, moved, width}
 use Rattle.tsp_promises.specs.{ClockAt.clock_at, Fits.Fits, Setting.Setting, Looked.Look, Looked.IsAhead}
-use Rattle.tsp_promises.proofs.{ClockProof.clock_target, ClockProof.offset, ClockProof.offset_more, Clocks.tick-mono, LookedProof.looked}
+use Rattle.tsp_promises.proofs.{promised.ClockProof.clock_target, promised.ClockProof.offset, promised.ClockProof.offset_more, shared.Clocks.tick-mono, promised.LookedProof.looked}
 use Rattle.tsp_page.specs.{Formula.spread, Formula.target_at, Formula.tick_error, Readings.interval_by, Readings.looked_interval, Readings.leading_interval}
 use Rattle.tsp_page.specs.declared.{daemon_half.DaemonHalf.DaemonHalf, look_half.LookHalf.LookHalf}
 use Rattle.tsp_page.specs.declared.rank.Rank.{Rank, TheVariants.Nobody, TheVariants.Follows, TheVariants.Leads}

@@ -12,7 +12,7 @@ use Rattle.tsp_base.specs.Words.{Acts, Elsewhere, HeaderValue, Here, Line, Messa
 use Rattle.tsp_base.specs.Words.{role, tick_of, time_in, view}
 use Rattle.tsp_base.proofs.{PlaceLemmas.Within-tail, PlaceLemmas.Within-through, ViewPlaces.Within-view}
 use Rattle.tsp_promises.specs.{Fits.Fits, Fits.LineFits, Fits.node_of, Setting.Setting}
-use Rattle.tsp_promises.proofs.{Clocks.tick-mono, EverywhereLemmas.Everywhere-at, OwnFitsProof.own_fits, OwnFitsProof.seen_in}
+use Rattle.tsp_promises.proofs.{shared.Clocks.tick-mono, shared.EverywhereLemmas.Everywhere-at, promised.OwnFitsProof.own_fits, promised.OwnFitsProof.seen_in}
 use Rattle.tsp_run.specs.{Clocked.Clocks, Clocked.SetByClocks, Clocked.clocks_of, Clocked.run_by}
 use Rattle.tsp_run.proofs.{OwnClocks.possible_own, OwnClocks.runs_by_own_clocks, OwnClocks.set_own, RunFits.clocked_runs_fit}
 use Rattle.tsp_progress.specs.AckedInTime.{Acknowledged, AckedAs, AckedInTime, Begins, ClockedRunsAcknowledge, EndedBefore, IsPrompt, NeverGivenUp}

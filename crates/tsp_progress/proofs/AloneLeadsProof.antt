@@ -7,7 +7,7 @@ use Rattle.tsp_rules.specs.{CommonRows.is_idle, Guards.is_master}
 use Rattle.tsp_base.specs.Words.{Acts, Begins, Deadlines, Deed, Did, Line, Seen, Here, Elsewhere, armed, armed_after, held, held_after, none_armed, of, plain}
 use Rattle.tsp_base.specs.Words.{role, role_after, stood, taken, taken_after, tick_of, view}
 use Rattle.tsp_promises.specs.{Fits.Fits, Fits.node_of, Setting.Setting}
-use Rattle.tsp_promises.proofs.{EverywhereLemmas.Everywhere-at, EverywhereLemmas.Everywhere-from, EverywhereLemmas.Everywhere-within, OwnFitsProof.own_fits}
+use Rattle.tsp_promises.proofs.{shared.EverywhereLemmas.Everywhere-at, shared.EverywhereLemmas.Everywhere-from, shared.EverywhereLemmas.Everywhere-within, promised.OwnFitsProof.own_fits}
 use Rattle.tsp_progress.specs.AlarmsFit.{AlarmFits, AlarmsFit, LateFits, Manner, NextFits, NextTo, RingFits}
 use Rattle.tsp_progress.specs.AloneLeads.{AloneLeads, AloneLeadsAt, is_word, last_word}
 use Rattle.tsp_progress.specs.AloneStands.{is_news, news, patience}

@@ -6,7 +6,7 @@ use Rattle.tsp_base.specs.Words.{Acts, Begins, Seen, Step, Leads, arms, first_po
 use Rattle.tsp_base.proofs.{LeadsLemmas.Leads_puts, LeadsLemmas.Leads_then}
 use Rattle.tsp_rules.specs.GateRows.{NodeGiven, all_ports, answers_all, boots_all, boots_on, ports_from}
 use Rattle.tsp_rules.specs.NodeRows.{NodePast, for_ports, in_node_step, on, reading_all}
-use Rattle.tsp_promises.proofs.GateSteps.{All_after, LeadsAll}
+use Rattle.tsp_promises.proofs.leads.GateSteps.{All_after, LeadsAll}
 use Rattle.tsp_progress.specs.{AlarmsFit.Manner, CausesFit.CausesFit, CausesFit.Heard, CausesFit.newest_is, CausesFit.starts_by, CausesFit.stirs}
 use Rattle.tsp_progress.proofs.CauseLeads.{free_puts, gives_up_cause, loops_cause, reposts_cause, rings_cause, sends_cause, takes_cause, took_leads}
 use Rattle.tsp_progress.proofs.NodeWakes.{Anything, any_given}

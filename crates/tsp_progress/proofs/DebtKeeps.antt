@@ -13,7 +13,7 @@ use Rattle.tsp_rules.proofs.{BuiltAnswers.all_taken_sorts, BuiltAnswers.built_ta
 use Rattle.tsp_rules.proofs.{BuiltGate.built_sends_loops, BuiltGate.built_starts, EmitsBuilt.emits_built, EmitsBuilt.nothing_taken, Unchanged.comes_unchanged}
 use Rattle.tsp_rules.proofs.Emits.{Sort, Alarming, Booting, Changing, Posting, Rounding, Taking, Emits, Emits_puts, Keeps_by, is_in, is_part, sort_of}
 use Rattle.tsp_rules.proofs.Emits.{sort_of_kind}
-use Rattle.tsp_promises.proofs.GateSteps.{All_after, All_reading, LeadsAll}
+use Rattle.tsp_promises.proofs.leads.GateSteps.{All_after, All_reading, LeadsAll}
 use Rattle.tsp_run.specs.{Networks.networks, Setup.past_of, declared.arrival.Arrival.Arrival}
 use Rattle.tsp_run.specs.{Run.arrives, Run.joins, Run.posts}
 use Rattle.tsp_run.specs.Clocked.{Clocks, boot_by, happening_by, reaches_by, run_by, steps_by, tick_by}

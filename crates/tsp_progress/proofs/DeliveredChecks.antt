@@ -6,8 +6,8 @@ use Rattle.tsp_rules.specs.Values.{Took, Post, Good, Datagram, PeerId, Peer, Pla
 use Rattle.tsp_base.specs.Words.{Acts, Came, Cause, Deed, Line, Within, dids, peer_of, posted}
 use Rattle.tsp_base.proofs.PlaceLemmas.{Within-length, Within-through}
 use Rattle.tsp_promises.specs.{Fits.Fits, Fits.LineFits, Fits.Posted, Fits.TookFits, Fits.node_of, Setting.Setting}
-use Rattle.tsp_promises.proofs.EverywhereLemmas.{Everywhere-at}
-use Rattle.tsp_promises.proofs.SendPlaces.{post_unique}
+use Rattle.tsp_promises.proofs.shared.EverywhereLemmas.{Everywhere-at}
+use Rattle.tsp_promises.proofs.shared.SendPlaces.{post_unique}
 use Rattle.tsp_progress.specs.Delivered.{Arrives, Delivered, PostsTo}
 
 abbrev is_took : Deed → Bool

@@ -7,7 +7,7 @@ use Rattle.tsp_base.specs.Words.{HeaderValue, Here, Line, MessageValue, Seen, Wi
 use Rattle.tsp_base.specs.Words.{plain, role, role_after, tick_of, view}
 use Rattle.tsp_base.proofs.{PlaceLemmas.Within-tail, Views.plain_view}
 use Rattle.tsp_promises.specs.{Fits.Fits, Fits.LineFits, Fits.node_of, Setting.Setting}
-use Rattle.tsp_promises.proofs.{Clocks.tick-mono, EverywhereLemmas.Everywhere-at, OwnFitsProof.own_fits}
+use Rattle.tsp_promises.proofs.{shared.Clocks.tick-mono, shared.EverywhereLemmas.Everywhere-at, promised.OwnFitsProof.own_fits}
 use Rattle.tsp_run.specs.{Clocked.SetByClocks, Clocked.Clocks, Clocked.clocks_of, Clocked.run_by}
 use Rattle.tsp_run.proofs.{OwnClocks.possible_own, OwnClocks.runs_by_own_clocks, OwnClocks.set_own, RunFits.clocked_runs_fit}
 use Rattle.tsp_progress.specs.{ByTable.ByTable, ByTable.node_in, ByTable.port_before, Delivered.Delivered}

@@ -8,7 +8,7 @@ use Rattle.tsp_rules.specs.{Guards.is_master}
 use Rattle.tsp_base.specs.Words.{Acts, Begins, Deadlines, Deed, Did, Line, Seen, Here, Elsewhere, armed, armed_after, deadline, held, held_after, is_past}
 use Rattle.tsp_base.specs.Words.{none_armed, of, plain, role, role_after, stood, taken, taken_after, tick_of, view, word}
 use Rattle.tsp_promises.specs.{Fits.Fits, Fits.node_of, Setting.Setting}
-use Rattle.tsp_promises.proofs.{EverywhereLemmas.Everywhere-at, EverywhereLemmas.Everywhere-from, EverywhereLemmas.Everywhere-within, OwnFitsProof.own_fits}
+use Rattle.tsp_promises.proofs.{shared.EverywhereLemmas.Everywhere-at, shared.EverywhereLemmas.Everywhere-from, shared.EverywhereLemmas.Everywhere-within, promised.OwnFitsProof.own_fits}
 use Rattle.tsp_progress.specs.AlarmsFit.{AlarmFits, AlarmsFit, ArmFits, LateFits, Manner, NextFits, NextTo, RingFits, newest_is, stands_by, stands_now}
 use Rattle.tsp_progress.specs.CausesFit.{CausesFit, Heard, Unheard, backs_by, backs_itself_now, elects_by, loosens_by, searches_by, seeks_by, starts_by}
 use Rattle.tsp_progress.specs.CausesFit.{stirred, stirs_in, wins_by}

@@ -9,7 +9,7 @@ use Rattle.tsp_rules.specs.{CandidateRows.yields, Guards.is_master, Guards.is_ma
 use Rattle.tsp_rules.specs.{NodeRows.on, NodeRows.reading_all}
 use Rattle.std.proofs.lemmas.Bool.{or_right}
 use Rattle.tsp_base.proofs.LeadsLemmas.{Leads_either, Leads_from, Leads_nothing}
-use Rattle.tsp_promises.proofs.GateSteps.{All_after, LeadsAll}
+use Rattle.tsp_promises.proofs.leads.GateSteps.{All_after, LeadsAll}
 use Rattle.tsp_progress.specs.{AlarmsFit.Manner, Humble.Humble, Humble.Mild, Humble.is_humble, Humble.leads_in}
 use Rattle.tsp_progress.proofs.HumbleLeads.{Meek, no_back, meek_keeps, meek_arms, meek_puts, meek_rings, meek_sends, meek_takes}
 use Rattle.tsp_progress.proofs.NodeKeeps.{At, Each, Family, Keeps, OkGiven, answers_keep, list_each, node_manner, on_each}

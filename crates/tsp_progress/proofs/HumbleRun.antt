@@ -9,7 +9,7 @@ use Rattle.tsp_base.specs.Words.{Acts, Begins, Did, HeaderValue, Handed, Line, M
 use Rattle.tsp_base.specs.Words.{of, peer_of, seen_as, stepped, view}
 use Rattle.tsp_codec.specs.{Taken.taken_of}
 use Rattle.tsp_promises.specs.{Fits.node_of, Setting.Setting, Sound.IsSound, Sound.IsSoundDeed}
-use Rattle.tsp_promises.proofs.{EverywhereLemmas.Everywhere-at, EverywhereLemmas.Everywhere-from, GateSteps.LeadsAll}
+use Rattle.tsp_promises.proofs.{shared.EverywhereLemmas.Everywhere-at, shared.EverywhereLemmas.Everywhere-from, leads.GateSteps.LeadsAll}
 use Rattle.tsp_run.specs.{Networks.address_of, Networks.networks, Premised.Sealed, Setup.past_of, declared.address.Address.Address}
 use Rattle.tsp_run.specs.{declared.posted.Posted.Posted}
 use Rattle.tsp_run.specs.{Run.joins, Run.posts}

@@ -7,7 +7,7 @@ use Rattle.tsp_rules.specs.Values.{ELECT_MIN, ELECT_SPREAD}
 use Rattle.tsp_base.specs.Words.{Acts, did_of, Deadlines, Deed, Did, Line, Seen, Here, Elsewhere, armed, armed_after, deadline, none_armed, of, plain, started}
 use Rattle.tsp_base.specs.Words.{started_after, view, with_deadline, word}
 use Rattle.tsp_promises.specs.{Fits.node_of, Setting.Setting}
-use Rattle.tsp_promises.proofs.{EverywhereLemmas.Everywhere-at, EverywhereLemmas.Everywhere-from}
+use Rattle.tsp_promises.proofs.{shared.EverywhereLemmas.Everywhere-at, shared.EverywhereLemmas.Everywhere-from}
 use Rattle.tsp_progress.specs.AlarmsFit.{AlarmFits, AlarmsFit, ArmFits, Manner}
 use Rattle.tsp_progress.specs.InTime.{AlarmEnds, AllInTime, ArmedWithin, CandidatureEnds, EndsInTime, InTime, LooseSeeks, RoundCloses, StartEnds, is_alarm}
 use Rattle.tsp_progress.specs.InTime.{last_arm, last_arm_after, longest}

@@ -8,7 +8,7 @@ use Rattle.tsp_base.specs.Words.{Acts, Begins, Booted, Came, Cause, Deed, Did, H
 use Rattle.tsp_base.specs.Words.{is_shared, Within, of, peer_of, seen_as, taken, taken_after, up, up_after, view}
 use Rattle.tsp_rules.specs.Guards.{is_master}
 use Rattle.tsp_promises.specs.{Fits.Fits, Fits.TookFits, Fits.node_of, Setting.Setting}
-use Rattle.tsp_promises.proofs.{EverywhereLemmas.Everywhere-at, EverywhereLemmas.Everywhere-from, EverywhereLemmas.Everywhere-within}
+use Rattle.tsp_promises.proofs.{shared.EverywhereLemmas.Everywhere-at, shared.EverywhereLemmas.Everywhere-from, shared.EverywhereLemmas.Everywhere-within}
 use Rattle.tsp_progress.specs.{AlarmsFit.Manner, CausesFit.stirred, CausesFit.stirs_in, FreshLeads.FreshLeadsAt, FreshLeads.first_lead, FreshLeads.untouched}
 use Rattle.tsp_progress.proofs.ProgressProof.{progress_to}
 use Rattle.tsp_progress.specs.{LoneLeads.Led, Wakes.AllWake, Watched.Told}

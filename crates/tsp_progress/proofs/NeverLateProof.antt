@@ -7,7 +7,7 @@ use Rattle.tsp_base.specs.Words.{Acts, Begins, Deed, Did, Line, Seen, Here, Step
 use Rattle.tsp_base.specs.Words.{with_deadline}
 use Rattle.tsp_base.proofs.PlaceLemmas.{Within-all}
 use Rattle.tsp_promises.specs.{Fits.Fits, Fits.LineFits, Fits.node_of, Fits.SameStep, Setting.Setting}
-use Rattle.tsp_promises.proofs.{EverywhereLemmas.Everywhere-from, EverywhereLemmas.Everywhere-within}
+use Rattle.tsp_promises.proofs.{shared.EverywhereLemmas.Everywhere-from, shared.EverywhereLemmas.Everywhere-within}
 use Rattle.tsp_progress.specs.AlarmsFit.{AlarmFits, AlarmsFit, ArmFits, LateFits, Manner}
 use Rattle.tsp_progress.specs.{InTime.is_alarm, NeverLate.NeverLate, Wakes.AllWake, Watched.Attended}
 use Rattle.tsp_progress.proofs.InTimeProof.{none_is, none_some, value_of, with_other, with_same}

@@ -13,7 +13,7 @@ use Rattle.tsp_rules.specs.GateRows.{LoopStep, PassOver, GiveUp, Forward}
 use Rattle.tsp_rules.specs.NodeRows.{NodePast, NodeRow, abandons_on, for_ports, nothing_at_all, on, on_port, reading_all, spread, stirring}
 use Rattle.tsp_rules.specs.{Answers.rings, Answers.takes, RoundRows.corrects, SendRows.due_sends}
 use Rattle.tsp_rules.proofs.{NodeRowLemmas.on_own, NodeRowLemmas.spread_append}
-use Rattle.tsp_promises.proofs.GateSteps.{All_after, All_reading, LeadsAll}
+use Rattle.tsp_promises.proofs.leads.GateSteps.{All_after, All_reading, LeadsAll}
 use Rattle.std.proofs.Common.{◌&&◌, nat_le, nat_lt}
 use Rattle.tsp_rules.specs.Values.{HOPS}
 use Rattle.tsp_rules.specs.GateRows.{hops_in, one_hop_less, same_name}

@@ -9,7 +9,7 @@ use Rattle.tsp_rules.specs.GateRows.{GotOn, NodeTurn, NodeGiven, all_ports, answ
 use Rattle.tsp_rules.specs.NodeRows.{NodePast, for_ports, on, reading_all, in_node_step}
 use Rattle.tsp_rules.specs.{CandidateRows.yields, Guards.is_master_at}
 use Rattle.tsp_rules.proofs.{BuiltGate.built_sends_loops, Emits.Posting}
-use Rattle.tsp_promises.proofs.GateSteps.{All_after, LeadsAll}
+use Rattle.tsp_promises.proofs.leads.GateSteps.{All_after, LeadsAll}
 use Rattle.tsp_progress.proofs.{PortWakes.calm, PortWakes.rings_far, PortWakes.sends_far, PortWakes.takes_far, PortWakes.yields_far}
 use Rattle.tsp_progress.specs.AlarmsFit.{Manner}
 use Rattle.tsp_progress.proofs.NodeKeeps.{Each, Family, Keeps, answers_keep, list_each, node_manner, on_each, OkGiven}

@@ -6,8 +6,8 @@ use Rattle.tsp_rules.specs.Values.{Act, Alarm, Port, SLACK}
 use Rattle.tsp_base.specs.Words.{Acts, Begins, Deed, Line, Seen, armed, deadline, dids, is_shared, of, plain, seen_as, tick_of, view}
 use Rattle.tsp_base.proofs.Views.{plain_view}
 use Rattle.tsp_promises.specs.{Fits.Fits, Fits.node_of, Setting.Setting}
-use Rattle.tsp_promises.proofs.{EverywhereLemmas.Everywhere-at, EverywhereLemmas.Everywhere-from, EverywhereLemmas.Everywhere-within, OwnFitsProof.own_fits}
-use Rattle.tsp_promises.proofs.{OwnFitsProof.own_tick}
+use Rattle.tsp_promises.proofs.{shared.EverywhereLemmas.Everywhere-at, shared.EverywhereLemmas.Everywhere-from, shared.EverywhereLemmas.Everywhere-within, promised.OwnFitsProof.own_fits}
+use Rattle.tsp_promises.proofs.{promised.OwnFitsProof.own_tick}
 use Rattle.tsp_progress.specs.{AlarmsFit.AlarmsFit, AlarmsFit.Manner, AloneStands.AloneStands, AloneStands.AloneStandsAt, Wakes.Woken, Wakes.WokenAt}
 use Rattle.tsp_progress.specs.{Watched.Attended, Watched.AttendedAt}
 use Rattle.tsp_progress.proofs.AloneProof.{Paced, PacedAt, idle_waits}

@@ -3,7 +3,7 @@ use Rattle.std.proofs.Common.{◌≤◌, ℕ, List}
 use Rattle.tsp_rules.specs.{Values.Port, Values.SLACK}
 use Rattle.tsp_base.specs.Words.{Line, of, view}
 use Rattle.tsp_promises.specs.{Fits.Fits, Setting.Setting}
-use Rattle.tsp_promises.proofs.OwnFitsProof.{own_fits}
+use Rattle.tsp_promises.proofs.promised.OwnFitsProof.{own_fits}
 use Rattle.tsp_run.proofs.RunFits.{clocked_runs_fit, possible-runs-fit}
 use Rattle.tsp_progress.specs.{AlarmsFit.Manner, Progress.ClockedRunsProgress, Progress.Progress, Progress.ProgressTo, Progress.RunsProgress}
 use Rattle.tsp_progress.specs.{Stands.StandsOn, Wakes.AllWake, Wakes.Woken, Watched.Attended, Watched.Told}

@@ -6,7 +6,7 @@ use Rattle.tsp_rules.specs.Values.{Act, Boot, Become, Arm, Ring, Late, Alarm, Pr
 use Rattle.tsp_base.specs.Words.{Acts, Begins, Deed, Did, Line, Seen, Here, Elsewhere, armed, armed_after, of, plain, started, started_after, stood}
 use Rattle.tsp_base.specs.Words.{stood_after, tick_of, view}
 use Rattle.tsp_promises.specs.{Fits.Fits, Fits.node_of, Setting.Setting}
-use Rattle.tsp_promises.proofs.{EverywhereLemmas.Everywhere-at, EverywhereLemmas.Everywhere-from, EverywhereLemmas.Everywhere-within}
+use Rattle.tsp_promises.proofs.{shared.EverywhereLemmas.Everywhere-at, shared.EverywhereLemmas.Everywhere-from, shared.EverywhereLemmas.Everywhere-within}
 use Rattle.tsp_progress.specs.AlarmsFit.{AlarmFits, AlarmsFit, ArmFits, Arms, LateFits, Manner, NextFits, NextTo, ProbeNext, RoundNext, arms_round_by}
 use Rattle.tsp_progress.specs.AlarmsFit.{newest_is, rings_round, rounds_by}
 use Rattle.tsp_progress.specs.{InTime.ArmedWithin, InTime.StartedWithin, InTime.StoodWithin, InTime.last_arm, InTime.last_arm_after, RoundsRecur.RoundBegins}

@@ -5,7 +5,7 @@ use Rattle.tsp_rules.specs.{GateRows.GotOn, GateRows.NodeTurn, GateRows.answers_
 use Rattle.tsp_rules.specs.{NodeRows.in_node_step}
 use Rattle.tsp_base.specs.Words.{Acts, Begins, HeaderValue, Handed, Line, Step, Turned, Came, first_port, joined, line_of, of, stepped, view}
 use Rattle.tsp_codec.specs.{Taken.taken_of}
-use Rattle.tsp_promises.proofs.GateSteps.{LeadsAll}
+use Rattle.tsp_promises.proofs.leads.GateSteps.{LeadsAll}
 use Rattle.tsp_run.specs.{Networks.networks, Setup.past_of, declared.arrival.Arrival.Arrival}
 use Rattle.tsp_run.specs.{Run.arrives, Run.joins, Run.posts}
 use Rattle.tsp_run.specs.Clocked.{Clocks, boot_by, clocks_of, happening_by, reaches_by, run_by, steps_by, tick_by}

@@ -11,9 +11,9 @@ use Rattle.tsp_base.specs.RoundFacts.{is_starting_after}
 use Rattle.tsp_base.proofs.{PlaceLemmas.Within-tail, PlaceLemmas.Within-through}
 use Rattle.tsp_promises.specs.{Fits.Fits, Fits.SameStep, Fits.node_of, OwnFits.OwnFits, RoundFits.CloseFits}
 use Rattle.tsp_promises.specs.{MeasureFits.RequestFits, Setting.Setting, Setting.setup_of}
-use Rattle.tsp_promises.proofs.{Clocks.tick-mono, HistoryPlaces.line_on, HistoryPlaces.own_in, KnownProof.InStep, KnownProof.in-step, KnownProof.line-is}
-use Rattle.tsp_promises.proofs.OwnFitsProof.{deed_fits, fits_at, fits_in, locate, own_fits, own_fits_at, port_fits, seen_before, seen_in, tick_in}
-use Rattle.tsp_promises.proofs.{Leaves.nil-cons, OwnFitsProof.Located, RoundPlaces.started_at}
+use Rattle.tsp_promises.proofs.{shared.Clocks.tick-mono, shared.HistoryPlaces.line_on, shared.HistoryPlaces.own_in, promised.KnownProof.InStep, promised.KnownProof.in-step, promised.KnownProof.line-is}
+use Rattle.tsp_promises.proofs.promised.OwnFitsProof.{deed_fits, fits_at, fits_in, locate, own_fits, own_fits_at, port_fits, seen_before, seen_in, tick_in}
+use Rattle.tsp_promises.proofs.{leads.Leaves.nil-cons, promised.OwnFitsProof.Located, shared.RoundPlaces.started_at}
 use Rattle.tsp_run.specs.{Clocked.Clocks, Clocked.SetByClocks, Clocked.clocks_of, Clocked.run_by}
 use Rattle.tsp_run.proofs.{OwnClocks.possible_own, OwnClocks.runs_by_own_clocks, OwnClocks.set_own, RunFits.clocked_runs_fit}
 use Rattle.tsp_progress.specs.AnswersInTime.{AnswerTaken, Asks, Meanwhile}

@@ -6,7 +6,7 @@ use Rattle.tsp_base.specs.Words.{Acts, Deed, Did, Elsewhere, Here, MessageValue,
 use Rattle.tsp_base.specs.Words.{open_to_after, plain, posts_of, role, role_after, sending_at, tick_of}
 use Rattle.tsp_base.proofs.PlaceLemmas.{Within-comparable, Within-length, Within-through}
 use Rattle.tsp_rules.proofs.GuardFacts.{same_peer}
-use Rattle.tsp_promises.proofs.ElectionFacts.{open_at}
+use Rattle.tsp_promises.proofs.shared.ElectionFacts.{open_at}
 use Rattle.tsp_progress.specs.AckedInTime.{EndedBefore, NeverGivenUp, ends_otherwise}
 use Rattle.tsp_progress.specs.GivenUp.{GaveFits, IsOld, Owes}
 use Rattle.tsp_progress.proofs.StandsProof.{Rising}

@@ -8,7 +8,7 @@ use Rattle.tsp_base.specs.Words.{open_to, posts_of, posts_of_after, sending_at, 
 use Rattle.tsp_rules.proofs.GuardFacts.{same_peer}
 use Rattle.tsp_promises.specs.{CorrectionFits.RepeatFits, DeedFits.DeedFits, DeedFits.MessageFits, Fits.Fits, Fits.node_of, PortFits.PortFits, Setting.Setting}
 use Rattle.tsp_promises.specs.{Setting.setup_of}
-use Rattle.tsp_promises.proofs.{EverywhereLemmas.Everywhere-at, EverywhereLemmas.Everywhere-from, EverywhereLemmas.Everywhere-within, OwnFitsProof.port_fits}
+use Rattle.tsp_promises.proofs.{shared.EverywhereLemmas.Everywhere-at, shared.EverywhereLemmas.Everywhere-from, shared.EverywhereLemmas.Everywhere-within, promised.OwnFitsProof.port_fits}
 use Rattle.tsp_progress.specs.{SendsEnd.SendEnds, SendsEnd.SendsEnd, SendsEnd.SendsEnded, Watched.Attended, Watched.AttendedAt, Watched.BeginsAt, Watched.Told}
 use Rattle.tsp_progress.specs.{Watched.Watched}
 

@@ -6,7 +6,7 @@ use Rattle.tsp_base.specs.Words.{Acts, Deed, Did, Held, Line, Seen, Here, Elsewh
 use Rattle.tsp_base.specs.Words.{view}
 use Rattle.tsp_base.proofs.Views.{plain_view}
 use Rattle.tsp_promises.specs.{Fits.Fits, OwnFits.OwnFits, Setting.Setting}
-use Rattle.tsp_promises.proofs.OwnFitsProof.{own_fits}
+use Rattle.tsp_promises.proofs.promised.OwnFitsProof.{own_fits}
 use Rattle.tsp_progress.specs.AlarmsFit.{AlarmFits, AlarmsFit, Arms, ArmFits, BackNext, IsFree, Manner, NextFits, NextTo, asks_next, owes_next, stands_by}
 use Rattle.tsp_progress.specs.AlarmsFit.{stands_now}
 use Rattle.tsp_progress.specs.{Stands.AfterElect, Stands.Stands, Stands.StandsOn, Wakes.AllWake}

@@ -4,7 +4,7 @@ use Rattle.tsp_rules.specs.Values.{Event, BootAt, Turn, Take, Bytes}
 use Rattle.tsp_rules.specs.{GateRows.GotOn, GateRows.NodeTurn, GateRows.answers_all, GateRows.boots_all, NodeRows.NodeRow, NodeRows.in_node_step}
 use Rattle.tsp_base.specs.Words.{HeaderValue, Handed, Line, Step, Turned, Came, of, stepped}
 use Rattle.tsp_codec.specs.{Taken.taken_of}
-use Rattle.tsp_promises.proofs.GateSteps.{LeadsAll}
+use Rattle.tsp_promises.proofs.leads.GateSteps.{LeadsAll}
 use Rattle.tsp_run.specs.{Networks.networks, Run.arrives, Run.joins, Run.posts, Setup.past_of, declared.arrival.Arrival.Arrival}
 use Rattle.tsp_run.specs.Clocked.{Clocks, boot_by, clocks_of, happening_by, reaches_by, run_by, steps_by, tick_by}
 use Rattle.tsp_run.proofs.{OwnClocks.runs_by_own_clocks, RunLemmas.stepped_other, RunLemmas.stepped_own}

@@ -13,7 +13,7 @@ use Rattle.tsp_rules.specs.GateRows.{loops_after, loosens_master, other_ports, p
 use Rattle.tsp_rules.specs.GateRows.{takes_kind, takes_loop, takes_loop_step, takes_message, takes_on, turns_on, waits, LoopStep, PassOver, GiveUp, Forward}
 use Rattle.tsp_rules.specs.NodeRows.{NodePast, NodeRow, abandons_on, for_ports, nothing_at_all, on, on_port, reading_all, spread, stirring, ◌and_then◌}
 use Rattle.tsp_rules.proofs.NodeRowLemmas.{spread_append}
-use Rattle.tsp_promises.proofs.GateSteps.{All_after, LeadsAll}
+use Rattle.tsp_promises.proofs.leads.GateSteps.{All_after, LeadsAll}
 use Rattle.tsp_progress.specs.ByTable.{KeepsTable, TableAt, is_loop_kind, set_up}
 use Rattle.tsp_progress.proofs.{CueAlarms.Cued, CueAlarms.GoesOff, CueAlarms.alarm_cued, CueAlarms.taking_cued}
 use Rattle.tsp_progress.proofs.CueRows.{Plain, Plain_arms, Plain_puts, Plain_then, Uncued, is_cue, looped, loosened, repeated, reposted}

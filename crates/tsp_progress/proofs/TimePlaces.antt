@@ -3,7 +3,7 @@ use Rattle.std.proofs.Common.{ap, arith, inl, inr, ◌≡◌, ◌<◌, List, ◌
 use Rattle.tsp_base.specs.Words.{Line, Within}
 use Rattle.tsp_base.proofs.PlaceLemmas.{Within-comparable}
 use Rattle.tsp_promises.specs.{Fits.Fits, Setting.Setting}
-use Rattle.tsp_promises.proofs.OwnFitsProof.{fits_at, place-time}
+use Rattle.tsp_promises.proofs.promised.OwnFitsProof.{fits_at, place-time}
 
 pub before_time : (setting : Setting) (world : List Line) → Fits setting world → (k : Line) (w : List Line) (c : Line) (older : List Line) →
     Within (k ∷ w) world → Within (c ∷ older) world → k.did.step.at < c.did.step.at → Within (k ∷ w) older

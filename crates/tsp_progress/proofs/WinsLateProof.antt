@@ -15,7 +15,7 @@ use Rattle.tsp_rules.proofs.BuiltRoles.{built_quiet_rings, built_search_rings, b
 use Rattle.tsp_rules.proofs.BuiltShared.{loose_sorts, standing_sorts}
 use Rattle.tsp_rules.proofs.BuiltRounds.{asking_sorts, built_close_rings, built_probe_rings, built_round_rings, close_sorts}
 use Rattle.tsp_promises.specs.{DeedFits.DeedFits, HoldFits.LeadFits, PortFits.PortFits, Setting.setup_of}
-use Rattle.tsp_promises.proofs.OwnFitsProof.{own_fits, port_fits}
+use Rattle.tsp_promises.proofs.promised.OwnFitsProof.{own_fits, port_fits}
 use Rattle.tsp_base.specs.Words.{Setup}
 use Rattle.tsp_run.specs.Clocked.{clocks_of, run_by}
 use Rattle.tsp_run.proofs.{OwnClocks.possible_own, OwnClocks.runs_by_own_clocks, OwnClocks.set_own, RunFits.clocked_runs_fit}

@@ -8,7 +8,7 @@ use Rattle.tsp_base.specs.Words.{Acts, Deed, Did, Elsewhere, Here, Line, Seen, W
 use Rattle.tsp_base.specs.Words.{joined, placed, role, role_after, stood_after, view}
 use Rattle.tsp_base.proofs.{PlaceLemmas.Within-all, PlaceLemmas.Within-length, PlaceLemmas.Within-tail, PlaceLemmas.Within-through, ViewPlaces.Within-view}
 use Rattle.tsp_promises.specs.{Fits.Fits, Fits.node_of, Setting.Setting}
-use Rattle.tsp_promises.proofs.{Clocks.tick-mono, ElectionFacts.stood_at, HistoryPlaces.own_in, OwnFitsProof.seen_in, OwnFitsProof.tick_in}
+use Rattle.tsp_promises.proofs.{shared.Clocks.tick-mono, shared.ElectionFacts.stood_at, shared.HistoryPlaces.own_in, promised.OwnFitsProof.seen_in, promised.OwnFitsProof.tick_in}
 use Rattle.tsp_progress.specs.AnswersInTime.{AnswerTaken}
 use Rattle.tsp_progress.specs.{GivenUp.Owes}
 use Rattle.tsp_progress.specs.{Heeds.DoesNext, WinsLate.StoodLong, WinsLate.WinsLate, WinsLate.WonFits}

@@ -13,7 +13,7 @@ pub fn boots_alone()
 {}
 
 /// So the runs of a node with one port are the runs of that port.
-#[tactic(auto, using(crate::proofs::NodeLeads::runs_alike))]
+#[tactic(auto, using(crate::proofs::leads::NodeLeads::runs_alike))]
 pub fn runs_alone()
     ensures { RunsAlone }
 {}

@@ -15,14 +15,14 @@ pub fn dated()
 
 ghost use Rattle.tsp_promises.specs.Uses.{DatedUse};
 /// The promise isn't empty: a history that fits sees a date passed on, set and acknowledged.
-#[tactic(auto, using(crate::proofs::WitnessDates::dated_use))]
+#[tactic(auto, using(crate::proofs::witness::WitnessDates::dated_use))]
 pub fn dates_use()
     ensures { DatedUse }
 {}
 
 ghost use Rattle.tsp_promises.specs.Broken.{DatesBreak};
 /// And it says something: for each of its parts a small history breaks it.
-#[tactic(auto, using(crate::proofs::BrokenSends::dates_break))]
+#[tactic(auto, using(crate::proofs::witness::BrokenSends::dates_break))]
 pub fn dates_can_be_broken()
     ensures { DatesBreak }
 {}

@@ -5,13 +5,13 @@ ghost use Rattle.tsp_promises.specs.Sound.{AnswersAreSound};
 
 /// A port that has done nothing yet and then runs by the rules does only what fits, whatever it is
 /// given and whenever.
-#[tactic(auto, using(crate::proofs::RunLeads::rules_fit))]
+#[tactic(auto, using(crate::proofs::leads::RunLeads::rules_fit))]
 pub fn rules_fit()
     ensures { RulesFit }
 {}
 
 /// A node that runs by the rules over several ports does only what fits on each of them.
-#[tactic(auto, using(crate::proofs::NodeLeads::nodes_fit))]
+#[tactic(auto, using(crate::proofs::leads::NodeLeads::nodes_fit))]
 pub fn nodes_fit()
     ensures { NodesFit }
 {}

@@ -14,7 +14,7 @@ pub fn looks_bound_clocks()
 {}
 
 /// The bound can't be narrower than by 2 microseconds, and the clocks have to be left alone.
-#[tactic(auto, using(crate::proofs::WitnessWords::looks_use, crate::proofs::WitnessWords::looks_need_rest))]
+#[tactic(auto, using(crate::proofs::witness::WitnessWords::looks_use, crate::proofs::witness::WitnessWords::looks_need_rest))]
 pub fn looks_say_enough()
     ensures reached { LooksUse }
     ensures disturbed { LooksNeedRest }

@@ -15,7 +15,7 @@ ghost use Rattle.tsp_promises.specs.Setting.{Setting};
 ghost use Rattle.tsp_promises.specs.Steady.{Meets, Steady};
 ghost use Rattle.tsp_promises.specs.Safe.{Safe};
 /// The promises of `Safe`, of a history that ends with a step, each under the premises that it needs.
-#[tactic(auto, using(crate::proofs::SafeProof::safe))]
+#[tactic(auto, using(crate::proofs::promised::SafeProof::safe))]
 pub fn safe()
     ensures { (setting : Setting) (world : List Line) → Fits setting world → Finished setting world
         → Safe setting world }
@@ -23,7 +23,7 @@ pub fn safe()
 
 ghost use Rattle.tsp_promises.specs.OneBack.{OneBack};
 /// No node backs two candidates within `HOLD` ticks, 60 s, even if datagrams are forged.
-#[tactic(auto, using(crate::proofs::ResolvedProof::one_back))]
+#[tactic(auto, using(crate::proofs::promised::ResolvedProof::one_back))]
 pub fn one_back()
     ensures { (setting : Setting) (world : List Line) → Fits setting world → Finished setting world
         → OneBack world }
@@ -33,7 +33,7 @@ ghost use Rattle.tsp_promises.specs.Silent.{Silent};
 /// For `QUIET` ticks, 80 s, after a boot a node posts only the reply to a stamp request, or the
 /// acknowledgment of an MSITE, TRACEON or TRACEOFF, that its step took, to whom that came from. And
 /// it doesn't correct its clock.
-#[tactic(auto, using(crate::proofs::ResolvedProof::silent))]
+#[tactic(auto, using(crate::proofs::promised::ResolvedProof::silent))]
 pub fn silent_after_boot()
     ensures { (setting : Setting) (world : List Line) → Fits setting world → Silent world }
 {}
@@ -46,7 +46,7 @@ ghost use Rattle.tsp_promises.specs.Answered.{Answered};
 /// took from one on that port, and is the only thing that it posts to strangers. A message's answer
 /// is in the node's own name, but that of MSITE has the master's. So no more datagrams are posted to
 /// strangers than are taken from them.
-#[tactic(auto, using(crate::proofs::AnsweredProof::answered))]
+#[tactic(auto, using(crate::proofs::promised::AnsweredProof::answered))]
 pub fn answered()
     ensures { (setting : Setting) (world : List Line) → Fits setting world → Finished setting world
         → Answered setting world }
@@ -54,14 +54,14 @@ pub fn answered()
 
 ghost use Rattle.tsp_promises.specs.OnlyMaster.{OnlyMaster};
 /// Only masters post corrections, close rounds, and correct their clocks right after a Close.
-#[tactic(auto, using(crate::proofs::SendPlaces::only_master))]
+#[tactic(auto, using(crate::proofs::shared::SendPlaces::only_master))]
 pub fn only_master()
     ensures { (setting : Setting) (world : List Line) → Fits setting world → OnlyMaster world }
 {}
 
 /// Two corrections of one clock are at least `GAP` ticks, 1 s, apart: in one life of the node, and
 /// over its lives.
-#[tactic(auto, using(crate::proofs::OnceObeyedProof::all_spaced))]
+#[tactic(auto, using(crate::proofs::promised::OnceObeyedProof::all_spaced))]
 pub fn once_spaced()
     ensures one_life { (setting : Setting) (world : List Line) → Fits setting world
         → OnceSpaced world }
@@ -70,7 +70,7 @@ pub fn once_spaced()
 {}
 
 /// A follower's clock is moved only as its master says, if no peer's datagram is forged.
-#[tactic(auto, using(crate::proofs::OnceObeyedProof::once_obeyed))]
+#[tactic(auto, using(crate::proofs::promised::OnceObeyedProof::once_obeyed))]
 pub fn once_obeyed()
     ensures { (setting : Setting) (world : List Line) → Fits setting world → Honest world
         → OnceObeyed setting world }
@@ -78,7 +78,7 @@ pub fn once_obeyed()
 
 /// No two corrections of clocks take posts of one ADJTIME or SETTIME, if no datagram outlives
 /// `LIFE`, even if datagrams are forged.
-#[tactic(auto, using(crate::proofs::OnceTakenProof::once_corrected))]
+#[tactic(auto, using(crate::proofs::promised::OnceTakenProof::once_corrected))]
 pub fn once_corrected()
     ensures { (setting : Setting) (world : List Line) → Fits setting world → Life world
         → OnceCorrected world }
@@ -86,7 +86,7 @@ pub fn once_corrected()
 
 /// No two corrections of clocks take posts of one send, whether it is a correction or a date that
 /// is passed on, if no datagram outlives `LIFE` and no peer's datagram is forged.
-#[tactic(auto, using(crate::proofs::OnceDatedProof::once_taken))]
+#[tactic(auto, using(crate::proofs::promised::OnceDatedProof::once_taken))]
 pub fn once_taken()
     ensures { (setting : Setting) (world : List Line) → Fits setting world → Honest world
         → Life world → OnceTaken world }
@@ -94,7 +94,7 @@ pub fn once_taken()
 
 /// A correction that was acknowledged was taken, if no peer's datagram is forged and none outlives
 /// `LIFE`. Two boots may have the same word, here and in all promises that compare clocks.
-#[tactic(auto, using(crate::proofs::OwnFitsProof::given, crate::proofs::ConfirmedProof::once_confirmed))]
+#[tactic(auto, using(crate::proofs::promised::OwnFitsProof::given, crate::proofs::promised::ConfirmedProof::once_confirmed))]
 pub fn once_confirmed()
     ensures { (setting : Setting) (world : List Line) → Fits setting world → Honest world
         → Life world → OnceConfirmed world }
@@ -103,14 +103,14 @@ pub fn once_confirmed()
 ghost use Rattle.tsp_promises.specs.Thrice.{Thrice};
 /// A numbered message is posted at most three times, the last time at most 4 s of its node's ticks
 /// after the first.
-#[tactic(auto, using(crate::proofs::ThriceProof::thrice))]
+#[tactic(auto, using(crate::proofs::promised::ThriceProof::thrice))]
 pub fn thrice()
     ensures { (setting : Setting) (world : List Line) → Fits setting world → Thrice world }
 {}
 
 /// A measurement ends an open exchange of the going round, and the error that it states is half of
 /// that round trip, rounded up to a microsecond.
-#[tactic(auto, using(crate::proofs::MeasuredProof::trips))]
+#[tactic(auto, using(crate::proofs::promised::MeasuredProof::trips))]
 pub fn measured_trips()
     ensures { (setting : Setting) (world : List Line) → Fits setting world → Trips world }
 {}
@@ -118,7 +118,7 @@ pub fn measured_trips()
 /// A measurement rests on a reply that its peer posted, and is wrong by at most the error that it
 /// states, if no peer's datagram is forged, and either no datagram outlives `LIFE` or no two boots
 /// of one node have the same word.
-#[tactic(auto, using(crate::proofs::MeasuredProof::measured))]
+#[tactic(auto, using(crate::proofs::promised::MeasuredProof::measured))]
 pub fn measured()
     ensures { (setting : Setting) (world : List Line) → Fits setting world → Honest world
         → Life world ⊎ OwnWords world → Measured setting world }
@@ -128,7 +128,7 @@ ghost use Rattle.tsp_promises.specs.Agreed.{Agreed, StayAgreed};
 /// An ADJTIME that a Close begins rests on a sample. Clocks that one Close corrected agree with one
 /// another and with the master's, within their errors and drift: at each act, and after each line
 /// as long as nothing more happens.
-#[tactic(auto, using(crate::proofs::AgreedProof::all_agreed))]
+#[tactic(auto, using(crate::proofs::promised::AgreedProof::all_agreed))]
 pub fn agreed()
     ensures at { (setting : Setting) (world : List Line) → Fits setting world → Honest world
         → Life world → Agreed setting world }
@@ -149,7 +149,7 @@ pub fn estimates_hold()
 ghost use Rattle.tsp_promises.specs.Seldom.{ErrsBounded};
 /// The error on which an ADJTIME rests is at most 4.5 s, half of the longest round, whatever is
 /// delivered.
-#[tactic(auto, using(crate::proofs::ErrsProof::errs_bounded))]
+#[tactic(auto, using(crate::proofs::promised::ErrsProof::errs_bounded))]
 pub fn errs_bounded()
     ensures { (setting : Setting) (world : List Line) → Fits setting world → ErrsBounded world }
 {}
@@ -162,7 +162,7 @@ ghost use Rattle.tsp_promises.specs.Moderate.{Moderate, ModerateClocks};
 /// a peer shows meets its clock within 8 s of its ticks, if nothing was left to slew before. If no
 /// peer's datagram is forged and none outlives `LIFE`, the master's clock then agrees with theirs,
 /// within 40 ms, the error and drift.
-#[tactic(auto, using(crate::proofs::ModerateProof::all_moderate))]
+#[tactic(auto, using(crate::proofs::promised::ModerateProof::all_moderate))]
 pub fn moderate()
     ensures moves { (setting : Setting) (world : List Line) → Fits setting world
         → Moderate setting world }
@@ -172,7 +172,7 @@ pub fn moderate()
 
 ghost use Rattle.tsp_promises.specs.Seldom.{Seldom};
 /// In one life of a node two rounds of one port close at least 239 s of its ticks apart.
-#[tactic(auto, using(crate::proofs::ErrsProof::seldom))]
+#[tactic(auto, using(crate::proofs::promised::ErrsProof::seldom))]
 pub fn seldom()
     ensures { (setting : Setting) (world : List Line) → Fits setting world → Seldom world }
 {}
@@ -182,7 +182,7 @@ ghost use Rattle.tsp_promises.specs.Throughout.{Throughout};
 /// were moved by since: then the clock of a node that a Close corrected and the clock of the master
 /// agree as they did. So the clocks themselves differ by at most those amounts besides. The same is
 /// so of two nodes that one Close corrected, whatever becomes of the master.
-#[tactic(auto, using(crate::proofs::OwnFitsProof::given, crate::proofs::AgreedProof::throughout))]
+#[tactic(auto, using(crate::proofs::promised::OwnFitsProof::given, crate::proofs::promised::AgreedProof::throughout))]
 pub fn throughout()
     ensures { (setting : Setting) (world : List Line) → Fits setting world → Honest world
         → Life world → Throughout setting world }
@@ -192,7 +192,7 @@ ghost use Rattle.tsp_promises.specs.OneError.{OneError};
 /// No error is corrected twice, whichever masters there are, if no peer's datagram is forged and
 /// none outlives `LIFE`. Each correction that a clock takes rests on a reading or a SLAVEUP, and
 /// from that to the Correct that takes it the node neither boots nor corrects its clock.
-#[tactic(auto, using(crate::proofs::OwnFitsProof::given, crate::proofs::OneErrorProof::one_error))]
+#[tactic(auto, using(crate::proofs::promised::OwnFitsProof::given, crate::proofs::promised::OneErrorProof::one_error))]
 pub fn one_error()
     ensures { (setting : Setting) (world : List Line) → Fits setting world → Honest world
         → Life world → OneError world }
@@ -202,7 +202,7 @@ ghost use Rattle.tsp_promises.specs.FirstSet.{FirstSet, FirstSetSoon};
 /// After a SETTIME a clock is behind its master's by the time since the SETTIME was first posted,
 /// give or take drift, even if datagrams are forged. If no datagram outlives `LIFE`, that is at
 /// most 34 s and drift.
-#[tactic(auto, using(crate::proofs::FirstSetProof::first_set, crate::proofs::FirstSetProof::first_set_soon))]
+#[tactic(auto, using(crate::proofs::promised::FirstSetProof::first_set, crate::proofs::promised::FirstSetProof::first_set_soon))]
 pub fn first_set()
     ensures at { (setting : Setting) (world : List Line) → Fits setting world
         → FirstSet setting world }
@@ -214,7 +214,7 @@ ghost use Rattle.tsp_promises.specs.Chained.{Chained};
 /// Clocks along chains of corrections agree: with the first master's, with those along another
 /// chain of the same Close, and, in a tree of gateways, any two of them. They differ by at most the
 /// errors of the readings on the path and drift.
-#[tactic(auto, using(crate::proofs::OwnFitsProof::given, crate::proofs::AgreedProof::chained))]
+#[tactic(auto, using(crate::proofs::promised::OwnFitsProof::given, crate::proofs::promised::AgreedProof::chained))]
 pub fn chained()
     ensures { (setting : Setting) (world : List Line) → Fits setting world → Honest world
         → Life world → Chained setting world }
@@ -223,7 +223,7 @@ pub fn chained()
 ghost use Rattle.tsp_promises.specs.Chained.{Relayed};
 /// A clock corrected by a master that was itself corrected agrees with the first master's, within
 /// both errors and drift: at each line, and after it as long as nothing more happens.
-#[tactic(auto, using(crate::proofs::OwnFitsProof::given, crate::proofs::AgreedProof::relayed))]
+#[tactic(auto, using(crate::proofs::promised::OwnFitsProof::given, crate::proofs::promised::AgreedProof::relayed))]
 pub fn relayed()
     ensures { (setting : Setting) (world : List Line) → Fits setting world → Honest world
         → Life world → Relayed setting world }
@@ -231,7 +231,7 @@ pub fn relayed()
 
 /// What a clock shows never falls between steps of it and boots, and its rate is off by at most one
 /// in two hundred, beside its node's drift, even if datagrams are forged.
-#[tactic(auto, using(crate::proofs::SteadyProof::steady))]
+#[tactic(auto, using(crate::proofs::promised::SteadyProof::steady))]
 pub fn runs_steadily()
     ensures { (setting : Setting) (world : List Line) → Fits setting world → Steady setting world }
 {}
@@ -242,14 +242,14 @@ ghost use Rattle.tsp_promises.specs.Shows.{Shows};
 /// the clock shows its new target; otherwise it shows what it showed before. So a trace can be
 /// checked: as long as a node doesn't boot, and none after the first is stepped, what two of its
 /// Corrects print differs by the ticks between them, give or take one in two hundred.
-#[tactic(auto, using(crate::proofs::AgreedShownProof::shows))]
+#[tactic(auto, using(crate::proofs::promised::AgreedShownProof::shows))]
 pub fn shows()
     ensures { (setting : Setting) (world : List Line) → Fits setting world → Shows world }
 {}
 
 /// What a clock shows meets its target: what is left to slew is less by a microsecond for each 200
 /// ticks. No deed can break this; it is how the shown value is defined.
-#[tactic(auto, using(crate::proofs::SteadyProof::meets))]
+#[tactic(auto, using(crate::proofs::promised::SteadyProof::meets))]
 pub fn meets_target()
     ensures { (world : List Line) → Meets world }
 {}
@@ -258,7 +258,7 @@ pub fn meets_target()
 /// same errors and drift, and what is still to be slewed on each. Any other bound of the clocks of
 /// two nodes that have booted bounds what they show likewise, and as closely once both show their
 /// targets, even if datagrams are forged.
-#[tactic(auto, using(crate::proofs::AgreedShownProof::all_shown))]
+#[tactic(auto, using(crate::proofs::promised::AgreedShownProof::all_shown))]
 pub fn agreed_shown()
     ensures clocks { (setting : Setting) (world : List Line) → Fits setting world → Honest world
         → Life world → AgreedShown setting world }
@@ -268,14 +268,14 @@ pub fn agreed_shown()
 
 /// Whoever waits for longer than what his clock and another show may differ knows that what the
 /// other shows then is later than what his own showed before.
-#[tactic(auto, using(crate::proofs::AgreedShownProof::waited))]
+#[tactic(auto, using(crate::proofs::promised::AgreedShownProof::waited))]
 pub fn stamps_in_order()
     ensures { (setting : Setting) (world : List Line) → Fits setting world → Waited setting world }
 {}
 
 /// A master that takes a QUIT of a peer, other than its own node, follows that peer at the end of
 /// that step: `heeded` says so of the Quits that it puts, `taken` of the QUITs that it takes.
-#[tactic(auto, using(crate::proofs::ResolvedProof::yields, crate::proofs::ResolvedProof::yields_taken))]
+#[tactic(auto, using(crate::proofs::promised::ResolvedProof::yields, crate::proofs::promised::ResolvedProof::yields_taken))]
 pub fn resolved_yields()
     ensures heeded { (setting : Setting) (world : List Line) → Fits setting world
         → Finished setting world → Yields world }
@@ -285,13 +285,13 @@ pub fn resolved_yields()
 
 ghost use Rattle.tsp_promises.specs.Resolved.{BecomesAfter};
 /// It comes to follow by a change of its role in that step, after the QUIT.
-#[tactic(auto, using(crate::proofs::ResolvedProof::becomes_after))]
+#[tactic(auto, using(crate::proofs::promised::ResolvedProof::becomes_after))]
 pub fn resolved_becomes()
     ensures { BecomesAfter }
 {}
 
 /// After a QUIT a port isn't a master again for `ELECT_MIN` ticks, 300 s.
-#[tactic(auto, using(crate::proofs::ResolvedProof::stays_quiet))]
+#[tactic(auto, using(crate::proofs::promised::ResolvedProof::stays_quiet))]
 pub fn resolved_stays_quiet()
     ensures { (setting : Setting) (world : List Line) → Fits setting world → StaysQuiet world }
 {}
@@ -299,7 +299,7 @@ pub fn resolved_stays_quiet()
 /// A master that finds rivals sends each of them a QUIT, when its alarm Resolve rings. At the end
 /// of the step in which the last rival takes its QUIT no rival is a master, if no datagram outlives
 /// `LIFE`.
-#[tactic(auto, using(crate::proofs::StopsProof::stops_leading))]
+#[tactic(auto, using(crate::proofs::promised::StopsProof::stops_leading))]
 pub fn resolved_stops()
     ensures { (setting : Setting) (world : List Line) → Fits setting world → Finished setting world
         → Life world → StopsLeading world }
@@ -309,7 +309,7 @@ ghost use Rattle.tsp_promises.specs.OneWinner.{OneWinner};
 /// In strict elections, where a candidate needs a majority, two wins of different nodes on one
 /// network are more than 50 s apart, if no peer's datagram is forged, no datagram outlives `LIFE`,
 /// and no port begins 32,768 sends with own numbers in one life of its node.
-#[tactic(auto, using(crate::proofs::OneWinnerProof::one_winner))]
+#[tactic(auto, using(crate::proofs::promised::OneWinnerProof::one_winner))]
 pub fn one_winner()
     ensures { (setting : Setting) (world : List Line) → setting.strict ≡ true → Fits setting world
         → Honest world → Life world → Few world → OneWinner setting world }
@@ -336,7 +336,7 @@ ghost use Rattle.tsp_promises.specs.RoundUses.{OrdinaryUse};
 /// No promise is empty: a history that fits and keeps the premises sees three nodes boot, one of
 /// them win an election, the others take a SETTIME each and acknowledge it, and a whole round that
 /// corrects both.
-#[tactic(auto, using(crate::proofs::WitnessUse::ordinary_use))]
+#[tactic(auto, using(crate::proofs::witness::WitnessUse::ordinary_use))]
 pub fn ordinary_use()
     ensures { OrdinaryUse }
 {}
@@ -344,7 +344,7 @@ pub fn ordinary_use()
 ghost use Rattle.tsp_promises.specs.RoundUses.{Relays};
 /// Nor are those of gateways: a history that fits sees a node of two ports that is corrected by one
 /// of them and corrects a third node by the other.
-#[tactic(auto, using(crate::proofs::WitnessChain::relays))]
+#[tactic(auto, using(crate::proofs::witness::WitnessChain::relays))]
 pub fn relayed_use()
     ensures { Relays }
 {}
@@ -352,7 +352,7 @@ pub fn relayed_use()
 ghost use Rattle.tsp_promises.specs.RoundUses.{ChainUse};
 /// Nor are those of chains: a history that fits sees a master correct a gateway, that one a second
 /// one, and that one a last node.
-#[tactic(auto, using(crate::proofs::WitnessChain::chain_use))]
+#[tactic(auto, using(crate::proofs::witness::WitnessChain::chain_use))]
 pub fn chain_use()
     ensures { ChainUse }
 {}
@@ -360,7 +360,7 @@ pub fn chain_use()
 ghost use Rattle.tsp_promises.specs.RoundUses.{RoundsUse};
 /// Nor is the promise that a round's bound outlasts later Corrects, nor that rounds are apart: a
 /// history that fits sees a second round of one life move both clocks of the first.
-#[tactic(auto, using(crate::proofs::WitnessRounds::rounds_use))]
+#[tactic(auto, using(crate::proofs::witness::WitnessRounds::rounds_use))]
 pub fn rounds_use()
     ensures { RoundsUse }
 {}
@@ -369,7 +369,7 @@ ghost use Rattle.tsp_promises.specs.RoundUses.{EndedUse, EstimatesUse};
 /// Nor is what estimates say: a history that fits sees a round that estimates two nodes, which
 /// nobody corrects until after its Close. Another one sees a Correct end a round that begins no
 /// ADJTIME, for want of an ACK.
-#[tactic(auto, using(crate::proofs::WitnessRounds::estimates_use, crate::proofs::WitnessRounds::ended_use))]
+#[tactic(auto, using(crate::proofs::witness::WitnessRounds::estimates_use, crate::proofs::witness::WitnessRounds::ended_use))]
 pub fn estimates_use()
     ensures begins { EstimatesUse }
     ensures ends { EndedUse }
@@ -379,7 +379,7 @@ ghost use Rattle.tsp_promises.specs.RoundUses.{ModerateUse};
 /// Nor is what is promised of a majority: a history that fits sees a round in which a master and a
 /// peer agree, and another peer seems to be a second off. The first two are moved by 51 and 50
 /// microseconds, the last one by a second.
-#[tactic(auto, using(crate::proofs::WitnessRounds::moderate_use))]
+#[tactic(auto, using(crate::proofs::witness::WitnessRounds::moderate_use))]
 pub fn moderate_use()
     ensures { ModerateUse }
 {}
@@ -387,7 +387,7 @@ pub fn moderate_use()
 ghost use Rattle.tsp_promises.specs.RoundUses.{SetUse};
 /// Nor are those of first settings and of single corrections: a history that fits sees a clock set
 /// by the answer to a SLAVEUP, and corrected by an ADJTIME that rests on a reading.
-#[tactic(auto, using(crate::proofs::WitnessUse::set_use))]
+#[tactic(auto, using(crate::proofs::witness::WitnessUse::set_use))]
 pub fn set_use()
     ensures { SetUse }
 {}
@@ -395,7 +395,7 @@ pub fn set_use()
 ghost use Rattle.tsp_promises.specs.RoundUses.{ShownUse};
 /// Nor are those of shown values: a history that fits sees a clock slewed until it meets its
 /// target, and a wait that is long enough.
-#[tactic(auto, using(crate::proofs::WitnessUse::shown_use))]
+#[tactic(auto, using(crate::proofs::witness::WitnessUse::shown_use))]
 pub fn shown_use()
     ensures { ShownUse }
 {}
@@ -403,7 +403,7 @@ pub fn shown_use()
 ghost use Rattle.tsp_promises.specs.RoundUses.{PrintsUse};
 /// Nor is the promise of what a Correct prints: a history that fits sees a clock set, and slewed by
 /// a later Correct of the same life.
-#[tactic(auto, using(crate::proofs::WitnessUse::prints_use))]
+#[tactic(auto, using(crate::proofs::witness::WitnessUse::prints_use))]
 pub fn prints_use()
     ensures { PrintsUse }
 {}
@@ -411,7 +411,7 @@ pub fn prints_use()
 ghost use Rattle.tsp_promises.specs.Uses.{QuietUse};
 /// Nor is the promise of silence after a boot: a history that fits sees a node answer in its quiet
 /// time, the `QUIET` ticks after its boot.
-#[tactic(auto, using(crate::proofs::WitnessRivals::quiet_use))]
+#[tactic(auto, using(crate::proofs::witness::WitnessRivals::quiet_use))]
 pub fn quiet_use()
     ensures { QuietUse }
 {}
@@ -419,7 +419,7 @@ pub fn quiet_use()
 ghost use Rattle.tsp_promises.specs.Uses.{ThriceUse};
 /// Nor is the promise of few posts: a history that fits sees a candidate ask a peer for its vote
 /// three times.
-#[tactic(auto, using(crate::proofs::WitnessRivals::thrice_use))]
+#[tactic(auto, using(crate::proofs::witness::WitnessRivals::thrice_use))]
 pub fn thrice_use()
     ensures { ThriceUse }
 {}
@@ -427,7 +427,7 @@ pub fn thrice_use()
 ghost use Rattle.tsp_promises.specs.Uses.{AnsweredUse};
 /// Nor is the promise of answers: a history that fits sees a port heed a QUIT, and a stranger
 /// answered.
-#[tactic(auto, using(crate::proofs::WitnessRivals::answered_use))]
+#[tactic(auto, using(crate::proofs::witness::WitnessRivals::answered_use))]
 pub fn answered_use()
     ensures { AnsweredUse }
 {}
@@ -435,7 +435,7 @@ pub fn answered_use()
 ghost use Rattle.tsp_promises.specs.Uses.{RivalsMeet};
 /// Nor are the promises of backings and of resolutions: a history that fits sees a node back two
 /// candidates, and a rival take the QUIT of a resolution and be master again after `ELECT_MIN`.
-#[tactic(auto, using(crate::proofs::WitnessRivals::rivals_meet))]
+#[tactic(auto, using(crate::proofs::witness::WitnessRivals::rivals_meet))]
 pub fn rivals_meet()
     ensures { RivalsMeet }
 {}
@@ -443,7 +443,7 @@ pub fn rivals_meet()
 ghost use Rattle.tsp_promises.specs.Uses.{StrictElections};
 /// Nor is the promise of strict elections empty: a history that fits sees two nodes win, one long
 /// after the other.
-#[tactic(auto, using(crate::proofs::WitnessRivals::strict_elections))]
+#[tactic(auto, using(crate::proofs::witness::WitnessRivals::strict_elections))]
 pub fn strict_elections()
     ensures { StrictElections }
 {}
@@ -451,7 +451,7 @@ pub fn strict_elections()
 ghost use Rattle.tsp_promises.specs.Uses.{DateUse, ForgedDate};
 /// A history that fits sees dates passed on and set, in two lives of a master. With forged octets
 /// between, one date is set twice, so `once_taken` needs its premise.
-#[tactic(auto, using(crate::proofs::WitnessDates::date_use, crate::proofs::WitnessDates::forged_date))]
+#[tactic(auto, using(crate::proofs::witness::WitnessDates::date_use, crate::proofs::witness::WitnessDates::forged_date))]
 pub fn dates_pass()
     ensures used { DateUse }
     ensures forged { ForgedDate }
@@ -461,7 +461,7 @@ ghost use Rattle.tsp_promises.specs.Uses.{MeasuresWrongly, SameWords};
 /// Two boots may have the same word: a history that fits sees a master boot again with its old word
 /// and close a round in each of its lives, each of which corrects a node. If a datagram outlives
 /// `LIFE` too, a measurement goes wrong, so `measured` needs one of the two premises.
-#[tactic(auto, using(crate::proofs::WitnessWords::same_words, crate::proofs::WitnessWords::measures_wrongly))]
+#[tactic(auto, using(crate::proofs::witness::WitnessWords::same_words, crate::proofs::witness::WitnessWords::measures_wrongly))]
 pub fn words_repeat()
     ensures used { SameWords }
     ensures late { MeasuresWrongly }
@@ -470,7 +470,7 @@ pub fn words_repeat()
 ghost use Rattle.tsp_promises.specs.Uses.{LateReply};
 /// A history that fits may bring a reply to a request of an earlier life. It ends no exchange, so a
 /// Sample of it would break a promise.
-#[tactic(auto, using(crate::proofs::WitnessWords::late_reply))]
+#[tactic(auto, using(crate::proofs::witness::WitnessWords::late_reply))]
 pub fn late_reply()
     ensures { LateReply }
 {}
@@ -479,14 +479,14 @@ ghost use Rattle.tsp_promises.specs.Uses.{WanderUse};
 /// Nothing asks that clocks are constant: a history that fits sees a counter gain on true time and
 /// lose it again before a round, and its node boot again with a wall clock that was set an hour
 /// ahead.
-#[tactic(auto, using(crate::proofs::WitnessClocks::wander_use))]
+#[tactic(auto, using(crate::proofs::witness::WitnessClocks::wander_use))]
 pub fn wander_use()
     ensures { WanderUse }
 {}
 
 ghost use Rattle.tsp_promises.specs.Broken.{AllBreak};
 /// Each promise says something: a small history breaks it.
-#[tactic(auto, using(crate::proofs::BrokenRounds::all_break))]
+#[tactic(auto, using(crate::proofs::witness::BrokenRounds::all_break))]
 pub fn promises_can_be_broken()
     ensures { AllBreak }
 {}

@@ -3,8 +3,8 @@ use Rattle.std.proofs.Common.{arith, subst, ◌≡◌, ◌+◌, ◌*◌, false, 
 use Rattle.tsp_rules.specs.Values.{Took, Post, Datagram, Message, Stamp, Good, Ack, Test, Nothing, Stranger, Reply}
 use Rattle.tsp_base.specs.Words.{Handed, Line, MessageValue, of, view}
 use Rattle.tsp_promises.specs.{Broken.breaks, Fits.node_of, Setting.Setting, Setting.setup_of}
-use Rattle.tsp_promises.proofs.BrokenRoles.{reply, same-datagram, tested}
-use Rattle.tsp_promises.proofs.Histories.{does, msg, still}
+use Rattle.tsp_promises.proofs.witness.BrokenRoles.{reply, same-datagram, tested}
+use Rattle.tsp_promises.proofs.witness.Histories.{does, msg, still}
 use Rattle.tsp_run.specs.{AnswerOctets.AnswerSized, AnswerOctets.SizeFits, AnswerOctetsBroken.AnswerOctetsBreak}
 
 -- a name of 64 octets

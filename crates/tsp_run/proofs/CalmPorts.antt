@@ -14,7 +14,7 @@ use Rattle.tsp_rules.proofs.BuiltAll.{BuiltAll, EachPort, EmptyAll, ForPorts, Mo
 use Rattle.tsp_rules.proofs.BuiltAll.{WhereAll}
 use Rattle.tsp_rules.proofs.BuiltPorts.{OwesStep, built_all_boots, built_all_turns, built_heeds}
 use Rattle.tsp_base.specs.Words.{view, is_going, Row, placed, sets_date, MessageValue, puts}
-use Rattle.tsp_promises.proofs.PortLists.{Ranged, listed_ranged}
+use Rattle.tsp_promises.proofs.shared.PortLists.{Ranged, listed_ranged}
 
 -- calm acts, each on one of so many ports
 abbrev pub AreCalm : Bool → ℕ → List Placed → Type 0

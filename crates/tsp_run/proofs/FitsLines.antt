@@ -2,7 +2,7 @@
 use Rattle.std.proofs.Common.{sym, ap, subst, inl, inr, arith, eq-eqb, eqb-true, ◌≡◌, ◌⊎◌, ℕ, ◌+◌, ◌<◌, ◌≤◌, ◌^◌, ◌==◌, ◌||◌, Bool, true, false, if◌then◌else◌}
 use Rattle.std.proofs.Common.{List, [], ◌∷◌, length, refl}
 use Rattle.std.proofs.lemmas.Bool.{cases_lt}
-use Rattle.tsp_promises.proofs.{StepChecks.Empty, StepChecks.far-deed, StepChecks.far-ends, SendPlaces.posted-mono}
+use Rattle.tsp_promises.proofs.{witness.StepChecks.Empty, witness.StepChecks.far-deed, witness.StepChecks.far-ends, shared.SendPlaces.posted-mono}
 use Rattle.tsp_promises.specs.{DeedFits.ActFits, StepFacts.StepEnds}
 use Rattle.tsp_promises.specs.{PortFits.PortFits, Setting.Setting, Setting.setup_of, Fits.Alive, Fits.TookFits, Fits.LineFits, Fits.Fits}
 use Rattle.tsp_rules.specs.Values.{Act, Boot, Took, Post, Placed, Taken, Place, Port}

@@ -3,7 +3,7 @@ use Rattle.std.proofs.Common.{sym, subst, arith, inl, inr, ℕ, ◌≤◌, lengt
 use Rattle.std.proofs.lemmas.{Bool.cases_lt, List.get_or_past, List.Elements.All-weaker}
 use Rattle.tsp_rules.specs.Values.{NodeLine}
 use Rattle.tsp_base.specs.Words.{HeaderValue, IsHeader, IsName, KeepsDrift}
-use Rattle.tsp_promises.proofs.SoundFacts.{no_name}
+use Rattle.tsp_promises.proofs.leads.SoundFacts.{no_name}
 use Rattle.tsp_run.specs.{Clocked.IsSetUp, Setup.node_line, Setup.nobody}
 
 -- no node's clock passes the drift

@@ -4,7 +4,7 @@ use Rattle.std.proofs.Common.{List, [], ◌∷◌, length, Option, None, Some, s
 use Rattle.std.proofs.{lemmas.Bool.ne_eqb, lemmas.List.Sums.sum_by-append}
 use Rattle.tsp_rules.specs.{Values.Place, Values.Peer, Values.Stranger, Values.Port, NodeRows.PortSetup, NodeRows.no_port}
 use Rattle.tsp_base.specs.Words.{HeaderValue, IsHeader, has_member, nets_with, is_among, peer_of}
-use Rattle.tsp_promises.{proofs.Histories.alone, specs.Setting.Alone}
+use Rattle.tsp_promises.{proofs.witness.Histories.alone, specs.Setting.Alone}
 use Rattle.tsp_run.specs.Networks.{numbers_below, networks, networks_among, peers_on, port_on, ports_on, network_from, network_at, port_from, port_at}
 use Rattle.tsp_run.specs.Networks.{address_at, address_of, room}
 use Rattle.tsp_run.specs.{Setting.members_of, Setting.named_or, Setting.network_of, declared.address.Address.Address}

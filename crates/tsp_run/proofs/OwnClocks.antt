@@ -9,7 +9,7 @@ use Rattle.tsp_run.specs.{declared.arrival.Arrival.Arrival, Networks.networks, P
 use Rattle.tsp_run.specs.{Premised.IsPrompt, Premised.KeptByText, Premised.Prompt, Premised.own_posts, Refusals.Scene, Refusals.impossible}
 use Rattle.tsp_run.specs.{Setting.SetBy, Setup.node_line}
 use Rattle.tsp_run.proofs.{HeaderLines.rate-node_line, HeaderLines.set_up_of}
-use Rattle.tsp_promises.{proofs.Rates.keeps_time, specs.Everywhere.Everywhere, specs.Fits.node_of, specs.Setting.Setting}
+use Rattle.tsp_promises.{proofs.shared.Rates.keeps_time, specs.Everywhere.Everywhere, specs.Fits.node_of, specs.Setting.Setting}
 use Rattle.tsp_promises.specs.Premises.{Few, Honest, Life, NamesApart, OwnWords, Words}
 
 reaches-same : (header : HeaderValue) (history : List Line) (at k : ℕ) (o : Option Arrival) →

@@ -10,9 +10,9 @@ use Rattle.tsp_base.specs.Words.{lives, time_of, up, posted, peer_of}
 use Rattle.tsp_base.proofs.PlaceLemmas.{Within-all}
 use Rattle.tsp_promises.specs.{Fits.Finished, Fits.Fits, Fits.TookFits, Sound.IsSound, Sound.IsSoundDeed, StepFacts.StepEnds}
 use Rattle.tsp_promises.specs.{PortFits.PortFits, PortFits.setup_in, Setting.Alone, Setting.Named, Setting.Setting, Setting.setup_of}
-use Rattle.tsp_promises.proofs.{NodeLeads.begins_all, NodeLeads.boots_all_lead, GateLeads.GivenOn, GateLeads.answers_all_lead}
-use Rattle.tsp_promises.proofs.{Known.Ended, Known.Fresh, Clocks.tick-mono}
-use Rattle.tsp_promises.proofs.{RunLeads.ends_of, RunLeads.ended_later, RunLeads.ended_seen, RunLeads.nothing-done, GateSteps.AllPorts}
+use Rattle.tsp_promises.proofs.{leads.NodeLeads.begins_all, leads.NodeLeads.boots_all_lead, leads.GateLeads.GivenOn, leads.GateLeads.answers_all_lead}
+use Rattle.tsp_promises.proofs.{leads.Known.Ended, leads.Known.Fresh, shared.Clocks.tick-mono}
+use Rattle.tsp_promises.proofs.{leads.RunLeads.ends_of, leads.RunLeads.ended_later, leads.RunLeads.ended_seen, leads.RunLeads.nothing-done, leads.GateSteps.AllPorts}
 use Rattle.tsp_codec.specs.{Canon.canon, Taken.taken_of}
 use Rattle.tsp_run.specs.Networks.{networks, network_from, ports_on, address_of, room}
 use Rattle.tsp_run.specs.Clocked.{ClockedRunsFit, Clocks, IsSetUp, PossibleBy, SetByClocks, boot_by, clocks_of, reaches_by, run_by, scene_by, steps_by, tick_by}

@@ -11,7 +11,7 @@ use Rattle.tsp_run.proofs.{RunFits.clocked_runs_fit, PromptRun.prompt-life, Seal
 use Rattle.tsp_run.proofs.{ShortRun.own-few, ShortRun.short-few, EachLine.IsCause, EachLine.each_event, EachLine.each-stepped}
 use Rattle.tsp_run.proofs.{PossibleRun.accepted-possible, PossibleRun.possible_before, RefusalLemmas.can_happen, RefusalLemmas.up-down}
 use Rattle.tsp_run.proofs.HappensBy.{boot_acts, steps-are, acts_by, takes-or, taking, taking_row, taking_step, got_acts}
-use Rattle.tsp_promises.{proofs.WordsProof.own_words, specs.Everywhere.Everywhere, proofs.EverywhereLemmas.Everywhere-at}
+use Rattle.tsp_promises.{proofs.promised.WordsProof.own_words, specs.Everywhere.Everywhere, proofs.shared.EverywhereLemmas.Everywhere-at}
 use Rattle.tsp_promises.specs.{Fits.node_of, Setting.Setting}
 use Rattle.tsp_promises.specs.Premises.{Words, WordsAt, NamesApart, Honest, HonestAt}
 use Rattle.tsp_rules.specs.Values.{Act, Boot, Placed, Event, BootAt, Turn, Take, Bytes, Took, Peer}

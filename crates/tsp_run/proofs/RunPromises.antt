@@ -4,12 +4,12 @@ use Rattle.std.proofs.Common.{subst, sym, ◌≡◌, ℕ, List, ◌∷◌, Some,
 use Rattle.std.proofs.lemmas.Bool.{le-leb, lt-leb}
 use Rattle.tsp_rules.specs.Values.{Good, Event, LIFE, Datagram, Message, Stamp, Request, Reply}
 use Rattle.tsp_base.specs.Words.{HeaderValue, Line, Seen, of, view, MessageValue, Setup}
-use Rattle.tsp_promises.proofs.EverywhereLemmas.{Everywhere-from, Everywhere-within, Everywhere-at}
+use Rattle.tsp_promises.proofs.shared.EverywhereLemmas.{Everywhere-from, Everywhere-within, Everywhere-at}
 use Rattle.tsp_promises.specs.{Premises.FewAt, Premises.HonestAt, Premises.TakenWithinAt, Dated.Dated, Dated.DateConfirmedAt, Dated.SetsAt}
-use Rattle.tsp_promises.{specs.Answered.AnswersWith, specs.Answered.StrangersAt, proofs.ConfirmedDate.date_confirmed, proofs.SafeProof.safe}
-use Rattle.tsp_promises.{proofs.OneWinnerProof.one_winner, specs.Setting.Setting, specs.Setting.setup_of, proofs.OnceObeyedProof.sets_at}
-use Rattle.tsp_promises.{specs.Everywhere.Everywhere, proofs.ChainProof.looped_in, proofs.OwnFitsProof.fits_at, specs.DeedFits.answer_name}
-use Rattle.tsp_promises.{proofs.LookedProof.looked, specs.Fits.Fits, specs.Fits.node_of}
+use Rattle.tsp_promises.{specs.Answered.AnswersWith, specs.Answered.StrangersAt, proofs.promised.ConfirmedDate.date_confirmed, proofs.promised.SafeProof.safe}
+use Rattle.tsp_promises.{proofs.promised.OneWinnerProof.one_winner, specs.Setting.Setting, specs.Setting.setup_of, proofs.promised.OnceObeyedProof.sets_at}
+use Rattle.tsp_promises.{specs.Everywhere.Everywhere, proofs.promised.ChainProof.looped_in, proofs.promised.OwnFitsProof.fits_at, specs.DeedFits.answer_name}
+use Rattle.tsp_promises.{proofs.promised.LookedProof.looked, specs.Fits.Fits, specs.Fits.node_of}
 use Rattle.tsp_codec.specs.{Canon.canon, Canon.written_size, Taken.taken_of}
 use Rattle.tsp_run.specs.{declared.posted.Posted.Posted, AnswerOctets.AnswerOctets, AnswerOctets.AnswerOctetsAt, AnswerOctets.SizeFits}
 use Rattle.tsp_run.specs.{Ranges.Accepted, Run.last_at, Run.posts, Run.run}

@@ -1,6 +1,6 @@
 -- Clocks that keep a header's drift have a setting, and so every header has one.
 use Rattle.std.specs.Prelude.{refl}
-use Rattle.tsp_promises.proofs.Rates.{keeps_time}
+use Rattle.tsp_promises.proofs.shared.Rates.{keeps_time}
 use Rattle.tsp_run.specs.{Clocked.ClocksAreSet, Clocked.clocks_of, Networks.networks, Setting.EachIsSet, Setting.members_of, Setting.network_of}
 use Rattle.tsp_run.specs.{Setup.node_line}
 use Rattle.tsp_run.proofs.{HeaderLines.rate-node_line, HeaderLines.set_up_of, NetworkLemmas.own_member, NetworkLemmas.ports_apart, OwnClocks.set_back}

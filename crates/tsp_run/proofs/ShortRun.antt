@@ -6,7 +6,7 @@ use Rattle.tsp_rules.specs.Values.{Boot, Post, Message, Kind, Ack, Conflict, Dat
 use Rattle.tsp_base.specs.Words.{MessageValue, Setup, Acts, Deed, Did, Line, Seen, Here, Elsewhere, is_shared, of, seen_as, view, acting, begun, begun_after}
 use Rattle.tsp_base.specs.Words.{has_own_number}
 use Rattle.tsp_promises.specs.{DeedFits.DeedFits, DeedFits.MessageFits, DeedFits.PostFits, DeedFits.StrangerFits, Everywhere.Everywhere}
-use Rattle.tsp_promises.{specs.Setting.Setting, specs.Setting.setup_of, proofs.OwnFitsProof.port_fits, specs.Fits.Fits, specs.Fits.node_of}
+use Rattle.tsp_promises.{specs.Setting.Setting, specs.Setting.setup_of, proofs.promised.OwnFitsProof.port_fits, specs.Fits.Fits, specs.Fits.node_of}
 use Rattle.tsp_promises.specs.{PortFits.PortFits, Premises.Few}
 use Rattle.tsp_run.specs.{Premised.own_posts, Premised.own_posts_after, Run.posted_in, Run.posts}
 

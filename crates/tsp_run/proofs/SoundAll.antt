@@ -15,8 +15,8 @@ use Rattle.tsp_base.specs.Words.{Step, Acts, Line, dids, is_shared, plain, seen_
 use Rattle.tsp_base.specs.Words.{first_port, carries_time, carries_hops, MessageValue, body_fits, word_after, puts}
 use Rattle.tsp_base.proofs.Views.{plain_view}
 use Rattle.tsp_promises.specs.Sound.{IsSoundAct, IsSoundDeed, AreSound, SoundPast, IsSound, IsSoundBody, IsSoundTaken}
-use Rattle.tsp_promises.proofs.{GateSteps.LeadsAll, GateSteps.All_after, PortLists.Ranged, PortLists.listed_ranged, SoundFacts.Soundly}
-use Rattle.tsp_promises.proofs.{SoundBuilt.sound_built, SoundBuilt.ranges_owed, SoundBuilt.taken_ranges, SoundSteps.acts_sound}
+use Rattle.tsp_promises.proofs.{leads.GateSteps.LeadsAll, leads.GateSteps.All_after, shared.PortLists.Ranged, shared.PortLists.listed_ranged, leads.SoundFacts.Soundly}
+use Rattle.tsp_promises.proofs.{leads.SoundBuilt.sound_built, leads.SoundBuilt.ranges_owed, leads.SoundBuilt.taken_ranges, leads.SoundSteps.acts_sound}
 
 -- each deed of a node is sound
 abbrev pub AreSoundLines : List Line → Type 0

@@ -13,7 +13,7 @@ use Rattle.tsp_run.specs.Premised.{AllBootOtherwise, Apart, BootsOtherwise, IsAp
 use Rattle.tsp_run.{proofs.RunPremises.runs_keep_premises, proofs.RunPromises.runs-keep-promises, specs.declared.posted.Posted.Posted}
 use Rattle.tsp_run.{proofs.SealedRun.accepted_before, specs.Ranges.Accepted, specs.Run.posts, specs.Run.run, specs.Setting.SetBy}
 use Rattle.tsp_promises.specs.{Premises.Honest, Premises.Life, Premises.Words, Safe.Safe, Setting.Setting}
-use Rattle.tsp_promises.proofs.WordsProof.{own_words}
+use Rattle.tsp_promises.proofs.promised.WordsProof.{own_words}
 use Rattle.tsp_audit.proofs.laws.runs_hold.Goals as goal
 use Rattle.tsp_rules.specs.Values.{Event, BootAt, Take, Bytes, Peer, LIFE}
 

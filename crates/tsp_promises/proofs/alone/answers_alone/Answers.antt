@@ -1,5 +1,5 @@
 use Rattle.tsp_rules.specs.NodeRows.{in_node_step}
-use Rattle.tsp_promises.{specs.NodeRuns.NodeAnswers, specs.NodeRuns.node_ran, proofs.AloneLemmas.same_answers, proofs.NodeLeads.fresh_alone}
+use Rattle.tsp_promises.{specs.NodeRuns.NodeAnswers, specs.NodeRuns.node_ran, proofs.shared.AloneLemmas.same_answers, proofs.leads.NodeLeads.fresh_alone}
 use Rattle.tsp_promises.proofs.alone.answers_alone.Goals as goal
 
 pub returns : goal.returns

@@ -1,4 +1,4 @@
-use Rattle.tsp_promises.proofs.AloneLemmas.{same_boots}
+use Rattle.tsp_promises.proofs.shared.AloneLemmas.{same_boots}
 use Rattle.tsp_promises.proofs.alone.boots_alone.Goals as goal
 
 pub returns : goal.returns

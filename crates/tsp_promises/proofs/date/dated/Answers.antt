@@ -1,9 +1,9 @@
 -- As it is proved of each place.
 use Rattle.std.specs.Prelude.{◌∷◌}
 use Rattle.tsp_rules.specs.Values.{LIFE}
-use Rattle.tsp_promises.proofs.{OwnFitsProof.fits_at, OnceObeyedProof.sets_at}
+use Rattle.tsp_promises.proofs.{promised.OwnFitsProof.fits_at, promised.OnceObeyedProof.sets_at}
 use Rattle.tsp_promises.specs.{Dated.DateConfirmedAt, Dated.SetsAt, Premises.FewAt, Premises.HonestAt, Premises.TakenWithinAt}
-use Rattle.tsp_promises.proofs.{ConfirmedDate.date_confirmed, EverywhereLemmas.Everywhere-from, EverywhereLemmas.Everywhere-within}
+use Rattle.tsp_promises.proofs.{promised.ConfirmedDate.date_confirmed, shared.EverywhereLemmas.Everywhere-from, shared.EverywhereLemmas.Everywhere-within}
 use Rattle.tsp_promises.proofs.date.dated.Goals as goal
 
 pub returns : goal.returns

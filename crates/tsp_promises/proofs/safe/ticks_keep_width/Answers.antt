@@ -1,6 +1,6 @@
 use Rattle.std.proofs.Common.{arith}
 use Rattle.tsp_base.proofs.TickLemmas.{tick_at-width}
-use Rattle.tsp_promises.proofs.Rates.{keeps_time}
+use Rattle.tsp_promises.proofs.shared.Rates.{keeps_time}
 use Rattle.tsp_promises.proofs.safe.ticks_keep_width.Goals as goal
 
 pub returns-clause-any : goal.returns-clause-any

@@ -1,6 +1,6 @@
 use Rattle.std.proofs.Common.{◌≡◌, ◌<◌, ◌≤◌, ℕ, arith, List, length, get_or, vec_len, vec_capacity, sym}
 use Rattle.std.proofs.lemmas.List.{take_all}
-use Rattle.tsp_promises.{proofs.EverywhereLemmas.Everywhere-within, specs.Agreed.AgreedAt, specs.Fits.node_of}
+use Rattle.tsp_promises.{proofs.shared.EverywhereLemmas.Everywhere-within, specs.Agreed.AgreedAt, specs.Fits.node_of}
 use Rattle.tsp_history.specs.{Histories.history_of, declared.line.HistoryLine.HistoryLine}
 use Rattle.tsp_audit.specs.Agreeing.{SettledAt}
 use Rattle.tsp_audit.proofs.{Prefixes.at-line, Prefixes.one-more, SettleLemmas.agreement-settled, SettleLemmas.still-settled}

@@ -1,7 +1,7 @@
 -- One port after the other.
 use Rattle.std.proofs.Common.{◌≡◌, ◌<◌, ◌∙◌, arith, length, refl, rules, subst, sym, vec_len}
 use Rattle.tsp_rules.specs.NodeRows.{abandons_on}
-use Rattle.tsp_gateway.proofs.{AnyLemmas.places, LoopLemmas.last_port, LoopLemmas.next_port, LoopLemmas.no_port, LoopLemmas.upset_all}
+use Rattle.tsp_gateway.proofs.{AnyLemmas.places, PortsInTurn.last_port, PortsInTurn.next_port, PortsInTurn.no_port, PortsInTurn.upset_all}
 use Rattle.tsp_gateway.proofs.gateway.Gateway.abandon_each.Goals.{then-is_upset, else-is_upset}
 use Rattle.tsp_gateway.proofs.gateway.Gateway.abandon_each.Goals as goal
 

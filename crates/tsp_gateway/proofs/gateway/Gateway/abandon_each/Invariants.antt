@@ -3,7 +3,7 @@ use Rattle.std.specs.Prelude.{◌≡◌, ℕ, List, length}
 use Rattle.tsp_base.specs.Words.{PutsAtMost}
 use Rattle.tsp_rules.specs.{NodePerforms.PerformsAll, NodeRows.abandons_on, NodeRows.for_ports, Values.Placed}
 use Rattle.tsp_gateway.specs.{GatewayStands.GatewayStands, GatewayStands.clock_at, Rooms.ports_in, declared.gateway.Gateway.Gateway}
-use Rattle.tsp_gateway.proofs.LoopLemmas.{left}
+use Rattle.tsp_gateway.proofs.PortsInTurn.{left}
 use Rattle.tsp_gateway.proofs.gateway.Gateway.abandon_each.Given as goal
 
 abbrev pub invariant-loop-r : goal.invariant-loop-r

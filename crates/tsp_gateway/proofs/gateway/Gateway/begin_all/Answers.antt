@@ -1,7 +1,7 @@
 -- One port after the other.
 use Rattle.std.proofs.Common.{◌≡◌, ◌<◌, ◌∙◌, arith, length, refl, rules, subst, sym, true, vec_len}
 use Rattle.tsp_rules.specs.{GateRows.all_ports, GateRows.boots_on, NodeRows.for_ports, NodeRows.reading_all}
-use Rattle.tsp_gateway.proofs.{AnyLemmas.places, LiftLemmas.All_same, LoopLemmas.last_port, LoopLemmas.next_port, LoopLemmas.upset_all}
+use Rattle.tsp_gateway.proofs.{AnyLemmas.places, LiftLemmas.All_same, PortsInTurn.last_port, PortsInTurn.next_port, PortsInTurn.upset_all}
 use Rattle.tsp_gateway.proofs.gateway.Gateway.begin_all.Goals as goal
 
 pub loop-q-init : goal.loop-q-init

@@ -3,7 +3,7 @@ use Rattle.std.specs.Prelude.{◌≡◌, ◌*◌, List, length, true}
 use Rattle.tsp_base.specs.Words.{PutsAtMost}
 use Rattle.tsp_rules.specs.{GateRows.boots_on, NodePerforms.PerformsAll, NodeRows.for_ports, Values.Placed}
 use Rattle.tsp_gateway.specs.{GatewayStands.GatewayStands, GatewayStands.clock_at, Rooms.ports_in, declared.gateway.Gateway.Gateway}
-use Rattle.tsp_gateway.proofs.LoopLemmas.{left}
+use Rattle.tsp_gateway.proofs.PortsInTurn.{left}
 use Rattle.tsp_gateway.proofs.gateway.Gateway.begin_all.Given as goal
 
 abbrev pub invariant-loop-q : goal.invariant-loop-q

@@ -3,7 +3,7 @@ use Rattle.std.proofs.Common.{◌≡◌, ◌<◌, arith, false, length, refl, ru
 use Rattle.std.proofs.lemmas.Bool.{ne_eqb}
 use Rattle.tsp_rules.specs.{GateRows.forwards, GateRows.reposts_on, NodeRows.reading_all}
 use Rattle.tsp_gateway.{proofs.AnyLemmas.places, proofs.LiftLemmas.All_same, proofs.LiftLemmas.ports_many, specs.GatewayStands.port_at, specs.Rooms.ports_in}
-use Rattle.tsp_gateway.proofs.LoopLemmas.{last_port, next_port, no_port, upset_all}
+use Rattle.tsp_gateway.proofs.PortsInTurn.{last_port, next_port, no_port, upset_all}
 use Rattle.tsp_gateway.proofs.RoomLemmas.{no_peers, peers_few, peers_more, peers_next}
 use Rattle.tsp_gateway.proofs.gateway.Gateway.forward.Goals as goal
 use Rattle.tsp_gateway.proofs.gateway.Gateway.forward.Goals.{then-r-q, else-r-q}

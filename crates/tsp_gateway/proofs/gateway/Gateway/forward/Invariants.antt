@@ -3,7 +3,7 @@ use Rattle.std.specs.Prelude.{ℕ, List, length, false}
 use Rattle.tsp_base.specs.Words.{PutsAtMost}
 use Rattle.tsp_rules.specs.{GateRows.reposts_on, NodePerforms.PerformsAll, NodeRows.for_ports, Values.Placed}
 use Rattle.tsp_gateway.specs.{GatewayStands.GatewayStands, Rooms.ports_in, declared.gateway.Gateway.Gateway}
-use Rattle.tsp_gateway.proofs.{LoopLemmas.left, RoomLemmas.peers_below}
+use Rattle.tsp_gateway.proofs.{PortsInTurn.left, RoomLemmas.peers_below}
 use Rattle.tsp_gateway.proofs.gateway.Gateway.forward.Given as goal
 
 abbrev pub invariant-loop-r : goal.invariant-loop-r

@@ -4,7 +4,7 @@ use Rattle.tsp_rules.specs.{GateRows.all_ports, GateRows.turns_on, NodeRows.for_
 use Rattle.tsp_gateway.specs.{GatewayStands.GatewayTurning, Rooms.peers_at, Rooms.ports_in, Rooms.turn_room}
 use Rattle.tsp_gateway.proofs.{TurnLemmas.idle_waits, LiftLemmas.All_same, LiftLemmas.ports_many}
 use Rattle.tsp_gateway.proofs.{AnyLemmas.places, RoomLemmas.no_turns, RoomLemmas.turns_few, RoomLemmas.turns_more, RoomLemmas.turns_next}
-use Rattle.tsp_gateway.proofs.LoopLemmas.{last_port, next_port, upset_all}
+use Rattle.tsp_gateway.proofs.PortsInTurn.{last_port, next_port, upset_all}
 use Rattle.tsp_gateway.proofs.gateway.Gateway.turn_ports.Goals as goal
 use Rattle.tsp_gateway.proofs.gateway.Gateway.turn_ports.Goals.{then-not-is_idle, else-not-is_idle}
 

@@ -3,7 +3,7 @@ use Rattle.std.specs.Prelude.{◌≡◌, ◌≤◌, List, length, true}
 use Rattle.tsp_base.specs.Words.{PutsAtMost}
 use Rattle.tsp_rules.specs.{GateRows.turns_on, NodePerforms.PerformsAll, NodeRows.for_ports, Values.Placed}
 use Rattle.tsp_gateway.specs.GatewayStands.{GatewayBegun, GatewayStands, GatewayTurning, clock_at}
-use Rattle.tsp_gateway.{proofs.LoopLemmas.left, proofs.RoomLemmas.turns_below, specs.Rooms.ports_in, specs.declared.gateway.Gateway.Gateway}
+use Rattle.tsp_gateway.{proofs.PortsInTurn.left, proofs.RoomLemmas.turns_below, specs.Rooms.ports_in, specs.declared.gateway.Gateway.Gateway}
 use Rattle.tsp_gateway.proofs.gateway.Gateway.turn_ports.Given as goal
 
 abbrev pub invariant-loop-q : goal.invariant-loop-q

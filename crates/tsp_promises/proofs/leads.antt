@@ -1,0 +1,26 @@
+-- Why each row keeps what is known of a port.
+pub mod AlarmLeads
+pub mod AlarmTable
+pub mod AnswerLeads
+pub mod Changes
+pub mod CloseLeads
+pub mod CommonLeads
+pub mod CorrectionLeads
+pub mod DateLeads
+pub mod Elsewheres
+pub mod GateLeads
+pub mod GateSteps
+pub mod HeedLeads
+pub mod Known
+pub mod Leaves
+pub mod LoopLeads
+pub mod NodeLeads
+pub mod PostLeaves
+pub mod RoleLeads
+pub mod RoundLeads
+pub mod RunLeads
+pub mod SlaveLeads
+pub mod SoundBuilt
+pub mod SoundFacts
+pub mod SoundSteps
+pub mod TakenLeads
