@@ -7,12 +7,12 @@ use Rattle.tsp_base.specs.Words.{Deed, Acts, Step, Past, Seen, Here, Elsewhere, 
 use Rattle.tsp_base.specs.Words.{has_own_number, is_given_up, is_numbered, message_at, message_of, open_send, open_to, open_to_after, posts_of, Sending}
 use Rattle.tsp_base.specs.Words.{sending_at, sending_of}
 use Rattle.tsp_base.proofs.PerformsLemmas.{Performs_else_part, Performs_reading, Performs_then_part}
-use Rattle.tsp_base.proofs.SendLemmas.{seen_act, open_send-gave, open_send-repeats}
+use Rattle.tsp_base.proofs.SendLemmas.{seen_act, open_send_gave, open_send_repeats}
 use Rattle.tsp_rules.specs.SendRows.{bare_send, is_send_due, is_spent, open_at, repeats, repeats_bare_send}
 use Rattle.tsp_sends.specs.declared.due.Due.TheVariants.{Again, Gave as GaveUp}
 use Rattle.tsp_sends.specs.{Slots.peers_of, Slots.sending_to, Slots.SetsOnly, declared.due.Due.Due, declared.slot.Slot.Slot}
 use Rattle.tsp_sends.specs.Repeating.{IsAfter, is_due_send, peer_of, repeated, RepeatsNext}
-use Rattle.tsp_sends.proofs.SlotLemmas.{sending_to-found}
+use Rattle.tsp_sends.proofs.SlotLemmas.{sending_to_found}
 use Rattle.tsp_acks.specs.{Changes.ChangesSends, Stands.StandsStill, declared.station.Station.Station}
 
 -- no message, or one that is a numbered send
@@ -20,34 +20,34 @@ abbrev IsNumbered : Option MessageValue → Type 0
 IsNumbered None = Unit {0}
 IsNumbered (Some m) = is_numbered m.kind ≡ true
 
-IsNumbered-after : (p : PeerId) (deed : Deed) (acts : Bool) (here was : List Seen) → message_at here ≡ message_of deed → IsNumbered (message_at was) →
+IsNumbered_after : (p : PeerId) (deed : Deed) (acts : Bool) (here was : List Seen) → message_at here ≡ message_of deed → IsNumbered (message_at was) →
     IsNumbered (message_at (open_to_after p deed acts here was))
-IsNumbered-after p (Acts Boot) acts here was is k = tt
-IsNumbered-after p (Acts (Become r)) acts here was is k = tt
-IsNumbered-after p (Acts (Post (Peer q) (Message m))) acts here was is k = by_test (q.0 == p.0) acts (is_numbered m.kind) refl where
+IsNumbered_after p (Acts Boot) acts here was is k = tt
+IsNumbered_after p (Acts (Become r)) acts here was is k = tt
+IsNumbered_after p (Acts (Post (Peer q) (Message m))) acts here was is k = by_test (q.0 == p.0) acts (is_numbered m.kind) refl where
   by_test : (b acts n : Bool) → is_numbered m.kind ≡ n → IsNumbered (message_at (if b && (n && acts) then here else was))
   by_test true true true e = rw is e
   by_test true false true e = k
   by_test true acts false e = k
   by_test false acts n e = k
-IsNumbered-after p (Acts (Acked q)) acts here was is k = by_test (q.0 == p.0) where
+IsNumbered_after p (Acts (Acked q)) acts here was is k = by_test (q.0 == p.0) where
   by_test : (b : Bool) → IsNumbered (message_at (if b then [] else was))
   by_test true = tt
   by_test false = k
-IsNumbered-after p (Acts (Gave q)) acts here was is k = by_test (q.0 == p.0) where
+IsNumbered_after p (Acts (Gave q)) acts here was is k = by_test (q.0 == p.0) where
   by_test : (b : Bool) → IsNumbered (message_at (if b then [] else was))
   by_test true = tt
   by_test false = k
-IsNumbered-after p _ acts here was is k = k
+IsNumbered_after p _ acts here was is k = k
 
-IsNumbered-place : (p : PeerId) (seen : List Seen) → IsNumbered (message_at (open_to p seen))
-IsNumbered-place p [] = tt
-IsNumbered-place p (Here d ∷ before) = IsNumbered-after p d.deed (acting before) (Here d ∷ before) (open_to p before) refl (IsNumbered-place p before)
-IsNumbered-place p (Elsewhere d ∷ before) = IsNumbered-place p before
+IsNumbered_place : (p : PeerId) (seen : List Seen) → IsNumbered (message_at (open_to p seen))
+IsNumbered_place p [] = tt
+IsNumbered_place p (Here d ∷ before) = IsNumbered_after p d.deed (acting before) (Here d ∷ before) (open_to p before) refl (IsNumbered_place p before)
+IsNumbered_place p (Elsewhere d ∷ before) = IsNumbered_place p before
 
 -- the message of an open send is a numbered one
-pub open_send-numbered : (p : PeerId) (seen : List Seen) (s : Sending) → open_send p seen ≡ Some s → is_numbered s.message.kind ≡ true
-open_send-numbered p seen s e = at_place (open_to p seen) (posts_of p seen) (IsNumbered-place p seen) e where
+pub open_send_numbered : (p : PeerId) (seen : List Seen) (s : Sending) → open_send p seen ≡ Some s → is_numbered s.message.kind ≡ true
+open_send_numbered p seen s e = at_place (open_to p seen) (posts_of p seen) (IsNumbered_place p seen) e where
   of_message : (m : Option MessageValue) (x n : ℕ) → IsNumbered m → sending_of m x n ≡ Some s → is_numbered s.message.kind ≡ true
   of_message None x n k e = let bad : ⊥ = cc in absurd bad
   of_message (Some m) x n k e = let same : m ≡ s.message = cc in rw (← same) k
@@ -71,7 +71,7 @@ StandsStill_gave p x past before after t count only h = record {
     role = t.role ∙ h.stands.role;
     alarms = t.alarms ∙ h.stands.alarms;
     hold = t.hold ∙ h.stands.hold;
-    sends = λ q. only q ∙ ap (λ o. if p.0 == q.0 then None else o) (h.stands.sends q) ∙ sym (open_send-gave past.step x q p past.seen);
+    sends = λ q. only q ∙ ap (λ o. if p.0 == q.0 then None else o) (h.stands.sends q) ∙ sym (open_send_gave past.step x q p past.seen);
     begun = count ∙ h.stands.begun;
     backers = t.backers ∙ h.stands.backers;
   };
@@ -79,17 +79,17 @@ StandsStill_gave p x past before after t count only h = record {
 }
 
 -- a repeat begins no send
-begun-repeats : (step : Step) (x : ℕ) (p : PeerId) (m : MessageValue) (seen : List Seen) → acting seen ≡ false →
+begun_repeats : (step : Step) (x : ℕ) (p : PeerId) (m : MessageValue) (seen : List Seen) → acting seen ≡ false →
     begun (seen_act step x (Post (Peer p) (Message m)) ∷ seen) ≡ begun seen
-begun-repeats step x p m seen still = rw (still, and-false (has_own_number m.kind)) refl
+begun_repeats step x p m seen still = rw (still, and-false (has_own_number m.kind)) refl
 
 -- the open send to p has one post more
-again-only : (p q : PeerId) (s : Sending) (was : Option Sending) (b : Bool) → (p.0 == q.0) ≡ b → (p ≡ q → was ≡ Some s) →
+again_only : (p q : PeerId) (s : Sending) (was : Option Sending) (b : Bool) → (p.0 == q.0) ≡ b → (p ≡ q → was ≡ Some s) →
     (if b then Some (record s { posts = s.posts + 1 }) else was) ≡ (if b then again was else was)
-again-only p q s was true e k =
+again_only p q s was true e k =
     let same : p ≡ q = ap (λ n. record { 0 = n }) (eqb-true p.0 q.0 e) in
     sym (ap again (k same))
-again-only p q s was false e k = refl
+again_only p q s was false e k = refl
 
 -- a send is posted again
 pub StandsStill_repeats : (p : PeerId) (s : Sending) (x : ℕ) (past : Past) (before after : Station) → sending_to before.sends p ≡ Some s →
@@ -110,11 +110,11 @@ StandsStill_repeats p s x past before after is t count only h =
         alarms = t.alarms ∙ h.stands.alarms;
         hold = t.hold ∙ h.stands.hold;
         sends = λ q.
-            only q ∙ again-only p q s (sending_to before.sends q) (p.0 == q.0) refl (λ same. ap (sending_to before.sends) (sym same) ∙ is)
+            only q ∙ again_only p q s (sending_to before.sends q) (p.0 == q.0) refl (λ same. ap (sending_to before.sends) (sym same) ∙ is)
             ∙ ap (λ o. if p.0 == q.0 then again o else o) (h.stands.sends q)
-            ∙ sym (open_send-repeats past.step x q p s.message past.seen (open_send-numbered p past.seen s open_is) h.still);
+            ∙ sym (open_send_repeats past.step x q p s.message past.seen (open_send_numbered p past.seen s open_is) h.still);
         backers = t.backers ∙ h.stands.backers;
-        begun = count ∙ h.stands.begun ∙ ap (λ n. n % 32768) (sym (begun-repeats past.step x p s.message past.seen h.still));
+        begun = count ∙ h.stands.begun ∙ ap (λ n. n % 32768) (sym (begun_repeats past.step x p s.message past.seen h.still));
       };
       still = h.still;
     }
@@ -124,15 +124,15 @@ abbrev pub act_of : Due → Act
 act_of (Again p m) = Post (Peer p) (Message m)
 act_of (GaveUp p k) = Gave p
 
-peer_of-repeated : (p : PeerId) (x : ℕ) (s : Sending) → peer_of (repeated p x s) ≡ p
-peer_of-repeated p x s = by_test (is_given_up s x) where
+peer_of_repeated : (p : PeerId) (x : ℕ) (s : Sending) → peer_of (repeated p x s) ≡ p
+peer_of_repeated p x s = by_test (is_given_up s x) where
   by_test : (b : Bool) → peer_of (if b then GaveUp p s.message.kind else Again p s.message) ≡ p
   by_test true = refl
   by_test false = refl
 
 has_slot : (slots : List Slot) (p : PeerId) (s : Sending) → sending_to slots p ≡ Some s → Contains (peers_of slots) p
 has_slot slots p s e =
-    let w = sending_to-found slots p s e in
+    let w = sending_to_found slots p s e in
     let d : Slot = record { peer = p; sending = None } in (
       w.0,
       omega (arith, w.1, length-map slots (λ (t : Slot). t.peer)),
@@ -144,7 +144,7 @@ has_slot slots p s e =
 pub next_peer : (after : Option PeerId) (x : ℕ) (slots new : List Slot) (due : Due) (peers : List PeerId) → RepeatsNext after x slots new (Some due) →
     peers_of slots ≡ peers → Contains peers (peer_of due) × IsAfter after (peer_of due)
 next_peer after x slots new due peers t slots_are =
-    let is : peer_of due ≡ t.0 = ap peer_of t.3 ∙ peer_of-repeated t.0 x t.1 in
+    let is : peer_of due ≡ t.0 = ap peer_of t.3 ∙ peer_of_repeated t.0 x t.1 in
     rw (is, ← slots_are) (has_slot slots t.0 t.1 t.2.sending, t.2.later)
 
 -- a due send is given up
@@ -178,7 +178,7 @@ pub Performs_due : (last : Option PeerId) (x : ℕ) (port : Port) (due : Due) (b
     → new ≡ old ++ record { port = port; act = act_of due } ∷ [] → Performs StandsStill StandsStill (bare_send (peer_of due)) x port before after old new
 Performs_due last x port due before after old new t rest count put = rw is (by_test (is_given_up t.1 x) refl t.3 t.4) where
   is : peer_of due ≡ t.0
-  is = ap peer_of t.3 ∙ peer_of-repeated t.0 x t.1
+  is = ap peer_of t.3 ∙ peer_of_repeated t.0 x t.1
 
   by_test : (b : Bool) → is_given_up t.1 x ≡ b → due ≡ (if b then GaveUp t.0 t.1.message.kind else Again t.0 t.1.message)
       → SetsOnly t.0 (if b then None else Some (record t.1 { posts = t.1.posts + 1 })) before.sends after.sends →
@@ -192,5 +192,5 @@ Performs_due last x port due before after old new t rest count put = rw is (by_t
 pub none_before : (after : Option PeerId) (x : ℕ) (slots new : List Slot) (due : Due) → RepeatsNext after x slots new (Some due) → (q : PeerId) →
     IsAfter after q → q.0 < (peer_of due).0 → is_due_send x (sending_to slots q) ≡ false
 none_before after x slots new due t q later below =
-    let is : peer_of due ≡ t.0 = ap peer_of t.3 ∙ peer_of-repeated t.0 x t.1 in
+    let is : peer_of due ≡ t.0 = ap peer_of t.3 ∙ peer_of_repeated t.0 x t.1 in
     t.2.first q later (rw (← is) below)

@@ -4,20 +4,20 @@ use Rattle.std.proofs.lemmas.Bool.{false≢true}
 use Rattle.tsp_rules.specs.Values.{Act, Took, Post, Close, Correct, Sample, Join, Leave, Rival, Trace, Message, Stamp, Kind, Conflict, Election, QuitKind}
 use Rattle.tsp_rules.specs.Values.{SetDateReq, PeerId, Place, Peer, Stranger, StampValue}
 use Rattle.tsp_base.specs.Words.{Step, Past, Seen, MessageValue, Keeps, bare, grown, post_of, puts, is_numbered, has_own_number, begun}
-use Rattle.tsp_base.proofs.SendLemmas.{seen_act, open_send-unnumbered}
+use Rattle.tsp_base.proofs.SendLemmas.{seen_act, open_send_unnumbered}
 use Rattle.tsp_acks.specs.{Stands.StationStands, declared.station.Station.Station}
 
 -- a message that isn't numbered has no number of the port's own
-own-unnumbered : (k : Kind) → is_numbered k ≡ false → has_own_number k ≡ false
-own-unnumbered Election n = absurd (false≢true (sym n))
-own-unnumbered Conflict n = absurd (false≢true (sym n))
-own-unnumbered QuitKind n = absurd (false≢true (sym n))
-own-unnumbered SetDateReq n = absurd (false≢true (sym n))
-own-unnumbered _ n = refl
+own_unnumbered : (k : Kind) → is_numbered k ≡ false → has_own_number k ≡ false
+own_unnumbered Election n = absurd (false≢true (sym n))
+own_unnumbered Conflict n = absurd (false≢true (sym n))
+own_unnumbered QuitKind n = absurd (false≢true (sym n))
+own_unnumbered SetDateReq n = absurd (false≢true (sym n))
+own_unnumbered _ n = refl
 
-begun-unnumbered : (step : Step) (x : ℕ) (to : Place) (m : MessageValue) (seen : List Seen) → is_numbered m.kind ≡ false →
+begun_unnumbered : (step : Step) (x : ℕ) (to : Place) (m : MessageValue) (seen : List Seen) → is_numbered m.kind ≡ false →
     begun (seen_act step x (Post to (Message m)) ∷ seen) ≡ begun seen
-begun-unnumbered step x to m seen n = rw (own-unnumbered m.kind n) refl
+begun_unnumbered step x to m seen n = rw (own_unnumbered m.kind n) refl
 
 -- the post of a message that is no numbered send
 pub Stands_post : (to : Place) (m : MessageValue) (x : ℕ) (past : Past) (station : Station) → is_numbered m.kind ≡ false → StationStands past station →
@@ -32,8 +32,8 @@ Stands_post to m x past station n s = record {
   role = s.role;
   alarms = s.alarms;
   hold = s.hold;
-  sends = λ p. s.sends p ∙ sym (open_send-unnumbered past.step x p to m past.seen n);
-  begun = s.begun ∙ ap (λ n. n % 32768) (sym (begun-unnumbered past.step x to m past.seen n));
+  sends = λ p. s.sends p ∙ sym (open_send_unnumbered past.step x p to m past.seen n);
+  begun = s.begun ∙ ap (λ n. n % 32768) (sym (begun_unnumbered past.step x to m past.seen n));
   backers = s.backers;
 }
 
@@ -70,11 +70,11 @@ Stands_stamp Stranger stamp x past station s = record {
 }
 
 -- posts of a message that is no numbered send
-pub Stands-posts : (kind : Kind) (number : ℕ) (name : List ℕ) (ps : List PeerId) (x : ℕ) (past : Past) (station : Station) →
+pub Stands_posts : (kind : Kind) (number : ℕ) (name : List ℕ) (ps : List PeerId) (x : ℕ) (past : Past) (station : Station) →
     is_numbered kind ≡ false → StationStands past station → StationStands (grown x past (map (post_of kind number name) ps)) station
-Stands-posts kind number name [] x past station n s = s
-Stands-posts kind number name (p ∷ ps) x past station n s =
-    Stands-posts kind number name ps x (grown x past (post_of kind number name p ∷ [])) station n (Stands_post (Peer p) (bare kind number name) x past station n
+Stands_posts kind number name [] x past station n s = s
+Stands_posts kind number name (p ∷ ps) x past station n s =
+    Stands_posts kind number name ps x (grown x past (post_of kind number name p ∷ [])) station n (Stands_post (Peer p) (bare kind number name) x past station n
     s)
 
 -- acts of other parts of a port

@@ -195,9 +195,9 @@ mapped_known m f k (p ∷ ps) known =
     All-cons (Knows m) (f p) (map f ps) (k p (All-head m.known p ps known)) (mapped_known m f k ps (All-tail m.known p ps known))
 
 -- estimates don't depend on what peers are called
-same-diffs : (n : Renaming) (round : List Standing) → near_diffs (map (renamed_standing n) round) ≡ near_diffs round
-same-diffs n [] = refl
-same-diffs n (s ∷ round) = ap (diff_before s.best) (same-diffs n round)
+same_diffs : (n : Renaming) (round : List Standing) → near_diffs (map (renamed_standing n) round) ≡ near_diffs round
+same_diffs n [] = refl
+same_diffs n (s ∷ round) = ap (diff_before s.best) (same_diffs n round)
 
-pub same-estimates : (n : Renaming) (round : List Standing) → estimates (map (renamed_standing n) round) ≡ estimates round
-same-estimates n round = ap (λ l. pos 0 ∷ l) (same-diffs n round)
+pub same_estimates : (n : Renaming) (round : List Standing) → estimates (map (renamed_standing n) round) ≡ estimates round
+same_estimates n round = ap (λ l. pos 0 ∷ l) (same_diffs n round)

@@ -26,18 +26,18 @@ use Rattle.tsp_alike.proofs.PortAlike.{Facts, facts_alike, role_alike, role_know
 use Rattle.tsp_alike.proofs.RoundsAlike.{request_open_alike, plain_alike, shown_alike, word_alike, target_alike, ticket_alike}
 use Rattle.tsp_alike.proofs.TestsAlike.{is_in_range_alike, may_set_alike, can_adjust_alike, due_stands, test_same}
 use Rattle.tsp_alike.proofs.ListsAlike.{list_known, Unnamed, list_same, open_send_renamed, open_send_unnamed, round_at_alike, round_at_known, acts_renamed}
-use Rattle.tsp_alike.proofs.ListsAlike.{mapped_known, same-estimates}
+use Rattle.tsp_alike.proofs.ListsAlike.{mapped_known, same_estimates}
 use Rattle.tsp_group.specs.{declared.group.Group.Group, Groups.group_of}
 
 -- how moving rows are put together
 
 module _ {m : Naming} where
-  added-alike : (s s' : Step) (x : ℕ) (acts : List Act) → All (Knows m) acts → {seen seen' : List Seen} → Alike m seen seen' →
+  added_alike : (s s' : Step) (x : ℕ) (acts : List Act) → All (Knows m) acts → {seen seen' : List Seen} → Alike m seen seen' →
       Alike m (added s x acts seen) (added s' (x + m.names.shift) (map (renamed_act m.names) acts) seen')
-  added-alike s s' x [] known a = a
-  added-alike s s' x (act ∷ acts) known a =
+  added_alike s s' x [] known a = a
+  added_alike s s' x (act ∷ acts) known a =
       let first = All-head (Knows m) act acts known in
-      added-alike s s' x acts (All-tail (Knows m) act acts known) (Own s s' x (Acts act) (later_known m act first) first a)
+      added_alike s s' x acts (All-tail (Knows m) act acts known) (Own s s' x (Acts act) (later_known m act first) first a)
 
   -- pasts to which acts were added that move are alike again
   pub grown_alike : (x : ℕ) (p q : Past) (acts acts' : List Act) → AlikePast m p q → MovesAt m acts acts' →
@@ -49,7 +49,7 @@ module _ {m : Naming} where
     strict = a.strict;
     stands = a.stands;
     seen = subst (λ l. Alike m (added p.step x acts p.seen) (added q.step (x + m.names.shift) l q.seen)) (sym k.same)
-        (added-alike p.step q.step x acts k.known a.seen);
+        (added_alike p.step q.step x acts k.known a.seen);
   }
 
   pub none_move : MovesAt m [] []
@@ -218,94 +218,94 @@ record Renamed (m : Naming) (r : PeerId) : Type 0 where
   pub is : r ≡ m.names.peer peer
 
 module _ {m : Naming} where
-  wakes-due : (alarm : Alarm) (x : ℕ) (p q : Past) → AlikePast m p q → is_due alarm x p ≡ true → Wakes m alarm
-  wakes-due Window x p q a e = due_stands a x e
-  wakes-due _ x p q a e = tt
+  wakes_due : (alarm : Alarm) (x : ℕ) (p q : Past) → AlikePast m p q → is_due alarm x p ≡ true → Wakes m alarm
+  wakes_due Window x p q a e = due_stands a x e
+  wakes_due _ x p q a e = tt
 
-  test-yes : {t t' : ℕ → Past → Bool} → (test : Test m t t') → (x : ℕ) (p q : Past) → AlikePast m p q → t x p ≡ true → yes test
-  test-yes (Due alarm) x p q a e = wakes-due alarm x p q a e
-  test-yes MayStand x p q a e = a.stands (and_parts p.may _ e).0
-  test-yes MayBeAsked x p q a e = a.stands (and_parts p.may _ (and_parts _ (may_stand_at x p) e).1).0
-  test-yes _ x p q a e = tt
+  test_yes : {t t' : ℕ → Past → Bool} → (test : Test m t t') → (x : ℕ) (p q : Past) → AlikePast m p q → t x p ≡ true → yes test
+  test_yes (Due alarm) x p q a e = wakes_due alarm x p q a e
+  test_yes MayStand x p q a e = a.stands (and_parts p.may _ e).0
+  test_yes MayBeAsked x p q a e = a.stands (and_parts p.may _ (and_parts _ (may_stand_at x p) e).1).0
+  test_yes _ x p q a e = tt
 
-  known-place : (from : Place) (x : ℕ) (p q : Past) → AlikePast m p q → Rattle.tsp_rules.specs.Renames.comes_place m from → is_own from x p ≡ false →
+  known_place_holds : (from : Place) (x : ℕ) (p q : Past) → AlikePast m p q → Rattle.tsp_rules.specs.Renames.comes_place m from → is_own from x p ≡ false →
       known_place m from
-  known-place (Peer r) x p q a comes e = a.setup.heard r comes e
-  known-place Stranger x p q a comes e = tt
+  known_place_holds (Peer r) x p q a comes e = a.setup.heard r comes e
+  known_place_holds Stranger x p q a comes e = tt
 
-  test-no : {t t' : ℕ → Past → Bool} → (test : Test m t t') → (x : ℕ) (p q : Past) → AlikePast m p q → t x p ≡ false → no test
-  test-no (IsOwn from comes) x p q a e = known-place from x p q a comes e
-  test-no _ x p q a e = tt
+  test_no : {t t' : ℕ → Past → Bool} → (test : Test m t t') → (x : ℕ) (p q : Past) → AlikePast m p q → t x p ≡ false → no test
+  test_no (IsOwn from comes) x p q a e = known_place_holds from x p q a comes e
+  test_no _ x p q a e = tt
 
-  reading-moves : {A : Type 0} (f : A → A) (fact fact' : ℕ → Past → A) (rows rows' : A → Row) →
+  reading_moves : {A : Type 0} (f : A → A) (fact fact' : ℕ → Past → A) (rows rows' : A → Row) →
       ((x : ℕ) (p q : Past) → AlikePast m p q → fact' (x + m.names.shift) q ≡ f (fact x p)) →
       ((x : ℕ) (p q : Past) → AlikePast m p q → Moves m (rows (fact x p)) (rows' (f (fact x p)))) → Moves m (reading fact rows) (reading fact' rows')
   unfolding reading
-  reading-moves f fact fact' rows rows' same k = record {
+  reading_moves f fact fact' rows rows' same k = record {
     at = λ x p q a. subst (λ v. MovesAt m (rows (fact x p) x p) (rows' v (x + m.names.shift) q))
         (sym (same x p q a)) ((k x p q a).at x p q a);
   }
 
-  one-send : (row row' : PeerId → Option Sending → Row) → ((p : PeerId) → row p None ≡ nothing) → ((p : PeerId) → row' p None ≡ nothing) →
+  one_send : (row row' : PeerId → Option Sending → Row) → ((p : PeerId) → row p None ≡ nothing) → ((p : PeerId) → row' p None ≡ nothing) →
       ((p : PeerId) → m.known p → (s : Sending) → Moves m (row p (Some s)) (row' (m.names.peer p) (Some (later_send m.names s)))) →
       (r : PeerId) → m.known r → Moves m (reading (open_at r) (row r)) (reading (open_at (m.names.peer r)) (row' (m.names.peer r)))
-  one-send row row' none none' k r known = reading-moves (later_sends m.names) (open_at r) (open_at (m.names.peer r)) (row r) (row' (m.names.peer r))
+  one_send row row' none none' k r known = reading_moves (later_sends m.names) (open_at r) (open_at (m.names.peer r)) (row r) (row' (m.names.peer r))
       (λ x p q a. open_send_alike r a.seen) (λ x p q a. by_case (open_at r x p)) where
         by_case : (o : Option Sending) → Moves m (row r o) (row' (m.names.peer r) (later_sends m.names o))
         by_case None = rw (none r, none' (m.names.peer r)) nothing_moves
         by_case (Some s) = k r known s
 
-  all-renamed : (ps : List PeerId) → All m.known ps → All (Renamed m) (map m.names.peer ps)
-  all-renamed [] known = All-nil (Renamed m)
-  all-renamed (p ∷ ps) known = All-cons (Renamed m) (m.names.peer p) (map m.names.peer ps) (record { peer = p; known = All-head m.known p ps known; is = refl })
-      (all-renamed ps (All-tail m.known p ps known))
+  all_renamed : (ps : List PeerId) → All m.known ps → All (Renamed m) (map m.names.peer ps)
+  all_renamed [] known = All-nil (Renamed m)
+  all_renamed (p ∷ ps) known = All-cons (Renamed m) (m.names.peer p) (map m.names.peer ps) (record { peer = p; known = All-head m.known p ps known; is = refl })
+      (all_renamed ps (All-tail m.known p ps known))
 
-  none-first : (row : PeerId → Option Sending → Row) → ((p : PeerId) → row p None ≡ nothing) → (x : ℕ) (own : PeerId) → Unnamed m own → (p : Past) → First m p →
+  none_first : (row : PeerId → Option Sending → Row) → ((p : PeerId) → row p None ≡ nothing) → (x : ℕ) (own : PeerId) → Unnamed m own → (p : Past) → First m p →
       (r : PeerId) → (r.0 == own.0) ≡ true → reading (open_at r) (row r) x p ≡ []
   unfolding reading nothing
-  none-first row none x own apart p h r e =
+  none_first row none x own apart p h r e =
       subst (λ o. row o (open_send o p.seen) x p ≡ []) (sym (same_peer r own e)) (ap (λ s. row own s x p) (open_send_unnamed own apart h.alike.seen) ∙
       ap (λ z. z x p) (none own))
 
-  none-second : (row : PeerId → Option Sending → Row) → ((p : PeerId) → row p None ≡ nothing) → (x : ℕ) (own own' : PeerId) → own' ≡ m.names.peer own →
+  none_second : (row : PeerId → Option Sending → Row) → ((p : PeerId) → row p None ≡ nothing) → (x : ℕ) (own own' : PeerId) → own' ≡ m.names.peer own →
       Unnamed m own → (q : Past) → Second m q → (r : PeerId) → (r.0 == own'.0) ≡ true → reading (open_at r) (row r) x q ≡ []
   unfolding reading nothing
-  none-second row none x own own' is apart q h r e =
+  none_second row none x own own' is apart q h r e =
       subst (λ o. row o (open_send o q.seen) x q ≡ []) (sym (same_peer r own' e ∙ is))
       (ap (λ s. row (m.names.peer own) s x q) (open_send_renamed own apart h.alike.seen) ∙ ap (λ z. z x q) (none (m.names.peer own)))
 
-  first-grown : (x : ℕ) (row row' : Row) → Moves m row row' → (p : Past) → First m p → First m (grown x p (row x p))
-  first-grown x row row' k p h = record {
+  first_grown : (x : ℕ) (row row' : Row) → Moves m row row' → (p : Past) → First m p → First m (grown x p (row x p))
+  first_grown x row row' k p h = record {
     other = grown (x + m.names.shift) h.other (row' (x + m.names.shift) h.other);
     alike = grown_alike x p h.other _ _ h.alike (k.at x p h.other h.alike);
   }
 
-  second-grown : (x : ℕ) (two one : PeerId → Row) → ((r : PeerId) → m.known r → Moves m (one r) (two (m.names.peer r))) → (r : PeerId) → Renamed m r →
+  second_grown : (x : ℕ) (two one : PeerId → Row) → ((r : PeerId) → m.known r → Moves m (one r) (two (m.names.peer r))) → (r : PeerId) → Renamed m r →
       (q : Past) → Second m q → Second m (grown (x + m.names.shift) q (two r (x + m.names.shift) q))
-  second-grown x two one k r named q h = record {
+  second_grown x two one k r named q h = record {
     other = grown x h.other (one named.peer x h.other);
     alike = subst (λ z. AlikePast m (grown x h.other (one named.peer x h.other)) (grown (x + m.names.shift) q (two z (x + m.names.shift) q))) (sym named.is)
         (grown_alike x h.other q _ _ h.alike ((k named.peer named.known).at x h.other q h.alike));
   }
 
   -- a row for each peer that has an open send
-  sends-move : (row row' : PeerId → Option Sending → Row) → ((p : PeerId) → row p None ≡ nothing) → ((p : PeerId) → row' p None ≡ nothing) →
+  sends_move : (row row' : PeerId → Option Sending → Row) → ((p : PeerId) → row p None ≡ nothing) → ((p : PeerId) → row' p None ≡ nothing) →
       ((p : PeerId) → m.known p → (s : Sending) → Moves m (row p (Some s)) (row' (m.names.peer p) (Some (later_send m.names s)))) →
       Moves m (reading peers_at (for_each (λ p. reading (open_at p) (row p)))) (reading peers_at (for_each (λ p. reading (open_at p) (row' p))))
   unfolding reading
-  sends-move row row' none none' k = record {
+  sends_move row row' none none' k = record {
     at = λ x p q a.
         let one : PeerId → Row = λ r. reading (open_at r) (row r) in
         let two : PeerId → Row = λ r. reading (open_at r) (row' r) in
         let c : ℕ = m.names.shift in
-        let both : (r : PeerId) → m.known r → Moves m (one r) (two (m.names.peer r)) = one-send row row' none none' k in
-        let ours = skips_own one x p.own (First m) m.known (λ p' h r e. none-first row none x p.own a.setup.apart p' h r e)
-        (λ r known p' h. first-grown x (one r) (two (m.names.peer r)) (both r known) p' h) p.peers (list_known a x Others) p (record { other = q; alike = a })
+        let both : (r : PeerId) → m.known r → Moves m (one r) (two (m.names.peer r)) = one_send row row' none none' k in
+        let ours = skips_own one x p.own (First m) m.known (λ p' h r e. none_first row none x p.own a.setup.apart p' h r e)
+        (λ r known p' h. first_grown x (one r) (two (m.names.peer r)) (both r known) p' h) p.peers (list_known a x Others) p (record { other = q; alike = a })
         in
-        let theirs = skips_own two (x + c) q.own (Second m) (Renamed m) (λ q' h r e. none-second row' none' (x + c) p.own q.own a.setup.own a.setup.apart q' h r
+        let theirs = skips_own two (x + c) q.own (Second m) (Renamed m) (λ q' h r e. none_second row' none' (x + c) p.own q.own a.setup.own a.setup.apart q' h r
         e)
-        (λ r named q' h. second-grown x two one both r named q' h) q.peers (subst (λ l. All (Renamed m) l) (sym a.setup.others_are)
-        (all-renamed (others p.own p.peers) (list_known a x Others))) q (record { other = p; alike = a }) in
+        (λ r named q' h. second_grown x two one both r named q' h) q.peers (subst (λ l. All (Renamed m) l) (sym a.setup.others_are)
+        (all_renamed (others p.own p.peers) (list_known a x Others))) q (record { other = p; alike = a }) in
         let each = (each_moves one two both (others p.own p.peers) (list_known a x Others)).at x p q a in
         record {
           same = theirs ∙ ap (λ l. for_each two l (x + c) q) a.setup.others_are ∙ each.same ∙ ap (map (renamed_act m.names)) (sym ours);
@@ -313,16 +313,16 @@ module _ {m : Naming} where
         };
   }
 
-  puts-moves : (act : Act) → is_plain act ≡ true → Knows m act → Moves m (puts act) (puts (renamed_act m.names act))
-  puts-moves act plain known = record { at = λ x p q a. leaf_at a x (Puts act plain known) }
+  puts_moves : (act : Act) → is_plain act ≡ true → Knows m act → Moves m (puts act) (puts (renamed_act m.names act))
+  puts_moves act plain known = record { at = λ x p q a. leaf_at a x (Puts act plain known) }
 
-  each-standing : (mean : ℤ) → ((p : PeerId) → m.known p → (best : Option Estimate) →
+  each_standing : (mean : ℤ) → ((p : PeerId) → m.known p → (best : Option Estimate) →
       Moves m (corrects_by mean p best) (corrects_by mean (m.names.peer p) best)) → (round : List Standing) → All (λ (s : Standing). m.known s.peer) round →
       Moves m (for_each (corrects_peer mean) round) (for_each (corrects_peer mean) (map (renamed_standing m.names) round))
   unfolding for_each corrects_peer
-  each-standing mean k [] known = nothing_moves
-  each-standing mean k (s ∷ round) known = then_moves _ _ _ _ (k s.peer (All-head (λ (s : Standing). m.known s.peer) s round known) s.best)
-      (each-standing mean k round (All-tail (λ (s : Standing). m.known s.peer) s round known))
+  each_standing mean k [] known = nothing_moves
+  each_standing mean k (s ∷ round) known = then_moves _ _ _ _ (k s.peer (All-head (λ (s : Standing). m.known s.peer) s round known) s.best)
+      (each_standing mean k round (All-tail (λ (s : Standing). m.known s.peer) s round known))
 
   -- a round closes
   closing : (own : Bool) → ((mean : ℤ) → Moves m (moves own mean) (moves own mean)) → ((mean : ℤ) (p : PeerId) → m.known p → (best : Option Estimate) →
@@ -333,36 +333,36 @@ module _ {m : Naming} where
   closing own moved corrected round known g =
       let mean : ℤ = mean_by own g in
       either_moves _ _ _ _ _ _ (λ x p q a. can_adjust_alike a mean x)
-      (λ x p q a e. then_moves _ _ _ _ (puts-moves (close_act own g) refl tt) (then_moves _ _ _ _ (moved mean)
-      (each-standing mean (corrected mean) round known)))
-      (λ x p q a e. puts-moves Abandon refl tt)
+      (λ x p q a e. then_moves _ _ _ _ (puts_moves (close_act own g) refl tt) (then_moves _ _ _ _ (moved mean)
+      (each_standing mean (corrected mean) round known)))
+      (λ x p q a e. puts_moves Abandon refl tt)
 
-  closes-move : (own : Bool) → ((mean : ℤ) → Moves m (moves own mean) (moves own mean)) → ((mean : ℤ) (p : PeerId) → m.known p → (best : Option Estimate) →
+  closes_move : (own : Bool) → ((mean : ℤ) → Moves m (moves own mean) (moves own mean)) → ((mean : ℤ) (p : PeerId) → m.known p → (best : Option Estimate) →
       Moves m (corrects_by mean p best) (corrects_by mean (m.names.peer p) best)) → Moves m (reading round_at (closes own)) (reading round_at (closes own))
   unfolding closes
-  closes-move own moved corrected = reading-moves (map (renamed_standing m.names)) round_at round_at (closes own) (closes own) (λ x p q a. round_at_alike a x)
+  closes_move own moved corrected = reading_moves (map (renamed_standing m.names)) round_at round_at (closes own) (closes own) (λ x p q a. round_at_alike a x)
       (λ x p q a.
-      then_moves _ _ _ _ (puts-moves (Ring CloseAlarm) refl tt)
+      then_moves _ _ _ _ (puts_moves (Ring CloseAlarm) refl tt)
       (subst (λ e. Moves m (closes_with own (group_of SPAN (estimates (round_at x p))) (round_at x p))
-      (closes_with own (group_of SPAN e) (map (renamed_standing m.names) (round_at x p)))) (sym (same-estimates m.names (round_at x p)))
+      (closes_with own (group_of SPAN e) (map (renamed_standing m.names) (round_at x p)))) (sym (same_estimates m.names (round_at x p)))
       (closing own moved corrected (round_at x p) (round_at_known a x) (group_of SPAN (estimates (round_at x p))))))
 
   pub moves_built : {sorts : List Sort} {k c : ℕ} {r r' : Row} → Built m nothing_owed sorts k c r r' → Moves m r r'
   moves_built Empty = nothing_moves
   moves_built (At leaf e) = record { at = λ x p q a. leaf_at a x leaf }
   moves_built (Then d e) = then_moves _ _ _ _ (moves_built d) (moves_built e)
-  moves_built (Either test d e) = either_moves _ _ _ _ _ _ (λ x p q a. test_same a x test) (λ x p q a holds. moves_built (d (test-yes test x p q a holds)))
-      (λ x p q a fails. moves_built (e (test-no test x p q a fails)))
+  moves_built (Either test d e) = either_moves _ _ _ _ _ _ (λ x p q a. test_same a x test) (λ x p q a holds. moves_built (d (test_yes test x p q a holds)))
+      (λ x p q a fails. moves_built (e (test_no test x p q a fails)))
   moves_built (If true b' same d e) = rw same (moves_built (d refl))
   moves_built (If false b' same d e) = rw same (moves_built e)
   moves_built (Reading {f = f} rows fact d) =
-      reading-moves f _ _ _ _ (λ x p q a. fact_same a x fact) (λ x p q a. moves_built (d _ (fact_told a x fact)))
+      reading_moves f _ _ _ _ (λ x p q a. fact_same a x fact) (λ x p q a. moves_built (d _ (fact_told a x fact)))
   moves_built (ReadingValue {f = f} rows fact d) =
-      reading-moves f _ _ _ _ (λ x p q a. value_same a x fact) (λ x p q a. moves_built (d _ tt))
-  moves_built (Each row list d) = reading-moves (map m.names.peer) _ _ _ _ (λ x p q a. list_same a x list)
+      reading_moves f _ _ _ _ (λ x p q a. value_same a x fact) (λ x p q a. moves_built (d _ tt))
+  moves_built (Each row list d) = reading_moves (map m.names.peer) _ _ _ _ (λ x p q a. list_same a x list)
       (λ x p q a. each_moves _ _ (λ p known. moves_built (d p known)) _ (list_known a x list))
-  moves_built (EachSend row row' none none' d) = sends-move row row' none none' (λ p known s. moves_built (d p known s tt))
-  moves_built (Closes own e moved corrected) = closes-move own (λ mean. moves_built (moved mean))
+  moves_built (EachSend row row' none none' d) = sends_move row row' none none' (λ p known s. moves_built (d p known s tt))
+  moves_built (Closes own e moved corrected) = closes_move own (λ mean. moves_built (moved mean))
       (λ mean p known best. moves_built (corrected mean p known best (nothing_measured mean best)))
   moves_built (More d le) = moves_built d
   moves_built (Wider e d) = moves_built d

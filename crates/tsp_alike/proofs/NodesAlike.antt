@@ -27,13 +27,13 @@ unshared : (a : Act) → is_later (Acts a) ≡ true → is_shared (Acts a) ≡ f
 unshared Boot e = absurd (true≢false (sym e))
 unshared _ e = refl
 
-unshared-renamed : (r : Renaming) (a : Act) → is_later (Acts a) ≡ true → is_shared (Acts (renamed_act r a)) ≡ false
-unshared-renamed r Boot e = absurd (true≢false (sym e))
-unshared-renamed r _ e = refl
+unshared_renamed : (r : Renaming) (a : Act) → is_later (Acts a) ≡ true → is_shared (Acts (renamed_act r a)) ≡ false
+unshared_renamed r Boot e = absurd (true≢false (sym e))
+unshared_renamed r _ e = refl
 
-others-apart : (own p : PeerId) (peers : List PeerId) → is_among p (others own peers) ≡ true → (p.0 == own.0) ≡ false
-others-apart own p [] e = absurd (true≢false (sym e))
-others-apart own p (q ∷ peers) e = by_case (q.0 == own.0) refl (others-apart own p peers) where
+others_apart : (own p : PeerId) (peers : List PeerId) → is_among p (others own peers) ≡ true → (p.0 == own.0) ≡ false
+others_apart own p [] e = absurd (true≢false (sym e))
+others_apart own p (q ∷ peers) e = by_case (q.0 == own.0) refl (others_apart own p peers) where
   by_case : (b : Bool) → (q.0 == own.0) ≡ b → (is_among p (others own peers) ≡ true → (p.0 == own.0) ≡ false) → (p.0 == own.0) ≡ false
   by_case true is rest = rest (subst (λ b. is_among p (if not b then q ∷ others own peers else others own peers) ≡ true) is e)
   by_case false is rest = elim (or_cases (q.0 == p.0) (is_among p (others own peers))
@@ -43,22 +43,22 @@ others-apart own p (q ∷ peers) e = by_case (q.0 == own.0) refl (others-apart o
       ]
 
 module _ (ms : Port → Naming) (shift : ℕ) (shifts : (q : Port) → (ms q).names.shift ≡ shift) where
-  own-line : (q r : Port) (s s' : Step) (x : ℕ) (deed : Deed) → is_later deed ≡ true → KnowsDeed (ms r) deed → (b : Bool) → (r.0 == q.0) ≡ b →
+  own_line : (q r : Port) (s s' : Step) (x : ℕ) (deed : Deed) → is_later deed ≡ true → KnowsDeed (ms r) deed → (b : Bool) → (r.0 == q.0) ≡ b →
       (lines lines' : List Line) → Alike (ms q) (view q lines) (view q lines') →
       Alike (ms q) (seen_as (b || is_shared deed) (line_of s x r deed).did ∷ view q lines) (seen_as (b || is_shared (renamed_deed (ms r).names deed))
       (line_of s' (x + shift) r (renamed_deed (ms r).names deed)).did ∷ view q lines')
-  own-line q r s s' x Begins later known true e lines lines' a = subst (λ n. Alike (ms q) (here s x Begins ∷ view q lines) (here s' (x + n) Begins ∷
+  own_line q r s s' x Begins later known true e lines lines' a = subst (λ n. Alike (ms q) (here s x Begins ∷ view q lines) (here s' (x + n) Begins ∷
       view q lines')) (shifts q) (Own s s' x Begins refl tt a)
-  own-line q r s s' x Begins later known false e lines lines' a = subst (λ n. Alike (ms q) (here s x Begins ∷ view q lines) (here s' (x + n) Begins ∷
+  own_line q r s s' x Begins later known false e lines lines' a = subst (λ n. Alike (ms q) (here s x Begins ∷ view q lines) (here s' (x + n) Begins ∷
       view q lines')) (shifts q) (Own s s' x Begins refl tt a)
-  own-line q r s s' x (Acts act) later known true e lines lines' a =
+  own_line q r s s' x (Acts act) later known true e lines lines' a =
       let same : r ≡ q = ap (λ (k : ℕ). record { 0 = k }) (eqb-true r.0 q.0 e) in
       subst (λ k. Alike (ms q) (here s x (Acts act) ∷ view q lines) (here s' (x + shift) (Acts (renamed_act (ms k).names act)) ∷ view q lines')) (sym same)
       (subst (λ n. Alike (ms q) (here s x (Acts act) ∷ view q lines) (here s' (x + n) (Acts (renamed_act (ms q).names act)) ∷ view q lines')) (shifts q)
       (Own s s' x (Acts act) later (subst (λ k. Knows (ms k) act) same known) a))
-  own-line q r s s' x (Acts act) later known false e lines lines' a =
+  own_line q r s s' x (Acts act) later known false e lines lines' a =
       let one = unshared act later in
-      let two = unshared-renamed (ms r).names act later in
+      let two = unshared_renamed (ms r).names act later in
       subst (λ b. Alike (ms q) (seen_as b (line_of s x r (Acts act)).did ∷ view q lines) (seen_as (is_shared (Acts (renamed_act (ms r).names act)))
       (line_of s' (x + shift) r (Acts (renamed_act (ms r).names act))).did ∷ view q lines')) (sym one)
       (subst (λ b. Alike (ms q) (elsewhere s x (Acts act) ∷ view q lines) (seen_as b (line_of s' (x + shift) r (Acts (renamed_act (ms r).names act))).did ∷
@@ -75,7 +75,7 @@ module _ (ms : Port → Naming) (shift : ℕ) (shifts : (q : Port) → (ms q).na
       (sym (or-true (0 == q.0)))
       (subst (λ n. Alike (ms q) (here s x (Acts Boot) ∷ here s x Begins ∷ view q old) (here s' (x + n) (Acts Boot) ∷ here s' (x + n) Begins ∷ view q old'))
       (shifts q) (PortBooted s s' cause x (view q old) (view q old')))
-  view_alike q _ _ (Both s s' x r deed later known {before} {before'} a) = own-line q r s s' x deed later known (r.0 == q.0) refl before before'
+  view_alike q _ _ (Both s s' x r deed later known {before} {before'} a) = own_line q r s s' x deed later known (r.0 == q.0) refl before before'
       (view_alike q before before' a)
 
   -- lines to which acts are added are alike again
@@ -88,14 +88,14 @@ module _ (ms : Port → Naming) (shift : ℕ) (shifts : (q : Port) → (ms q).na
       (Both s s' x p.port (Acts p.act) (later_known (ms p.port) p.act first) first a)
 
 -- acts of a port, each in its place
-placed-renamed : (rs : Port → Renaming) (q : Port) (acts : List Act) → placed q (map (renamed_act (rs q)) acts) ≡ map (renamed_placed rs) (placed q acts)
-placed-renamed rs q [] = refl
-placed-renamed rs q (a ∷ acts) = ap (λ l. record { port = q; act = renamed_act (rs q) a } ∷ l) (placed-renamed rs q acts)
+placed_renamed : (rs : Port → Renaming) (q : Port) (acts : List Act) → placed q (map (renamed_act (rs q)) acts) ≡ map (renamed_placed rs) (placed q acts)
+placed_renamed rs q [] = refl
+placed_renamed rs q (a ∷ acts) = ap (λ l. record { port = q; act = renamed_act (rs q) a } ∷ l) (placed_renamed rs q acts)
 
-placed-known : (ms : Port → Naming) (q : Port) (acts : List Act) → All (Knows (ms q)) acts → AllKnown ms (placed q acts)
-placed-known ms q [] known = All-nil (λ (a : Placed). Knows (ms a.port) a.act)
-placed-known ms q (a ∷ acts) known = All-cons (λ (a : Placed). Knows (ms a.port) a.act) (record { port = q; act = a }) (placed q acts)
-    (All-head (Knows (ms q)) a acts known) (placed-known ms q acts (All-tail (Knows (ms q)) a acts known))
+placed_known : (ms : Port → Naming) (q : Port) (acts : List Act) → All (Knows (ms q)) acts → AllKnown ms (placed q acts)
+placed_known ms q [] known = All-nil (λ (a : Placed). Knows (ms a.port) a.act)
+placed_known ms q (a ∷ acts) known = All-cons (λ (a : Placed). Knows (ms a.port) a.act) (record { port = q; act = a }) (placed q acts)
+    (All-head (Knows (ms q)) a acts known) (placed_known ms q acts (All-tail (Knows (ms q)) a acts known))
 
 -- how a node is set up in a life, what its ports' peers are called otherwise, and by how much its ticks are later there
 pub record Life : Type 0 where
@@ -170,7 +170,7 @@ module _ {l : Life} where
           own = s.own;
           others_are = s.others_are;
           count = s.count;
-          apart = λ p e. others-apart port.own p port.peers e;
+          apart = λ p e. others_apart port.own p port.peers e;
           known = λ p e. e;
           heard = λ p e off. sym (among_others p port.own off port.peers) ∙ e;
         };
@@ -195,8 +195,8 @@ module _ {l : Life} where
         let acts : List Act = row x (on_port q (now a)) in
         let m = k.at x (on_port q (now a)) (on_port q a.other) (port_alike q has a) in
         steps_alike x a (placed q acts) (placed q (row' (x + l.shift) (on_port q a.other)))
-        (ap (λ n. placed q (row' (x + n) (on_port q a.other))) (sym (a.alike.shifts q)) ∙ ap (placed q) m.same ∙ placed-renamed l.names q acts)
-        (placed-known (naming_on l) q acts m.known);
+        (ap (λ n. placed q (row' (x + n) (on_port q a.other))) (sym (a.alike.shifts q)) ∙ ap (placed q) m.same ∙ placed_renamed l.names q acts)
+        (placed_known (naming_on l) q acts m.known);
   }
 
   pub then_moves : {r r' s s' : NodeRow} → NodeMoves l r r' → NodeMoves l s s' → NodeMoves l (r and_then s) (r' and_then s')
@@ -255,25 +255,25 @@ ports_below k n (s ∷ a) e = All-cons (λ (q : Port). q.0 < n) (record { 0 = k 
     (ports_below (k + 1) n a (omega (arith, e)))
 
 -- whether a test holds of one of some ports
-any-same : (t t' : Port → Bool) → ((q : Port) → t' q ≡ t q) → (qs : List Port) → any_port t' qs ≡ any_port t qs
-any-same t t' same [] = refl
-any-same t t' same (q ∷ qs) = ap₂ ◌||◌ (same q) (any-same t t' same qs)
+any_same : (t t' : Port → Bool) → ((q : Port) → t' q ≡ t q) → (qs : List Port) → any_port t' qs ≡ any_port t qs
+any_same t t' same [] = refl
+any_same t t' same (q ∷ qs) = ap₂ ◌||◌ (same q) (any_same t t' same qs)
 
 module _ {l : Life} (a : Pair l) where
-  seen-alike : (q : Port) → Alike (naming_on l q) (view q a.lines) (view q a.other.lines)
-  seen-alike q = view_alike (naming_on l) l.shift a.alike.shifts q a.lines a.other.lines a.alike.lines
+  seen_alike : (q : Port) → Alike (naming_on l q) (view q a.lines) (view q a.other.lines)
+  seen_alike q = view_alike (naming_on l) l.shift a.alike.shifts q a.lines a.other.lines a.alike.lines
 
   pub follows_same : (q : Port) → follows_on a.other q ≡ follows_on (now a) q
-  follows_same q = ap is_follow (role_alike (seen-alike q)) ∙ follow_renamed (l.names q) (role (view q a.lines))
+  follows_same q = ap is_follow (role_alike (seen_alike q)) ∙ follow_renamed (l.names q) (role (view q a.lines))
 
   pub leads_same : (q : Port) → leads_on a.other q ≡ leads_on (now a) q
-  leads_same q = ap is_master (role_alike (seen-alike q)) ∙ master_renamed (l.names q) (role (view q a.lines))
+  leads_same q = ap is_master (role_alike (seen_alike q)) ∙ master_renamed (l.names q) (role (view q a.lines))
 
   pub awake_same : (q : Port) → is_awake_on a.other q ≡ is_awake_on (now a) q
-  awake_same q = ap (λ r. not (is_starting_role r)) (role_alike (seen-alike q)) ∙ ap not (starting_renamed (l.names q) (role (view q a.lines)))
+  awake_same q = ap (λ r. not (is_starting_role r)) (role_alike (seen_alike q)) ∙ ap not (starting_renamed (l.names q) (role (view q a.lines)))
 
   pub goes_same : (q : Port) → goes_on a.other q ≡ goes_on (now a) q
-  goes_same q = is_going_alike (seen-alike q)
+  goes_same q = is_going_alike (seen_alike q)
 
   pub all_same : ports_from 0 a.other.ports ≡ ports_from 0 l.ports
   all_same = ports_same 0 l.ports a.other.ports a.alike.ports
@@ -284,23 +284,23 @@ module _ {l : Life} (a : Pair l) where
   pub stirred_same : (q : Port) (kind : Kind) → stirred_ports q kind a.other ≡ stirred_ports q kind (now a)
   stirred_same q kind = ap (λ l. if sets_date kind then l else filter (λ r. not (r.0 == q.0)) l) all_same
 
-  none-lower : (t t' : Port → Bool) → ((r : Port) → t' r ≡ t r) → (q : Port) →
+  none_lower : (t t' : Port → Bool) → ((r : Port) → t' r ≡ t r) → (q : Port) →
       not (any_port t' (lower_ports q a.other)) ≡ not (any_port t (lower_ports q (now a)))
-  none-lower t t' same q = ap not (ap (any_port t') (ap (filter (λ r. nat_lt r.0 q.0)) all_same) ∙ any-same t t' same (lower_ports q (now a)))
+  none_lower t t' same q = ap not (ap (any_port t') (ap (filter (λ r. nat_lt r.0 q.0)) all_same) ∙ any_same t t' same (lower_ports q (now a)))
 
   pub steers_same : (q : Port) (x : ℕ) → steers q (x + l.shift) a.other ≡ steers q x (now a)
-  steers_same q x = ap₂ ◌&&◌ (follows_same q) (none-lower (follows_on (now a)) (follows_on a.other) follows_same q)
+  steers_same q x = ap₂ ◌&&◌ (follows_same q) (none_lower (follows_on (now a)) (follows_on a.other) follows_same q)
 
   pub leads_clock_same : (q : Port) (x : ℕ) → leads_clock q (x + l.shift) a.other ≡ leads_clock q x (now a)
   leads_clock_same q x =
-      ap₂ ◌&&◌ (ap not (ap (any_port (follows_on a.other)) all_same ∙ any-same (follows_on (now a)) (follows_on a.other) follows_same (ports_from 0 l.ports)))
-      (none-lower (leads_on (now a)) (leads_on a.other) leads_same q)
+      ap₂ ◌&&◌ (ap not (ap (any_port (follows_on a.other)) all_same ∙ any_same (follows_on (now a)) (follows_on a.other) follows_same (ports_from 0 l.ports)))
+      (none_lower (leads_on (now a)) (leads_on a.other) leads_same q)
 
   pub in_charge_same : (q : Port) (x : ℕ) → in_charge q (x + l.shift) a.other ≡ in_charge q x (now a)
   in_charge_same q x = ap₂ ◌||◌ (steers_same q x) (leads_clock_same q x)
 
   pub waits_same : (q : Port) (x : ℕ) → waits q (x + l.shift) a.other ≡ waits q x (now a)
-  waits_same q x = ap (any_port (goes_on a.other)) (other_same q) ∙ any-same (goes_on (now a)) (goes_on a.other) goes_same (other_ports q (now a))
+  waits_same q x = ap (any_port (goes_on a.other)) (other_same q) ∙ any_same (goes_on (now a)) (goes_on a.other) goes_same (other_ports q (now a))
 
   pub ends_same : (q : Port) → q.0 < length l.ports → (acts acts' : List Act) → acts' ≡ map (renamed_act (l.names q)) acts → ends_probes acts'
       (on_port q a.other) a.other.ports ≡ ends_probes acts (on_port q (now a)) l.ports

@@ -9,7 +9,7 @@ use Rattle.tsp_base.specs.declared.datagram.DecodeFault.TheVariants.{Short}
 use Rattle.tsp_base.specs.declared.{place.PeerId.PeerId, role.Role.Role, trace.Line2.Line2}
 use Rattle.tsp_base.specs.declared.role.Role.TheVariants.{Follow}
 use Rattle.tsp_schedule.proofs.LongLines.{place_length}
-use Rattle.tsp_script.{proofs.Lengths.number_length, proofs.MessageLengths.length-message_text, specs.Texts.space, specs.Texts.message_text}
+use Rattle.tsp_script.{proofs.Lengths.number_length, proofs.MessageLengths.length_message_text, specs.Texts.space, specs.Texts.message_text}
 use Rattle.tsp_script.specs.ActLines.{IsAct, IsLine2, IsNumberOf, IsRole, IsTaken, SpellsTrace}
 use Rattle.tsp_script.specs.Traces.{act_text, fault_word, place_text, role_text, taken_text, trace_text, way_word}
 
@@ -33,7 +33,7 @@ role_length (Follow p) h = omega (arith, length-append (codes "follow ") (decima
 role_length _ h = omega arith
 
 taken_length : (t : Taken) → IsTaken t → length (taken_text t) ≤ 818
-taken_length (Good d) h = length-message_text d h
+taken_length (Good d) h = length_message_text d h
 taken_length (Bad f) h = omega (arith, length-append (codes "refused ") (fault_word f), fault_length f)
 
 signed_length : (z : ℤ) → FitsSigned w64 z → length (signed_decimal z) ≤ 21
@@ -108,7 +108,7 @@ act_length number (Post to d) h n = omega (
   length-append (codes "post ") (decimal number),
   number_length number n,
   place_length to h.0,
-  length-message_text d h.1,
+  length_message_text d h.1,
 )
 act_length number (Become role) h n = omega (arith, length-append (codes "become ") (role_text role), role_length role h)
 act_length number (Back p) h n = omega (arith, length-append (codes "back ") (decimal p.0), peer_length p h)
@@ -156,5 +156,5 @@ trace_length l h = omega (
 )
 
 -- a longer line is no trace's
-pub SpellsTrace-long : (line : List ℕ) → 1024 < length line → (l : Line2) → SpellsTrace line l → ⊥
-SpellsTrace-long line long l s = let short : length line ≤ 1024 = subst (λ t. length t ≤ 1024) (sym s.1) (trace_length l s.0) in omega (arith, long, short)
+pub SpellsTrace_long : (line : List ℕ) → 1024 < length line → (l : Line2) → SpellsTrace line l → ⊥
+SpellsTrace_long line long l s = let short : length line ≤ 1024 = subst (λ t. length t ≤ 1024) (sym s.1) (trace_length l s.0) in omega (arith, long, short)

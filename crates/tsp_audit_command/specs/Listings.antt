@@ -52,12 +52,12 @@ IsListed nodes e = (event_at e ≤ 1000000000000000) × NamesNode nodes e
 abbrev pub AreListed : ℕ → List Event → Type 0
 AreListed nodes events = (length events ≤ most_listed) × All (IsListed nodes) events
 
-NamesNode-prop : (nodes : ℕ) (e : Event) → IsProp (NamesNode nodes e)
-NamesNode-prop nodes (BootAt at node word) = le_prop
-NamesNode-prop nodes (Turn at node) = le_prop
-NamesNode-prop nodes (Take at datagram) = Unit-prop
-NamesNode-prop nodes (Bytes at node port from octets) = le_prop
+NamesNode_prop : (nodes : ℕ) (e : Event) → IsProp (NamesNode nodes e)
+NamesNode_prop nodes (BootAt at node word) = le_prop
+NamesNode_prop nodes (Turn at node) = le_prop
+NamesNode_prop nodes (Take at datagram) = Unit-prop
+NamesNode_prop nodes (Bytes at node port from octets) = le_prop
 
 -- there is one proof at most that events may be audited
-pub AreListed-prop : (nodes : ℕ) (events : List Event) → IsProp (AreListed nodes events)
-AreListed-prop nodes events = hlevel (le_prop, NamesNode-prop)
+pub AreListed_prop : (nodes : ℕ) (events : List Event) → IsProp (AreListed nodes events)
+AreListed_prop nodes events = hlevel (le_prop, NamesNode_prop)

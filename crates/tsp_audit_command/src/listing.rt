@@ -1,7 +1,7 @@
 //! The events of a schedule that is to be audited.
 ghost use Rattle.std.specs.Prelude.{◌≡◌, ◌≤◌, ◌∷◌, [], true, List, length, vec_len, IfOk};
 ghost use Rattle.tsp_base.specs.Headers.{is_whole};
-ghost use Rattle.tsp_audit_command.specs.Listings.{AreListed, AreListed-prop as is-prop};
+ghost use Rattle.tsp_audit_command.specs.Listings.{AreListed, AreListed_prop as is-prop};
 ghost use Rattle.tsp_run.specs.Networks.{numbers_below};
 
 use std::alloc::{AllocError, Global};

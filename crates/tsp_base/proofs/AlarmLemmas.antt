@@ -88,21 +88,21 @@ eight : (P : List (Option ℕ) → Type 0) → ((q s e w p c r o : Option ℕ) �
 eight P all (q ∷ s ∷ e ∷ w ∷ p ∷ c ∷ r ∷ o ∷ []) l = all q s e w p c r o
 eight P all _ l = absurd (omega (arith, l))
 
-earlier-assoc : (a b c : Option ℕ) → earlier (earlier a b) c ≡ earlier a (earlier b c)
-earlier-assoc None b c = refl
-earlier-assoc (Some x) None c = refl
-earlier-assoc (Some x) (Some y) None = refl
-earlier-assoc (Some x) (Some y) (Some z) = let e : min (min x y) z ≡ min x (min y z) = omega arith in ap (λ n. Some n) e
+earlier_assoc : (a b c : Option ℕ) → earlier (earlier a b) c ≡ earlier a (earlier b c)
+earlier_assoc None b c = refl
+earlier_assoc (Some x) None c = refl
+earlier_assoc (Some x) (Some y) None = refl
+earlier_assoc (Some x) (Some y) (Some z) = let e : min (min x y) z ≡ min x (min y z) = omega arith in ap (λ n. Some n) e
 
 -- one after the other, the eight have the same earliest one as in pairs
 in_pairs : (q s e w p c r o : Option ℕ) → earliest (q ∷ s ∷ e ∷ w ∷ p ∷ c ∷ r ∷ o ∷ []) None ≡
     least_deadline (deadlines_in (q ∷ s ∷ e ∷ w ∷ p ∷ c ∷ r ∷ o ∷ []))
 in_pairs q s e w p c r o =
     let four = earlier (earlier q s) (earlier e w) in
-    ap (λ x. earlier (earlier (earlier (earlier x p) c) r) o) (earlier-assoc (earlier q s) e w)
-    ∙ ap (λ x. earlier (earlier x r) o) (earlier-assoc four p c)
-    ∙ earlier-assoc (earlier four (earlier p c)) r o
-    ∙ earlier-assoc four (earlier p c) (earlier r o)
+    ap (λ x. earlier (earlier (earlier (earlier x p) c) r) o) (earlier_assoc (earlier q s) e w)
+    ∙ ap (λ x. earlier (earlier x r) o) (earlier_assoc four p c)
+    ∙ earlier_assoc (earlier four (earlier p c)) r o
+    ∙ earlier_assoc four (earlier p c) (earlier r o)
 
 -- a walk over all eight finds the earliest one
 pub all_seen : (xs : List (Option ℕ)) (i : ℕ) (least : Option ℕ) → length xs ≡ 8 → 8 ≤ i → earliest (drop i xs) least ≡ earliest xs None → least ≡

@@ -34,32 +34,32 @@ number_of_tag SetDate = refl
 number_of_tag SetDateReq = refl
 number_of_tag LoopKind = refl
 
-pub kind_of-kind_number : (k : Kind) → kind_of (kind_number k) ≡ Some k
+pub kind_of_kind_number : (k : Kind) → kind_of (kind_number k) ≡ Some k
 unfolding kind_number kind_of
-kind_of-kind_number AdjTime = refl
-kind_of-kind_number Ack = refl
-kind_of-kind_number MasterReq = refl
-kind_of-kind_number MasterAck = refl
-kind_of-kind_number SetTime = refl
-kind_of-kind_number MasterUp = refl
-kind_of-kind_number SlaveUp = refl
-kind_of-kind_number Election = refl
-kind_of-kind_number Accept = refl
-kind_of-kind_number Refuse = refl
-kind_of-kind_number Conflict = refl
-kind_of-kind_number ResolveKind = refl
-kind_of-kind_number QuitKind = refl
-kind_of-kind_number Date = refl
-kind_of-kind_number DateReq = refl
-kind_of-kind_number DateAck = refl
-kind_of-kind_number TraceOn = refl
-kind_of-kind_number TraceOff = refl
-kind_of-kind_number Msite = refl
-kind_of-kind_number MsiteReq = refl
-kind_of-kind_number Test = refl
-kind_of-kind_number SetDate = refl
-kind_of-kind_number SetDateReq = refl
-kind_of-kind_number LoopKind = refl
+kind_of_kind_number AdjTime = refl
+kind_of_kind_number Ack = refl
+kind_of_kind_number MasterReq = refl
+kind_of_kind_number MasterAck = refl
+kind_of_kind_number SetTime = refl
+kind_of_kind_number MasterUp = refl
+kind_of_kind_number SlaveUp = refl
+kind_of_kind_number Election = refl
+kind_of_kind_number Accept = refl
+kind_of_kind_number Refuse = refl
+kind_of_kind_number Conflict = refl
+kind_of_kind_number ResolveKind = refl
+kind_of_kind_number QuitKind = refl
+kind_of_kind_number Date = refl
+kind_of_kind_number DateReq = refl
+kind_of_kind_number DateAck = refl
+kind_of_kind_number TraceOn = refl
+kind_of_kind_number TraceOff = refl
+kind_of_kind_number Msite = refl
+kind_of_kind_number MsiteReq = refl
+kind_of_kind_number Test = refl
+kind_of_kind_number SetDate = refl
+kind_of_kind_number SetDateReq = refl
+kind_of_kind_number LoopKind = refl
 
 pub at_place : (k d : Kind) → slice_index_or kinds (kind_number k - 1) d ≡ k
 unfolding kind_number
@@ -129,15 +129,15 @@ in_place [] n i d a h = absurd (omega arith)
 in_place (x ∷ xs) n zero d a h = grind arith
 in_place (x ∷ xs) n (suc i) d a h = let r = in_place xs (n + 1) i d a.1 (omega arith) in grind arith
 
-pub kind_number-kind_of : (n : ℕ) (k : Kind) → kind_of n ≡ Some k → kind_number k ≡ n
+pub kind_number_kind_of : (n : ℕ) (k : Kind) → kind_of n ≡ Some k → kind_number k ≡ n
 unfolding kind_of
-kind_number-kind_of n k e = grind (arith, in_place kinds 1 (n - 1) LoopKind numbered)
+kind_number_kind_of n k e = grind (arith, in_place kinds 1 (n - 1) LoopKind numbered)
 
 same_item : (ks : List Kind) (i : ℕ) (d e : Kind) → i < length ks → slice_index_or ks i d ≡ slice_index_or ks i e
 same_item [] i d e h = absurd (omega arith)
 same_item (x ∷ xs) zero d e h = refl
 same_item (x ∷ xs) (suc i) d e h = same_item xs i d e (omega arith)
 
-pub kind_of-here : (n : ℕ) (d : Kind) → 1 ≤ n → n ≤ 24 → Some (slice_index_or kinds (n - 1) d) ≡ kind_of n
+pub kind_of_here : (n : ℕ) (d : Kind) → 1 ≤ n → n ≤ 24 → Some (slice_index_or kinds (n - 1) d) ≡ kind_of n
 unfolding kind_of
-kind_of-here n d low high = let e = same_item kinds (n - 1) d LoopKind (omega arith) in grind (arith, nat_tests)
+kind_of_here n d low high = let e = same_item kinds (n - 1) d LoopKind (omega arith) in grind (arith, nat_tests)

@@ -3,7 +3,7 @@ use Rattle.std.proofs.Common.{sym, ◌∙◌, ap, append_assoc, append-nil, ◌�
 use Rattle.std.proofs.lemmas.List.{map-append}
 use Rattle.tsp_base.specs.declared.{act.Placed.Placed, place.Port.Port}
 use Rattle.tsp_base.specs.Words.{Past, Performs, Keeps, Row, grown, placed, nothing, ◌followed_by◌, either_by, reading, for_each}
-use Rattle.tsp_base.proofs.RowLemmas.{added_append, for_each-more}
+use Rattle.tsp_base.proofs.RowLemmas.{added_append, for_each_more}
 
 -- one call after another
 pub Performs_then : {S T U : Type 0} {p : Past → S → Type 0} {q : Past → T → Type 0} {w : Past → U → Type 0} {r s : Row} {x : ℕ} {port : Port} {first : S}
@@ -54,8 +54,8 @@ pub Performs_each_more : {A S T U : Type 0} {p : Past → S → Type 0} {q : Pas
     Performs p q (for_each r done) x port first middle old mid → Performs q w (r next) x port middle last mid new →
     Performs p w (for_each r (done ++ next ∷ [])) x port first last old new
 Performs_each_more r done next {x = x} a b = record {
-  acts = λ past h. rw (for_each-more r done next x past) ((Performs_then a b).acts past h);
-  stands = λ past h. rw (for_each-more r done next x past) ((Performs_then a b).stands past h);
+  acts = λ past h. rw (for_each_more r done next x past) ((Performs_then a b).acts past h);
+  stands = λ past h. rw (for_each_more r done next x past) ((Performs_then a b).stands past h);
 }
 
 -- the same acts, by another row

@@ -22,30 +22,30 @@ then_assoc r s t x past =
     ap (λ q. (a ++ b) ++ t x q) (grown_append x past a b) ∙ append_assoc a b (t x (grown x (grown x past a) b))
 
 -- a row for each of some, and then for one more
-pub for_each-more : {A : Type 0} (r : A → Row) (ps : List A) (p : A) (x : ℕ) (past : Past) →
+pub for_each_more : {A : Type 0} (r : A → Row) (ps : List A) (p : A) (x : ℕ) (past : Past) →
     for_each r (ps ++ p ∷ []) x past ≡ (for_each r ps followed_by r p) x past
 unfolding for_each ◌followed_by◌ nothing
-for_each-more r [] p x past = append-nil (r p x past)
-for_each-more r (q ∷ ps) p x past =
+for_each_more r [] p x past = append-nil (r p x past)
+for_each_more r (q ∷ ps) p x past =
     let here = r q x past in
     let rest = for_each r ps x (grown x past here) in
-    ap (λ zs. here ++ zs) (for_each-more r ps p x (grown x past here))
+    ap (λ zs. here ++ zs) (for_each_more r ps p x (grown x past here))
     ∙ sym (append_assoc here rest (r p x (grown x (grown x past here) rest)))
     ∙ ap (λ s. (here ++ rest) ++ r p x (record past { seen = s })) (sym (added_append past.step x here rest past.seen))
 
-cons-more : (b : Bool) (q : PeerId) (more rest tail : List PeerId) → more ≡ rest ++ tail → (if not b then q ∷ more else more) ≡
+cons_more : (b : Bool) (q : PeerId) (more rest tail : List PeerId) → more ≡ rest ++ tail → (if not b then q ∷ more else more) ≡
     (if not b then q ∷ rest else rest) ++ tail
-cons-more true q more rest tail e = e
-cons-more false q more rest tail e = ap (λ zs. q ∷ zs) e
+cons_more true q more rest tail e = e
+cons_more false q more rest tail e = ap (λ zs. q ∷ zs) e
 
 -- one more peer, which isn't the own one, is one of the others
-pub others-more : (own p : PeerId) (ps : List PeerId) → p.0 ≢ own.0 → others own (ps ++ p ∷ []) ≡ others own ps ++ p ∷ []
-others-more own p [] n = let other : (p.0 == own.0) ≡ false = ne_eqb p.0 own.0 n in rw other refl
-others-more own p (q ∷ ps) n = cons-more (q.0 == own.0) q (others own (ps ++ p ∷ [])) (others own ps) (p ∷ []) (others-more own p ps n)
+pub others_more : (own p : PeerId) (ps : List PeerId) → p.0 ≢ own.0 → others own (ps ++ p ∷ []) ≡ others own ps ++ p ∷ []
+others_more own p [] n = let other : (p.0 == own.0) ≡ false = ne_eqb p.0 own.0 n in rw other refl
+others_more own p (q ∷ ps) n = cons_more (q.0 == own.0) q (others own (ps ++ p ∷ [])) (others own ps) (p ∷ []) (others_more own p ps n)
 
 -- the own peer isn't one of the others
-pub others-own : (own p : PeerId) (ps : List PeerId) → p.0 ≡ own.0 → others own (ps ++ p ∷ []) ≡ others own ps
-others-own own p [] e = let same : (p.0 == own.0) ≡ true = eq-eqb p.0 own.0 e in rw same refl
-others-own own p (q ∷ ps) e =
-    cons-more (q.0 == own.0) q (others own (ps ++ p ∷ [])) (others own ps) [] (others-own own p ps e ∙ sym (append-nil (others own ps)))
+pub others_own : (own p : PeerId) (ps : List PeerId) → p.0 ≡ own.0 → others own (ps ++ p ∷ []) ≡ others own ps
+others_own own p [] e = let same : (p.0 == own.0) ≡ true = eq-eqb p.0 own.0 e in rw same refl
+others_own own p (q ∷ ps) e =
+    cons_more (q.0 == own.0) q (others own (ps ++ p ∷ [])) (others own ps) [] (others_own own p ps e ∙ sym (append-nil (others own ps)))
     ∙ append-nil (others own (q ∷ ps))

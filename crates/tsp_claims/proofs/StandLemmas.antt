@@ -10,19 +10,19 @@ use Rattle.tsp_history.specs.Histories.{history_of}
 use Rattle.tsp_base.specs.declared.trace.Line2.{Line2}
 
 -- what holds of the fields holds of the claims that they stand for
-pub of-fields : (header : HeaderValue) (claims : List Claim) (c : Claims) → ClaimsStand header claims c → (P : HeaderValue → List Claimed → (ℕ → Bool) → ℕ →
+pub of_fields : (header : HeaderValue) (claims : List Claim) (c : Claims) → ClaimsStand header claims c → (P : HeaderValue → List Claimed → (ℕ → Bool) → ℕ →
     Type 0) →
     P c.header c.posts.items (up_in c.up.items) (c.events + 1) → P header (posts_of header claims) (booted (events_of claims)) (length claims + 1)
-of-fields header claims c s P h =
+of_fields header claims c s P h =
     subst (λ n. P header (posts_of header claims) (booted (events_of claims)) (n + 1)) s.count
     (subst (λ u. P header (posts_of header claims) u (c.events + 1)) s.up_is
     (subst (λ ps. P header ps (up_in c.up.items) (c.events + 1)) s.posts_are
     (subst (λ k. P k c.posts.items (up_in c.up.items) (c.events + 1)) s.header_is h)))
 
 -- claims that stay as they were stand for what they stood for
-pub ClaimsStand-stays : (header : HeaderValue) (claims : List Claim) (old new : Claims) → StaysSame old new → ClaimsStand header claims old →
+pub ClaimsStand_stays : (header : HeaderValue) (claims : List Claim) (old new : Claims) → StaysSame old new → ClaimsStand header claims old →
     ClaimsStand header claims new
-ClaimsStand-stays header claims old new k s = record {
+ClaimsStand_stays header claims old new k s = record {
   header_is = k.header_is ∙ s.header_is;
   count = k.events_are ∙ s.count;
   told = k.told_is ∙ s.told;
@@ -31,26 +31,26 @@ ClaimsStand-stays header claims old new k s = record {
   up_is = ap (λ v. up_in v.items) k.up_is ∙ s.up_is;
 }
 
-up_in-none : (count n : ℕ) → up_in (replicate count false) n ≡ false
-up_in-none zero n = refl
-up_in-none (suc count) zero = refl
-up_in-none (suc count) (suc n) = up_in-none count n
+up_in_none : (count n : ℕ) → up_in (replicate count false) n ≡ false
+up_in_none zero n = refl
+up_in_none (suc count) zero = refl
+up_in_none (suc count) (suc n) = up_in_none count n
 
 -- no node is up
-pub none-up : (count : ℕ) → up_in (replicate count false) ≡ booted []
-none-up count = fun_ext (λ n. up_in-none count n)
+pub none_up : (count : ℕ) → up_in (replicate count false) ≡ booted []
+none_up count = fun_ext (λ n. up_in_none count n)
 
 -- claims that were joined by the step of an event stand for it too
-pub ClaimsStand-taken : (header : HeaderValue) (claims : List Claim) (e : Event) (lines : List Line2) (held : HeldStep) (old mid new : Claims) →
+pub ClaimsStand_taken : (header : HeaderValue) (claims : List Claim) (e : Event) (lines : List Line2) (held : HeldStep) (old mid new : Claims) →
     StaysSame old mid → JoinsEvent e held (length lines) mid new →
     HoldsStep old.header (old.events + 1) (step_of old.header old.posts.items (up_in old.up.items) e (acts_of lines)) (acts_of lines) held →
     ClaimsStand header claims old → ClaimsStand header (claim_of e lines ∷ claims) new
-ClaimsStand-taken header claims e lines held old mid new stays joins holds stood =
+ClaimsStand_taken header claims e lines held old mid new stays joins holds stood =
     let acts : List Placed = acts_of lines in
     let step : Option Step = step_of header (posts_of header claims) (booted (events_of claims)) e acts in
-    let is : HoldsStep header (length claims + 1) step acts held = of-fields header claims old stood (λ k ps u n. HoldsStep k n (step_of k ps u e acts) acts
+    let is : HoldsStep header (length claims + 1) step acts held = of_fields header claims old stood (λ k ps u n. HoldsStep k n (step_of k ps u e acts) acts
     held) holds in
-    let s : ClaimsStand header claims mid = ClaimsStand-stays header claims old mid stays stood in
+    let s : ClaimsStand header claims mid = ClaimsStand_stays header claims old mid stays stood in
     let one_more : length claims + 1 ≡ length (claim_of e lines ∷ claims) = omega arith in
     record {
       header_is = joins.header_is ∙ s.header_is;

@@ -5,7 +5,7 @@ use Rattle.tsp_query.specs.declared.exit.QueryExit.TheVariants.{Answered, NoAnsw
 use Rattle.tsp_query.specs.declared.exit.QueryExit.TheVariants.{OutOfMemory as Unasked}
 use Rattle.tsp_query.specs.{Asks.AsksAs, Ends.Outside, Faults.Counts, Outside.Observed, Outside.Knows, declared.exit.QueryExit.QueryExit}
 use Rattle.tsp_io.specs.{Counts.Rose, declared.addr.Addr.Addr, declared.link.Link.Ghosts as LinkOf}
-use Rattle.tsp_lines.proofs.Outputs.{Grows-nil}
+use Rattle.tsp_lines.proofs.Outputs.{Grows_nil}
 use Rattle.tsp_query.proofs.AskLemmas.{of_some}
 use Rattle.tsp_rules.specs.Guards.{is_clock_value}
 use Rattle.tsp_storm.specs.declared.run.StormEnd.{StormEnd}
@@ -21,18 +21,18 @@ use Rattle.tsp_cli.specs.declared.status.Status.TheVariants.{Ok, Usage, ReadFaul
 use Rattle.tsp_cli.specs.Commands.{Now, Does, IsAsk, IsQuestion, LinkFaults, Untouched, RunsDaemon, RunsQuery, RunsStorm}
 use Rattle.tsp_cli.specs.{Headline.PrintsHistory, Headline.PrintsSoFar, Lines.Says, Usage.usage_line, declared.status.Status.Status}
 use Rattle.tsp_cli.specs.Statuses.{status_of_served, status_of_asking, status_of_storm}
-use Rattle.tsp_cli.proofs.{HeadlineLemmas.EndsAs-prints, SoFarLemmas.EndsAs-so-far}
+use Rattle.tsp_cli.proofs.{HeadlineLemmas.EndsAs_prints, SoFarLemmas.EndsAs_so_far}
 
 -- a command that is left as it is leaves all objects
-pub Untouched-same : {S L T : Type 0} (c : Command) (source : S) (link : L) (ticker : T) → Untouched c source source link link ticker ticker
-Untouched-same (Serve s) source link ticker = refl
-Untouched-same (Ask a q) source link ticker = refl
-Untouched-same (Storm s) source link ticker = (refl, refl, refl)
-Untouched-same _ source link ticker = (refl, refl)
+pub Untouched_same : {S L T : Type 0} (c : Command) (source : S) (link : L) (ticker : T) → Untouched c source source link link ticker ticker
+Untouched_same (Serve s) source link ticker = refl
+Untouched_same (Ask a q) source link ticker = refl
+Untouched_same (Storm s) source link ticker = (refl, refl, refl)
+Untouched_same _ source link ticker = (refl, refl)
 
 -- nothing was written of the words of a wrong use, for lack of memory
-pub Says-nothing : (written : Option (List ℕ)) → Says usage_line Usage written written OutOfMemory
-Says-nothing written = inr (inr refl, ([], usage_line, omega arith, refl, Grows-nil written))
+pub Says_nothing : (written : Option (List ℕ)) → Says usage_line Usage written written OutOfMemory
+Says_nothing written = inr (inr refl, ([], usage_line, omega arith, refl, Grows_nil written))
 
 -- a daemon's status is never a failed read's nor a wrong use's; it ends by its link or by a write only where its session did
 pub served_by : (s : DaemonExit) → (status_of_served s ≡ ReadFault → ⊥) × (status_of_served s ≡ Usage → ⊥) ×
@@ -55,13 +55,13 @@ served_complete NotShown links links_now writes writes_now told wall bad heard s
 served_complete Unserved links links_now writes writes_now told wall bad heard shown is within l w = inr refl
 
 -- from how a daemon ends, to how the program does
-pub RunsDaemon-served : (s : ServeWords) (old new : Observed) (links links_now writes writes_now : ℕ) (served : DaemonExit) (status : Status) → status ≡
+pub RunsDaemon_served : (s : ServeWords) (old new : Observed) (links links_now writes writes_now : ℕ) (served : DaemonExit) (status : Status) → status ≡
     status_of_served served
     → ((o : Outside) (wall : ℤ) (word : ℕ) (written : List ℕ) → Knows o wall word written old → ServesAs s o wall word written old new served)
     → (served ≡ BadWall → IfSome old.wall (λ w. is_clock_value w ≡ false)) → (served ≡ NotHeard → Rose links links_now) →
     (served ≡ NotShown → Rose writes writes_now)
     → RunsDaemon s old new links links_now writes writes_now status
-RunsDaemon-served s old new links links_now writes writes_now served status e serves bad heard shown = record {
+RunsDaemon_served s old new links links_now writes writes_now served status e serves bad heard shown = record {
   served = served;
   status_is = e;
   serves = serves;
@@ -88,13 +88,13 @@ asking_complete Untold links links_now sends sends_now writes writes_now asked t
 asking_complete Unasked links links_now sends sends_now writes writes_now asked told l s w = inr (inr refl)
 
 -- from how a question ends, to how the program does
-pub RunsQuery-asked : (daemon : Addr) (q : Query) (old new : Observed) (links links_now sends sends_now writes writes_now : ℕ) (asking : QueryExit)
+pub RunsQuery_asked : (daemon : Addr) (q : Query) (old new : Observed) (links links_now sends sends_now writes writes_now : ℕ) (asking : QueryExit)
     (status : Status) → status ≡ status_of_asking asking
     → ((o : Outside) (wall : ℤ) (word : ℕ) (written : List ℕ) → Knows o wall word written old →
     AsksAs daemon q o wall word written old new sends sends_now asking)
     → (asking ≡ NotAsked → Rose links links_now ⊎ Rose sends sends_now) → (asking ≡ Untold → Rose writes writes_now)
     → RunsQuery daemon q old new links links_now sends sends_now writes writes_now status
-RunsQuery-asked daemon q old new links links_now sends sends_now writes writes_now asking status e asks asked told = record {
+RunsQuery_asked daemon q old new links links_now sends sends_now writes writes_now asking status e asks asked told = record {
   asking = asking;
   status_is = e;
   asks = asks;
@@ -113,10 +113,10 @@ storm_ends : (e : StormEnd) → (e ≡ Summed) ⊎ (e ≡ Unmade) → (status_of
 storm_ends e h = elim h [ inl s ↦ inl (ap (λ (x : StormEnd). status_of_storm x) s) | inr s ↦ inr (ap (λ (x : StormEnd). status_of_storm x) s) ]
 
 -- from how a storm ends, to how the program does
-pub RunsStorm-ended : (s : StormWords) (written now : Option (List ℕ)) (writes writes_now : ℕ) (end : StormEnd) (status : Status) → status ≡ status_of_storm end
+pub RunsStorm_ended : (s : StormWords) (written now : Option (List ℕ)) (writes writes_now : ℕ) (end : StormEnd) (status : Status) → status ≡ status_of_storm end
     → StormsAs s written now end → ((e : StormEnd) (text : List ℕ) → IsStormAnswer s e text → AgreesWithAnswer e text written now end)
     → (HasEventRoom s → ¬ Rose writes writes_now → (end ≡ Summed) ⊎ (end ≡ Unmade)) → RunsStorm s written now writes writes_now status
-RunsStorm-ended s written now writes writes_now end status e storms answers complete = record {
+RunsStorm_ended s written now writes writes_now end status e storms answers complete = record {
   end = end;
   status_is = e;
   storms = storms;
@@ -152,12 +152,12 @@ command_none x words e h = subst (λ (y : Option Command). MatchOption y (IsNoCo
 pub Replay_prints : (d : Command) (old new : Now) (status : Status) → d ≡ Replay → Does d old new status → status ≡ Ok →
     PrintsHistory old.left new.left old.told.written new.told.written
 Replay_prints d old new status e does ok =
-    EndsAs-prints _ _ _ _ status (does_as d Replay old new status e does).ends ok
+    EndsAs_prints _ _ _ _ status (does_as d Replay old new status e does).ends ok
 
 -- and any other prints as much of one as its status says
 pub Replay_so_far : (d : Command) (old new : Now) (status : Status) → d ≡ Replay → Does d old new status →
     PrintsSoFar old.left old.told.written new.told.written status
-Replay_so_far d old new status e does = EndsAs-so-far _ new.left _ _ status (does_as d Replay old new status e does).ends
+Replay_so_far d old new status e does = EndsAs_so_far _ new.left _ _ status (does_as d Replay old new status e does).ends
 
 -- the link of a command is that of the words that ask for it
 pub words_link : {L : Type 0} (links : LinkOf L) (before now : L) (fault : Type 0) (words : List (List ℕ)) (d : Command) → IsCommand d × (words ≡ words_of d) →

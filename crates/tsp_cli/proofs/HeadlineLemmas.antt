@@ -7,9 +7,9 @@ use Rattle.tsp_base.specs.Words.{HeaderValue}
 use Rattle.tsp_io.specs.Streams.{Grows}
 use Rattle.tsp_script.specs.{Schedules.SpellsEvent, declared.event_line.EventItem.TheVariants.Event as EventOf}
 use Rattle.tsp_schedule.specs.Schedules.{Progress, Untitled, Titled, Drifted, Heading, Running, Ended, IsEnded, new_header}
-use Rattle.tsp_replay.proofs.{Places.GoesOn, Places.RunsOn, ReadHeaders.IsSchedule-header}
+use Rattle.tsp_replay.proofs.{Places.GoesOn, Places.RunsOn, ReadHeaders.IsSchedule_header}
 use Rattle.tsp_run.specs.{Ranges.Accepted, Ranges.IsInRange, Refusals.Valid}
-use Rattle.tsp_run.proofs.{RunPremises.runs_keep_premises, RunPromises.runs-keep-promises}
+use Rattle.tsp_run.proofs.{RunPremises.runs_keep_premises, RunPromises.runs_keep_promises_holds}
 use Rattle.tsp_lines.specs.Lines.{NoFeed, AreLines, IsInput, IsOver}
 use Rattle.tsp_lines.specs.{Outcomes.Comes, declared.limits.TheConstants.MOST_INPUT, declared.treat.Outcome.TheVariants.Ok as Done}
 use Rattle.tsp_replay.specs.{Meaning.IsSchedule, Meaning.replaying, Schedules.Reaches, Traces.written_at, Traces.trace}
@@ -47,18 +47,18 @@ goes_valid (Running header events) line to v g = run_valid header events line to
 goes_valid (Ended header events) line to v g = absurd g
 
 -- nothing refuses the events of a schedule's lines
-pub Reaches-valid : (lines : List (List ℕ)) (p : Progress) → Reaches lines p → KeepsValid p
-Reaches-valid [] p r = subst (λ q. KeepsValid q) (sym r) tt
-Reaches-valid (line ∷ before) p r = goes_valid r.0 line p (Reaches-valid before r.0 r.1) r.2
+pub Reaches_valid : (lines : List (List ℕ)) (p : Progress) → Reaches lines p → KeepsValid p
+Reaches_valid [] p r = subst (λ q. KeepsValid q) (sym r) tt
+Reaches_valid (line ∷ before) p r = goes_valid r.0 line p (Reaches_valid before r.0 r.1) r.2
 
 done_prints : (p : Progress) (input left written now : Option (List ℕ)) (lines : List (List ℕ)) (octets text said : List ℕ)
     → All NoFeed lines → Reaches (reverse lines) p → text ≡ written_at p → IsEnded p → said ≡ [] → AreLines octets lines → IsInput MOST_INPUT input octets →
     IsOver left → Grows written now (text ++ said) → PrintsHistory input left written now
 done_prints (Ended header events) input left written now lines octets text said n r t e s a i o g =
-    let valid = Reaches-valid (reverse lines) (Ended header events) r in
+    let valid = Reaches_valid (reverse lines) (Ended header events) r in
     let all : text ++ said ≡ trace header events = ap (λ l. text ++ l) s ∙ append-nil text ∙ t in
     let is : IsSchedule octets header events = (lines, n, a, r) in
-    let accepted : Accepted header events = record { header_is = IsSchedule-header octets header events is; ranges = valid.1; valid = valid.0 } in (
+    let accepted : Accepted header events = record { header_is = IsSchedule_header octets header events is; ranges = valid.1; valid = valid.0 } in (
       header,
       events,
       octets,
@@ -67,14 +67,14 @@ done_prints (Ended header events) input left written now lines octets text said 
       accepted,
       o,
       subst (λ l. Grows written now l) all g,
-      (λ setting set. runs-keep-promises header setting events set accepted),
+      (λ setting set. runs_keep_promises_holds header setting events set accepted),
       runs_keep_premises header events accepted,
     )
 done_prints _ input left written now lines octets text said n r t e s a i o g = absurd e
 
 -- a replay that ends well printed the history of a schedule
-pub Comes-prints : (input left written now : Option (List ℕ)) → Comes replaying MOST_INPUT input left written now Done → PrintsHistory input left written now
-Comes-prints input left written now c =
+pub Comes_prints : (input left written now : Option (List ℕ)) → Comes replaying MOST_INPUT input left written now Done → PrintsHistory input left written now
+Comes_prints input left written now c =
     let w = c.0 in
     let accepts = w.4 in
     let done = w.5 in
@@ -82,7 +82,7 @@ Comes-prints input left written now c =
     done_prints accepts.0 input left written now w.0 whole.0 w.1 w.2 w.3 accepts.1 accepts.2 (done.1.0 accepts.0 accepts.1) done.1.1 whole.1 whole.2 c.1 w.6
 
 -- where a replay's status is the best, it printed the history of a schedule
-pub EndsAs-prints : (input left written now : Option (List ℕ)) (status : Status) → EndsAs replaying input left written now status → status ≡ Ok →
+pub EndsAs_prints : (input left written now : Option (List ℕ)) (status : Status) → EndsAs replaying input left written now status → status ≡ Ok →
     PrintsHistory input left written now
-EndsAs-prints input left written now status e is = Comes-prints input left written now (subst {A = Status} (λ s. EndsAs replaying input left written now s) is
+EndsAs_prints input left written now status e is = Comes_prints input left written now (subst {A = Status} (λ s. EndsAs replaying input left written now s) is
     e)

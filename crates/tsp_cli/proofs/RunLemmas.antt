@@ -4,21 +4,21 @@ use Rattle.tsp_io.specs.{Counts.Rose, declared.link.Link.Ghosts as LinkOf}
 use Rattle.tsp_query.specs.Faults.{Counts, LinkCounts}
 use Rattle.tsp_lines.specs.declared.treat.Outcome.TheVariants.{Ok as Done, ReadFault as NotRead, WriteFault as NotWritten, OutOfMemory as NoMemory}
 use Rattle.tsp_lines.specs.{Answers.Agrees, Answers.Answers, Meanings.Meaning, Outcomes.Comes, Outcomes.KeepsUp}
-use Rattle.tsp_lines.{proofs.OneAnswer.Agrees-outcome, specs.declared.limits.TheConstants.MOST_INPUT, specs.declared.treat.Outcome.Outcome}
+use Rattle.tsp_lines.{proofs.OneAnswer.Agrees_outcome, specs.declared.limits.TheConstants.MOST_INPUT, specs.declared.treat.Outcome.Outcome}
 use Rattle.tsp_cli.specs.declared.status.Status.TheVariants.{Ok, Usage, ReadFault, WriteFault, LinkFault, OutOfMemory}
 use Rattle.tsp_cli.specs.{Commands.LinkFaults, Statuses.status_of, declared.status.Status.Status}
 use Rattle.tsp_cli.specs.Lines.{LineCommand, meaning_of, IsTextOf, EndsAs, AgreesAs, Runs}
 
 -- the status of a treatment says what the treatment came to
-EndsAs-comes : (m : Meaning) (input left written now : Option (List ℕ)) (o : Outcome) → Comes m MOST_INPUT input left written now o →
+EndsAs_comes : (m : Meaning) (input left written now : Option (List ℕ)) (o : Outcome) → Comes m MOST_INPUT input left written now o →
     EndsAs m input left written now (status_of o)
-EndsAs-comes m input left written now Done c = c
-EndsAs-comes m input left written now _ c = c
+EndsAs_comes m input left written now Done c = c
+EndsAs_comes m input left written now _ c = c
 
-AgreesAs-agrees : (o : Outcome) (output : List ℕ) (written now : Option (List ℕ)) (result : Outcome) → Agrees o output written now result →
+AgreesAs_agrees : (o : Outcome) (output : List ℕ) (written now : Option (List ℕ)) (result : Outcome) → Agrees o output written now result →
     AgreesAs o output written now (status_of result)
-AgreesAs-agrees o output written now Done a = a
-AgreesAs-agrees o output written now _ a = a
+AgreesAs_agrees o output written now Done a = a
+AgreesAs_agrees o output written now _ a = a
 
 -- only the outcome Ok has the status Ok; no treatment of lines ends by the link or as a wrong use, and each ends by a read or by a
 -- write only where its outcome says so
@@ -35,7 +35,7 @@ status_same o p (inl e) = inl (ap status_of e)
 status_same o p (inr e) = inr (ap status_of e)
 
 -- a treatment is the run of a command
-pub Runs-treated : (command : LineCommand) (input left written now : Option (List ℕ)) (ended : Bool) (reads reads_now writes writes_now : ℕ) (o : Outcome)
+pub Runs_treated : (command : LineCommand) (input left written now : Option (List ℕ)) (ended : Bool) (reads reads_now writes writes_now : ℕ) (o : Outcome)
     (status : Status) → status ≡ status_of o
     → Comes (meaning_of command) MOST_INPUT input left written now o → Answers (meaning_of command) MOST_INPUT input written now o →
     KeepsUp (meaning_of command) MOST_INPUT input left written now
@@ -43,11 +43,11 @@ pub Runs-treated : (command : LineCommand) (input left written now : Option (Lis
     (o ≡ Done) ⊎ (o ≡ NoMemory))
     → (o ≡ NotRead → Rose reads reads_now) → (o ≡ NotWritten → Rose writes writes_now) → (o ≡ Done → ended ≡ true) →
     Runs command input left written now ended reads reads_now writes writes_now status
-Runs-treated command input left written now ended reads reads_now writes writes_now o status is comes answers keeps_up complete read write whole =
+Runs_treated command input left written now ended reads reads_now writes writes_now o status is comes answers keeps_up complete read write whole =
     subst (Runs command input left written now ended reads reads_now writes writes_now) (sym is) (record {
-      ends = EndsAs-comes (meaning_of command) input left written now o comes;
-      answers = λ octets outcome output told a. AgreesAs-agrees outcome output written now o (answers octets outcome output told a);
-      decided = λ octets outcome output told a r w. status_same o outcome (Agrees-outcome outcome o output written now (answers octets outcome output told a)
+      ends = EndsAs_comes (meaning_of command) input left written now o comes;
+      answers = λ octets outcome output told a. AgreesAs_agrees outcome output written now o (answers octets outcome output told a);
+      decided = λ octets outcome output told a r w. status_same o outcome (Agrees_outcome outcome o output written now (answers octets outcome output told a)
           (λ e. r (read e)) (λ e. w (write e)));
       complete = λ octets told l is r w. status_same o Done (complete octets told l is r w);
       keeps_up = keeps_up;

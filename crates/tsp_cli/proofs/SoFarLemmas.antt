@@ -7,21 +7,21 @@ use Rattle.tsp_base.specs.Words.{HeaderValue, IsHeader}
 use Rattle.tsp_io.specs.Streams.{Gives, Grows}
 use Rattle.tsp_lines.specs.Lines.{Begins, HasLines, HasNext, IsInput, IsPast, NoFeed, close, closed}
 use Rattle.tsp_lines.specs.Outcomes.{Follows, IsBad, IsLimited, WritesGot, WritesPart, bad_line, limit_line}
-use Rattle.tsp_lines.{proofs.Outputs.Grows-nil, specs.declared.limits.TheConstants.MOST_INPUT}
+use Rattle.tsp_lines.{proofs.Outputs.Grows_nil, specs.declared.limits.TheConstants.MOST_INPUT}
 use Rattle.tsp_replay.specs.{Meaning.Replays, Meaning.replaying, Schedules.Reaches, Schedules.refused, Traces.written_at}
 use Rattle.tsp_run.specs.{Ranges.Accepted, Ranges.IsInRange, Refusals.Valid}
-use Rattle.tsp_run.proofs.{RunPremises.runs_keep_premises, RunPromises.runs-keep-promises}
-use Rattle.tsp_schedule.proofs.ReadHeaders.{KeepsHeader, Reaches-header}
+use Rattle.tsp_run.proofs.{RunPremises.runs_keep_premises, RunPromises.runs_keep_promises_holds}
+use Rattle.tsp_schedule.proofs.ReadHeaders.{KeepsHeader, Reaches_header}
 use Rattle.tsp_cli.specs.declared.status.Status.TheVariants.{Ok, Usage, Bad, ReadFault, WriteFault, LinkFault, NoAnswer, Limit, OutOfMemory}
 use Rattle.tsp_cli.specs.{Lines.EndsAs, declared.status.Status.Status}
 use Rattle.tsp_cli.specs.Headline.{IsLastLine, KeepsPromises, PrintsSoFar, TellsSoFar, WritesOnly, WritesSoFar}
-use Rattle.tsp_cli.proofs.HeadlineLemmas.{KeepsValid, Reaches-valid}
+use Rattle.tsp_cli.proofs.HeadlineLemmas.{KeepsValid, Reaches_valid}
 use Rattle.tsp_schedule.specs.Schedules.{Progress, Untitled, Running, Ended}
 
 keeps_promises : (header : HeaderValue) (events : List Event) → IsHeader header → Valid header events × All IsInRange events → KeepsPromises header events
 keeps_promises header events is v =
     let accepted : Accepted header events = record { header_is = is; ranges = v.1; valid = v.0 } in
-    (accepted, (λ setting set. runs-keep-promises header setting events set accepted), runs_keep_premises header events accepted)
+    (accepted, (λ setting set. runs_keep_promises_holds header setting events set accepted), runs_keep_premises header events accepted)
 
 -- what is written so far is what the lines tell
 tells_at : (p : Progress) → KeepsHeader p → KeepsValid p → TellsSoFar p (written_at p)
@@ -37,8 +37,8 @@ tells : (lines : List (List ℕ)) (text : List ℕ) → Replays lines text → T
 tells lines text (p, r, t) = (
   p,
   r,
-  subst (λ x. TellsSoFar p x) (sym t) (tells_at p (Reaches-header refused (reverse lines) p r)
-      (Reaches-valid (reverse lines) p r)),
+  subst (λ x. TellsSoFar p x) (sym t) (tells_at p (Reaches_header refused (reverse lines) p r)
+      (Reaches_valid (reverse lines) p r)),
 )
 
 -- an input that begins with these octets and more begins with them
@@ -108,25 +108,25 @@ prints_got input left written now (lines, text, part, n, accepts, feedless, smal
     (front_fits MOST_INPUT (closed lines) part small) b)) accepts grows
 
 -- whatever the status, this is what was printed
-pub EndsAs-so-far : (input left written now : Option (List ℕ)) (status : Status) → EndsAs replaying input left written now status →
+pub EndsAs_so_far : (input left written now : Option (List ℕ)) (status : Status) → EndsAs replaying input left written now status →
     PrintsSoFar input written now status
-EndsAs-so-far input left written now Ok ((lines, text, said, n, accepts, done, grows), over) =
+EndsAs_so_far input left written now Ok ((lines, text, said, n, accepts, done, grows), over) =
     let all : text ++ said ≡ text = ap (λ l. text ++ l) done.1.1 ∙ append-nil text in
     prints Ok input written now lines text n (inr done.0) accepts (subst (λ l. Grows written now l) all grows)
-EndsAs-so-far input left written now Usage e = absurd e
-EndsAs-so-far input left written now Bad (lines, text, said, n, accepts, bad, grows) =
+EndsAs_so_far input left written now Usage e = absurd e
+EndsAs_so_far input left written now Bad (lines, text, said, n, accepts, bad, grows) =
     let h = bad_has MOST_INPUT input lines said bad in
     prints Bad input written now lines text n h.0 accepts (h.1.0, subst (λ l. Grows written now (text ++ l)) h.1.1 grows)
-EndsAs-so-far input left written now ReadFault e = prints_got input left written now e
-EndsAs-so-far input left written now WriteFault (rest, some, w) =
+EndsAs_so_far input left written now ReadFault e = prints_got input left written now e
+EndsAs_so_far input left written now WriteFault (rest, some, w) =
     let p = prints_part input written now rest w in
     prints WriteFault input written now p.0 p.1 p.2 p.3 p.4 (rest, some, p.5)
-EndsAs-so-far input left written now LinkFault e = absurd e
-EndsAs-so-far input left written now NoAnswer e = absurd e
-EndsAs-so-far input left written now Limit (lines, text, said, n, accepts, full, grows) =
+EndsAs_so_far input left written now LinkFault e = absurd e
+EndsAs_so_far input left written now NoAnswer e = absurd e
+EndsAs_so_far input left written now Limit (lines, text, said, n, accepts, full, grows) =
     let h = limit_has MOST_INPUT input lines said full in
     prints Limit input written now lines text n h.0 accepts (subst (λ l. Grows written now (text ++ l)) h.1 grows)
-EndsAs-so-far input left written now OutOfMemory (rest, w) =
+EndsAs_so_far input left written now OutOfMemory (rest, w) =
     let p = prints_part input written now rest w in
     prints OutOfMemory input written now p.0 p.1 p.2 p.3 p.4 (rest, p.5)
 
@@ -136,8 +136,8 @@ has_none limit None = inl (omega arith, tt)
 has_none limit (Some xs) = inl (omega arith, (xs, refl))
 
 -- without memory for the command nothing was read and nothing written
-pub nothing-so-far : (input written : Option (List ℕ)) → PrintsSoFar input written written OutOfMemory
-nothing-so-far input written = prints OutOfMemory input written written [] [] (All-nil NoFeed) (has_none MOST_INPUT input) (Untitled, refl, refl) (
+pub nothing_so_far : (input written : Option (List ℕ)) → PrintsSoFar input written written OutOfMemory
+nothing_so_far input written = prints OutOfMemory input written written [] [] (All-nil NoFeed) (has_none MOST_INPUT input) (Untitled, refl, refl) (
   [],
-  ([], [], inl refl, refl, Grows-nil written),
+  ([], [], inl refl, refl, Grows_nil written),
 )

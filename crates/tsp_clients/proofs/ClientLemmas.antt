@@ -33,15 +33,15 @@ pub TraceStands_boot : (x : ℕ) (past : Past) → TraceStands (grown x past (Bo
 TraceStands_boot x past = refl
 
 -- a role that neither leads nor follows knows no master
-pub master_name_in-other : (r : Role) (own kept : List ℕ) → r ≢ Master → ((q : PeerId) → r ≡ Follow q → ⊥) → master_name_in r own kept ≡ []
-master_name_in-other Master own kept m f = absurd (m refl)
-master_name_in-other (Follow q) own kept m f = absurd (f q refl)
-master_name_in-other _ own kept m f = refl
+pub master_name_in_other : (r : Role) (own kept : List ℕ) → r ≢ Master → ((q : PeerId) → r ≡ Follow q → ⊥) → master_name_in r own kept ≡ []
+master_name_in_other Master own kept m f = absurd (m refl)
+master_name_in_other (Follow q) own kept m f = absurd (f q refl)
+master_name_in_other _ own kept m f = refl
 
 -- the master's name, as the port has it
-pub master_name-is : (x : ℕ) (past : Past) (station : Station) (last : LastValue) → NamingStands past (record { station = station; last = last }) →
+pub master_name_is : (x : ℕ) (past : Past) (station : Station) (last : LastValue) → NamingStands past (record { station = station; last = last }) →
     master_name x past ≡ master_name_in station.role station.me.name last.name
-master_name-is x past station last h =
+master_name_is x past station last h =
     ap (λ r. master_name_in r past.name (kept_name past.seen)) (sym h.station.role) ∙
     ap (λ own. master_name_in station.role own (kept_name past.seen)) (sym h.station.name)
     ∙ ap (master_name_in station.role station.me.name) (sym h.last.name_is)
@@ -89,14 +89,14 @@ Performs_traced from number {x = x} on d = record {
 }
 
 -- whether the port stands for election when it is asked to, as the station has it
-pub may_be_asked-is : (x : ℕ) (past : Past) (s : Station) → StationStands past s → may_be_asked x past ≡
+pub may_be_asked_is : (x : ℕ) (past : Past) (s : Station) → StationStands past s → may_be_asked x past ≡
     (is_idle s.role && (s.me.may && may_stand s.hold x s.me.own))
-may_be_asked-is x past s h =
+may_be_asked_is x past s h =
     ap (λ r. is_idle r && (past.may && may_stand (held past.seen) x past.own)) (sym h.role) ∙
     ap (λ may. is_idle s.role && (may && may_stand (held past.seen) x past.own)) (sym h.may)
     ∙ ap (λ hold. is_idle s.role && (s.me.may && may_stand hold x past.own)) (sym h.hold) ∙
     ap (λ own. is_idle s.role && (s.me.may && may_stand s.hold x own)) (sym h.own)
 
-pub is_starting_role-other : (r : Role) → r ≢ Starting → is_starting_role r ≡ false
-is_starting_role-other Starting n = absurd (n refl)
-is_starting_role-other _ n = refl
+pub is_starting_role_other : (r : Role) → r ≢ Starting → is_starting_role r ≡ false
+is_starting_role_other Starting n = absurd (n refl)
+is_starting_role_other _ n = refl

@@ -5,14 +5,14 @@ use Rattle.std.{specs.Fmt.signed_decimal, proofs.lemmas.Fmt.decimal_injective, p
 use lib.Signed.{mag}
 use Rattle.hex.{specs.Hex.encode_lower, specs.Hex.encode_with, specs.Hex.decode_of, specs.Hex.IsBytes, proofs.HexLemmas.decode_of-encode_lower}
 use Rattle.tsp_script.specs.Texts.{is_plain, escaped, name_text, space, body_text, message_line, message_text}
-use Rattle.tsp_script.proofs.{NameTexts.IsBytes-one, NameTexts.escaped_some, NameTexts.name_empty, Bodies.time_body, Bodies.hops_body, Bodies.fits_micros}
+use Rattle.tsp_script.proofs.{NameTexts.IsBytes_one, NameTexts.escaped_some, NameTexts.name_empty, Bodies.time_body, Bodies.hops_body, Bodies.fits_micros}
 use Rattle.tsp_script.proofs.{Outcomes.true_or_false, Cuts.words_apart, Cuts.numbers_apart, Cuts.signs_apart}
 use Rattle.tsp_base.specs.Words.{kind_word, MessageValue, body_fits, ReplyValue, IsReply}
 use Rattle.tsp_base.specs.declared.{kind.Kind.Kind, stamp.Stamp.TheVariants.Request, stamp.Stamp.TheVariants.Reply}
 use Rattle.tsp_base.specs.declared.message.Body.{Body, TheVariants.Nothing, TheVariants.Time as TimeBody, TheVariants.Hops}
 use Rattle.tsp_base.specs.declared.datagram.Datagram.{Datagram, TheVariants.Message, TheVariants.Stamp}
 use Rattle.tsp_script.specs.Ranges.{IsBody, IsMessage, IsDatagram}
-use Rattle.tsp_script.proofs.KindWords.{kind_word-injective, kind_word-not_request, kind_word-not_reply, no_space-kind_word, no_space-spaceless}
+use Rattle.tsp_script.proofs.KindWords.{kind_word_injective, kind_word_not_request, kind_word_not_reply, no_space_kind_word, no_space_spaceless}
 use Rattle.tsp_script.proofs.MessageLines.{message_rest, request_rest, reply_rest, message_form, request_form, reply_form}
 use Rattle.tsp_codec.proofs.OneReading.{message_parts, reply_parts}
 use Rattle.tsp_convert.specs.Packs.{IsLineOf}
@@ -22,8 +22,8 @@ digits_apart : (c d : ℕ) (r s : List ℕ) → c < 256 → d < 256 → encode_l
 unfolding encode_with
 digits_apart c d r s h k e =
     let p : encode_lower (c ∷ []) ≡ encode_lower (d ∷ []) = ap (take 2) e in
-    let q : Ok (c ∷ []) ≡ Ok (d ∷ []) = sym (decode_of-encode_lower (c ∷ []) (IsBytes-one c h)) ∙ ap decode_of p ∙
-    decode_of-encode_lower (d ∷ []) (IsBytes-one d k) in
+    let q : Ok (c ∷ []) ≡ Ok (d ∷ []) = sym (decode_of-encode_lower (c ∷ []) (IsBytes_one c h)) ∙ ap decode_of p ∙
+    decode_of-encode_lower (d ∷ []) (IsBytes_one d k) in
     (cc, ap (drop 2) e)
 
 octets_case : (a b : Bool) (c d : ℕ) (r s : List ℕ) → is_plain c ≡ a → is_plain d ≡ b → c < 256 → d < 256
@@ -43,10 +43,10 @@ octets_apart (c ∷ cs) (d ∷ ds) h k e =
     rw (p.0, q) refl
 
 -- a text is one name's
-pub name_text-injective : (m n : List ℕ) → IsBytes m → IsBytes n → name_text m ≡ name_text n → m ≡ n
-name_text-injective [] n h k e = sym (name_empty n e)
-name_text-injective (c ∷ cs) [] h k e = name_empty (c ∷ cs) (sym e)
-name_text-injective (c ∷ cs) (d ∷ ds) h k e = octets_apart (c ∷ cs) (d ∷ ds) h k e
+pub name_text_injective : (m n : List ℕ) → IsBytes m → IsBytes n → name_text m ≡ name_text n → m ≡ n
+name_text_injective [] n h k e = sym (name_empty n e)
+name_text_injective (c ∷ cs) [] h k e = name_empty (c ∷ cs) (sym e)
+name_text_injective (c ∷ cs) (d ∷ ds) h k e = octets_apart (c ∷ cs) (d ∷ ds) h k e
 
 abbrev IsShort : ℤ → Type 0
 IsShort t = (negsuc 2147483647999999 ≤ℤ t) × (t <ℤ pos 2147483648000000)
@@ -79,14 +79,14 @@ bodies_apart k (Hops m) (Hops n) r s h i f g e =
 
 messages_apart : (m n : MessageValue) → IsMessage m → IsMessage n → message_line m ≡ message_line n → m ≡ n
 messages_apart m n h i e =
-    let w = words_apart (kind_word m.kind) (kind_word n.kind) (message_rest m) (message_rest n) (no_space-kind_word m.kind) (no_space-kind_word n.kind)
+    let w = words_apart (kind_word m.kind) (kind_word n.kind) (message_rest m) (message_rest n) (no_space_kind_word m.kind) (no_space_kind_word n.kind)
     (sym (message_form m) ∙ e ∙ message_form n) in
-    let k = kind_word-injective m.kind n.kind w.0 in
+    let k = kind_word_injective m.kind n.kind w.0 in
     let v = numbers_apart m.number n.number (body_text m.body ++ name_text m.name) (body_text n.body ++ name_text n.name) (omega (arith, h.number))
     (omega (arith, i.number)) w.1 in
     let fit : body_fits n.kind m.body ≡ true = rw (sym k) h.fits in
     let b = bodies_apart n.kind m.body n.body (name_text m.name) (name_text n.name) h.body i.body fit i.fits v.1 in
-    let names = name_text-injective m.name n.name h.octets i.octets b.1 in
+    let names = name_text_injective m.name n.name h.octets i.octets b.1 in
     message_parts m.kind m.number m.body m.name n k v.0 b.0 names
 
 replies_apart : (r s : ReplyValue) → (r.word < 2 ^ 64) × (r.counter < 2 ^ 64) × IsReply r.ticket r.reading → (s.word < 2 ^ 64) × (s.counter < 2 ^ 64) ×
@@ -104,33 +104,33 @@ stamps_differ : (r s : List ℕ) → codes "request" ++ 32 ∷ r ≡ codes "repl
 stamps_differ r s e = let q : ◌≡◌ {A = ℕ} 113 112 = ap (λ l. slice_index_or l 2 0) e in omega (arith, q)
 
 no_request : (m : MessageValue) (r : List ℕ) → message_line m ≡ codes "request" ++ 32 ∷ r → ⊥
-no_request m r e = kind_word-not_request m.kind (words_apart (kind_word m.kind) (codes "request") (message_rest m) r (no_space-kind_word m.kind)
-    (no_space-spaceless (codes "request") refl) (sym (message_form m) ∙ e)).0
+no_request m r e = kind_word_not_request m.kind (words_apart (kind_word m.kind) (codes "request") (message_rest m) r (no_space_kind_word m.kind)
+    (no_space_spaceless (codes "request") refl) (sym (message_form m) ∙ e)).0
 
 no_reply : (m : MessageValue) (r : List ℕ) → message_line m ≡ codes "reply" ++ 32 ∷ r → ⊥
-no_reply m r e = kind_word-not_reply m.kind (words_apart (kind_word m.kind) (codes "reply") (message_rest m) r (no_space-kind_word m.kind)
-    (no_space-spaceless (codes "reply") refl) (sym (message_form m) ∙ e)).0
+no_reply m r e = kind_word_not_reply m.kind (words_apart (kind_word m.kind) (codes "reply") (message_rest m) r (no_space_kind_word m.kind)
+    (no_space_spaceless (codes "reply") refl) (sym (message_form m) ∙ e)).0
 
 -- a line is one datagram's
-pub message_text-injective : (d e : Datagram) → IsDatagram d → IsDatagram e → message_text d ≡ message_text e → d ≡ e
-message_text-injective (Message m) (Message n) h i e = ap Message (messages_apart m n h i e)
-message_text-injective (Message m) (Stamp (Request w c)) h i e = absurd (no_request m (request_rest w c) (e ∙ request_form w c))
-message_text-injective (Message m) (Stamp (Reply r)) h i e = absurd (no_reply m (reply_rest r) (e ∙ reply_form r))
-message_text-injective (Stamp (Request w c)) (Message n) h i e = absurd (no_request n (request_rest w c) (sym e ∙ request_form w c))
-message_text-injective (Stamp (Reply r)) (Message n) h i e = absurd (no_reply n (reply_rest r) (sym e ∙ reply_form r))
-message_text-injective (Stamp (Request v c)) (Stamp (Request w d)) h i e =
-    let r = (words_apart (codes "request") (codes "request") (request_rest v c) (request_rest w d) (no_space-spaceless (codes "request") refl)
-    (no_space-spaceless (codes "request") refl) (sym (request_form v c) ∙ e ∙ request_form w d)).1 in
+pub message_text_injective : (d e : Datagram) → IsDatagram d → IsDatagram e → message_text d ≡ message_text e → d ≡ e
+message_text_injective (Message m) (Message n) h i e = ap Message (messages_apart m n h i e)
+message_text_injective (Message m) (Stamp (Request w c)) h i e = absurd (no_request m (request_rest w c) (e ∙ request_form w c))
+message_text_injective (Message m) (Stamp (Reply r)) h i e = absurd (no_reply m (reply_rest r) (e ∙ reply_form r))
+message_text_injective (Stamp (Request w c)) (Message n) h i e = absurd (no_request n (request_rest w c) (sym e ∙ request_form w c))
+message_text_injective (Stamp (Reply r)) (Message n) h i e = absurd (no_reply n (reply_rest r) (sym e ∙ reply_form r))
+message_text_injective (Stamp (Request v c)) (Stamp (Request w d)) h i e =
+    let r = (words_apart (codes "request") (codes "request") (request_rest v c) (request_rest w d) (no_space_spaceless (codes "request") refl)
+    (no_space_spaceless (codes "request") refl) (sym (request_form v c) ∙ e ∙ request_form w d)).1 in
     let p = numbers_apart v w (decimal c) (decimal d) h.0 i.0 r in
     rw (p.0, decimal_injective c d h.1 i.1 p.1) refl
-message_text-injective (Stamp (Request v c)) (Stamp (Reply r)) h i e = absurd (stamps_differ (request_rest v c) (reply_rest r) (sym (request_form v c) ∙ e ∙
+message_text_injective (Stamp (Request v c)) (Stamp (Reply r)) h i e = absurd (stamps_differ (request_rest v c) (reply_rest r) (sym (request_form v c) ∙ e ∙
     reply_form r))
-message_text-injective (Stamp (Reply r)) (Stamp (Request w d)) h i e = absurd (stamps_differ (request_rest w d) (reply_rest r) (sym (request_form w d) ∙ sym e ∙
+message_text_injective (Stamp (Reply r)) (Stamp (Request w d)) h i e = absurd (stamps_differ (request_rest w d) (reply_rest r) (sym (request_form w d) ∙ sym e ∙
     reply_form r))
-message_text-injective (Stamp (Reply r)) (Stamp (Reply s)) h i e =
-    let p = (words_apart (codes "reply") (codes "reply") (reply_rest r) (reply_rest s) (no_space-spaceless (codes "reply") refl)
-    (no_space-spaceless (codes "reply") refl) (sym (reply_form r) ∙ e ∙ reply_form s)).1 in
+message_text_injective (Stamp (Reply r)) (Stamp (Reply s)) h i e =
+    let p = (words_apart (codes "reply") (codes "reply") (reply_rest r) (reply_rest s) (no_space_spaceless (codes "reply") refl)
+    (no_space_spaceless (codes "reply") refl) (sym (reply_form r) ∙ e ∙ reply_form s)).1 in
     ap (λ z. Stamp (Reply z)) (replies_apart r s h i p)
 
-pub IsLineOf-one : (line : List ℕ) (d e : Datagram) → IsLineOf line d → IsLineOf line e → d ≡ e
-IsLineOf-one line d e h k = message_text-injective d e h.0 k.0 (sym h.1 ∙ k.1)
+pub IsLineOf_one : (line : List ℕ) (d e : Datagram) → IsLineOf line d → IsLineOf line e → d ≡ e
+IsLineOf_one line d e h k = message_text_injective d e h.0 k.0 (sym h.1 ∙ k.1)

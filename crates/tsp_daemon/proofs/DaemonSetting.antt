@@ -33,27 +33,27 @@ apart : (n : ℕ) (p q : Port) → net_of n p ≡ net_of n q → p ≡ q
 apart zero p q e = port_named p q (ap number_of e)
 apart (suc n) p q e = port_named p q (ap number_of e)
 
-among-self : (n : ℕ) (rest : List PeerId) → is_among (numbered_peer n) (numbered_peer n ∷ rest) ≡ true
-among-self n rest = let same : (n == n) ≡ true = eq-eqb n n refl in rw same refl
+among_self : (n : ℕ) (rest : List PeerId) → is_among (numbered_peer n) (numbered_peer n ∷ rest) ≡ true
+among_self n rest = let same : (n == n) ≡ true = eq-eqb n n refl in rw same refl
 
-own-peers : (done : ℕ) (ports : List (List Addr)) (k : ℕ) → is_among (numbered_peer 0) (peers_in (slice_get (setups_from done ports) k)) ≡ true
-own-peers done [] k = among-self 0 []
-own-peers done (peers ∷ ports) zero = among-self 0 (map (λ number. numbered_peer number) (range_with_len (done + 1) (length peers)))
-own-peers done (peers ∷ ports) (suc k) = own-peers (done + length peers) ports k
+own_peers : (done : ℕ) (ports : List (List Addr)) (k : ℕ) → is_among (numbered_peer 0) (peers_in (slice_get (setups_from done ports) k)) ≡ true
+own_peers done [] k = among_self 0 []
+own_peers done (peers ∷ ports) zero = among_self 0 (map (λ number. numbered_peer number) (range_with_len (done + 1) (length peers)))
+own_peers done (peers ∷ ports) (suc k) = own_peers (done + length peers) ports k
 
 own : (s : ServeWords) (n : ℕ) (q : Port) → is_among (numbered_peer n) (members_in (setups_from 0 s.ports) (net_of n q)) ≡ true
-own s zero q = own-peers 0 s.ports q.0
-own s (suc n) q = among-self (suc n) []
+own s zero q = own_peers 0 s.ports q.0
+own s (suc n) q = among_self (suc n) []
 
-port-peers : (done : ℕ) (ports : List (List Addr)) (k : ℕ) → k < length ports → peers_in (slice_get (setups_from done ports) k) ≡
+port_peers : (done : ℕ) (ports : List (List Addr)) (k : ℕ) → k < length ports → peers_in (slice_get (setups_from done ports) k) ≡
     (slice_index_or (setups_from done ports) k no_port).peers
-port-peers done [] k lt = absurd (omega (arith, lt))
-port-peers done (peers ∷ ports) zero lt = refl
-port-peers done (peers ∷ ports) (suc k) lt = port-peers (done + length peers) ports k (omega (arith, lt))
+port_peers done [] k lt = absurd (omega (arith, lt))
+port_peers done (peers ∷ ports) zero lt = refl
+port_peers done (peers ∷ ports) (suc k) lt = port_peers (done + length peers) ports k (omega (arith, lt))
 
 -- the setting of a daemon's words at its boot
-pub daemon-setting : (s : ServeWords) (tick : ℕ) (wall : ℤ) → (setting : Setting) × SetByWords s tick wall setting
-daemon-setting s tick wall = (
+pub daemon_setting : (s : ServeWords) (tick : ℕ) (wall : ℤ) → (setting : Setting) × SetByWords s tick wall setting
+daemon_setting s tick wall = (
   record {
     drift = 0;
     tick = λ n t. t;
@@ -73,6 +73,6 @@ daemon-setting s tick wall = (
     wall_is = omega (arith, ints);
     name_is = refl;
     strict_is = refl;
-    members_are = λ q lt. port-peers 0 s.ports q.0 lt;
+    members_are = λ q lt. port_peers 0 s.ports q.0 lt;
   },
 )

@@ -4,7 +4,7 @@ use Rattle.std.proofs.Common.{take, drop, Option}
 use Rattle.std.proofs.lemmas.List.{drop_more}
 use Rattle.tsp_rules.specs.Values.{Placed}
 use Rattle.tsp_io.specs.Streams.{Grows}
-use Rattle.tsp_lines.proofs.Outputs.{Grows-trans}
+use Rattle.tsp_lines.proofs.Outputs.{Grows_trans}
 use Rattle.tsp_daemon.specs.declared.end.ServeEnd.TheVariants.{WriteFault, OutOfMemory}
 use Rattle.tsp_daemon.specs.{Ends.CutsShort, Ends.TellsUntil, Posts.send_of, Posts.line_of, Posts.act_lines, declared.end.ServeEnd.ServeEnd}
 
@@ -22,7 +22,7 @@ cuts_on all done line rest a b c g e t = (
   t.1 ++ rest,
   (let l = length-append t.1 rest in omega (arith, l, t.2)),
   e ∙ ap (λ z. done ++ (z ++ rest)) t.3 ∙ ap (λ z. done ++ z) (append_assoc t.0 t.1 rest) ∙ sym (append_assoc done t.0 (t.1 ++ rest)),
-  Grows-trans a b c done t.0 g t.4,
+  Grows_trans a b c done t.0 g t.4,
 )
 
 -- some text, and a line of which only a part was written

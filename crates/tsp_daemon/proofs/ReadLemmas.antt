@@ -115,20 +115,20 @@ turns_nothing tickers node acts x p now ticker still early same = λ left h. (
 )
 
 -- from where ticks are counted matters to a turn that reads alone
-by-looks : (c d : Bool) (h : DaemonHalf) (x m : ℕ) (p : Page) (a b : Option Origin) → ((if c then false else d) ≡ true → a ≡ b) →
+by_looks : (c d : Bool) (h : DaemonHalf) (x m : ℕ) (p : Page) (a b : Option Origin) → ((if c then false else d) ≡ true → a ≡ b) →
     (if c then Some h else if d then Some (half_alive x m a p) else None) ≡ (if c then Some h else if d then Some (half_alive x m b p) else None)
-by-looks true d h x m p a b e = refl
-by-looks false true h x m p a b e = ap (λ (o : Option Origin). Some (half_alive x m o p)) (e refl)
-by-looks false false h x m p a b e = refl
+by_looks true d h x m p a b e = refl
+by_looks false true h x m p a b e = ap (λ (o : Option Origin). Some (half_alive x m o p)) (e refl)
+by_looks false false h x m p a b e = refl
 
-same-half : (past : NodePast) (acts : List Placed) (x m : ℕ) (p : Page) (a b : Option Origin) → (looks_in_turn acts x p ≡ true → a ≡ b) →
+same_half : (past : NodePast) (acts : List Placed) (x m : ℕ) (p : Page) (a b : Option Origin) → (looks_in_turn acts x p ≡ true → a ≡ b) →
     half_in_turn past acts x m a p ≡ half_in_turn past acts x m b p
-same-half past acts x m p a b e = by-looks (change_page acts) (is_silent x p) (half_after past acts x m p) x m p a b e
+same_half past acts x m p a b e = by_looks (change_page acts) (is_silent x p) (half_after past acts x m p) x m p a b e
 
-same-origin : (looks : Bool) (a b o : Option Origin) → (looks ≡ false → a ≡ None) → (looks ≡ true → a ≡ b) →
+same_origin : (looks : Bool) (a b o : Option Origin) → (looks ≡ false → a ≡ None) → (looks ≡ true → a ≡ b) →
     origin_then a o ≡ (if looks then origin_then b o else o)
-same-origin true a b o s t = ap (λ (z : Option Origin). origin_then z o) (t refl)
-same-origin false a b o s t = ap (λ (z : Option Origin). origin_then z o) (s refl)
+same_origin true a b o s t = ap (λ (z : Option Origin). origin_then z o) (t refl)
+same_origin false a b o s t = ap (λ (z : Option Origin). origin_then z o) (s refl)
 
 -- what a turn leaves of a sheet
 abbrev Left : {T : Type 0} → TickerOf T → NodePast → List Placed → ℕ → ℕ → Sheet → Option Page → List Mark → T → T → Option Page → Type 0
@@ -176,7 +176,7 @@ sheet_turned tickers node acts x (Some p) now before after turns alone left h =
           let m = moment_after delay (tickers.last before) in
           let tuned : looks_in_turn acts x p ≡ true → by.1 ≡ tuned_by m sheet p = λ looks. by.4.tuned_is sheet.origin delay from told looks ∙
           ap (λ (vs : List Mark). tuned_at m (asked_of p.half.life vs) sheet.origin) (sym v) in
-          let half = same-half past acts x m p by.1 (tuned_by m sheet p) tuned in
+          let half = same_half past acts x m p by.1 (tuned_by m sheet p) tuned in
           let views : AreReads sheet.views (tickers.views before) = subst (λ (vs : List Mark). AreReads vs (tickers.views before)) (sym v) by.2 in
           let all : Left tickers past acts x m sheet now left before after (Some p) = (
             turned.1 ∙ ap (λ (q : Page). Some q) (by.4.page past delay stands told ∙ ap (λ (o : Option DaemonHalf). page_by o p) half),
@@ -185,7 +185,7 @@ sheet_turned tickers node acts x (Some p) now before after turns alone left h =
               noted = subst (λ (o : Option DaemonHalf). NotesMarks (marks_by o p) (tickers.marks before) (tickers.marks after)) half
                   (by.4.marks past delay stands told);
               origin = by.4.origin ∙ ap (λ (o : Option (Option Origin)). option_map (λ (z : Option Origin). origin_then by.1 z) o) from ∙
-                  ap (λ (o : Option Origin). Some o) (same-origin (looks_in_turn acts x p) by.1 (tuned_by m sheet p) sheet.origin by.4.still tuned);
+                  ap (λ (o : Option Origin). Some o) (same_origin (looks_in_turn acts x p) by.1 (tuned_by m sheet p) sheet.origin by.4.still tuned);
               views = turned.3 ∙ told_by sheet.views (λ (vs : List Mark). views_after acts x p vs) (tickers.views before) views;
             },
           ) in

@@ -6,9 +6,9 @@ use Rattle.tsp_io.specs.Links.{Tried}
 use Rattle.tsp_daemon.specs.{Ends.TriesAll, Posts.send_of, Posts.sends_of}
 
 -- sends, and then others
-pub TriesAll-trans : (a b c : Option (List Tried)) (xs ys : List Tried) → TriesAll xs a b → TriesAll ys b c → TriesAll (xs ++ ys) a c
-TriesAll-trans None b c xs ys p q = q ∙ ap (option_map (λ ts. ts ++ ys)) p
-TriesAll-trans (Some ts) b c xs ys p q = q ∙ ap (option_map (λ zs. zs ++ ys)) p ∙ ap (λ (zs : List Tried). Some zs) (append_assoc ts xs ys)
+pub TriesAll_trans : (a b c : Option (List Tried)) (xs ys : List Tried) → TriesAll xs a b → TriesAll ys b c → TriesAll (xs ++ ys) a c
+TriesAll_trans None b c xs ys p q = q ∙ ap (option_map (λ ts. ts ++ ys)) p
+TriesAll_trans (Some ts) b c xs ys p q = q ∙ ap (option_map (λ zs. zs ++ ys)) p ∙ ap (λ (zs : List Tried). Some zs) (append_assoc ts xs ys)
 
 -- the sends of acts from a place on are those of the act there, and those of the acts behind it
 pub sends_here : (acts : List Placed) (i : ℕ) (item : Placed) → i < length acts → get_or acts i item ≡ item → sends_of (drop i acts) ≡ send_of item.act ++

@@ -7,7 +7,7 @@ use Rattle.tsp_rules.specs.{NodeRows.NodePast, NodeRows.PortSetup, NodeRows.spre
 use Rattle.tsp_base.specs.Words.{dids, tracing}
 use Rattle.tsp_codec.specs.Taken.{taken_of}
 use Rattle.tsp_gateway.specs.{GatewayStands.GatewayStands, GatewayStands.GatewayBegun, PortOf.setups_in, declared.gateway.Gateway.Gateway}
-use Rattle.tsp_gateway.proofs.{PortOfLemmas.setups-stand, StepLemmas.GatewayBegun_in_step}
+use Rattle.tsp_gateway.proofs.{PortOfLemmas.setups_stand, StepLemmas.GatewayBegun_in_step}
 use Rattle.tsp_io.specs.{Clocks.TakesReading, Counts.one_more, Streams.Grows, declared.link.Recv.Recv}
 use Rattle.tsp_io.specs.Links.{Arrival, Tried, ReceivesOne, TakesDatagram, TakesNothing}
 use Rattle.tsp_io.specs.declared.link.Recv.TheVariants.{Datagram, Nothing, Failed}
@@ -121,7 +121,7 @@ pub steps_is : (s : Session) (node next : Gateway) (counters : Counters) (r : Re
 steps_is s node next counters r buf tick acts arrivals tried calls readings last before after on stands turns posts w row before_is after_is on_is =
     let begins = GatewayBegun_in_step (record { at = turn_tick s; node = 0; cause = turn_cause (given_in s) }) (turn_tick s) s.past node stands in
     let set_up = subst (λ ports. PerformsAll GatewayBegun GatewayStands (answers_all (given_by ports r buf)) tick node next [] acts)
-    (setups-stand s.past node stands) row in
+    (setups_stand s.past node stands) row in
     let given = subst (λ g. PerformsAll GatewayBegun GatewayStands (answers_all g) tick node next [] acts) w.given_is set_up in
     let here = subst (λ x. PerformsAll GatewayBegun GatewayStands (answers_all (given_in s)) x node next [] acts) w.tick_is given in
     let are : acts ≡ acts_in_turn s = here.acts (turn_begun (given_in s) (turn_tick s) s.past) begins in

@@ -14,13 +14,13 @@ use Rattle.tsp_rules.{specs.SendRows.begins_timed, specs.SendRows.next_number, p
 use Rattle.tsp_rules.proofs.Emits.{Sort, Acking, Passing, Posting, Tabling, Emits, Emits_each, Emits_more, Emits_posts_time, Emits_puts, Emits_reading}
 use Rattle.tsp_rules.proofs.Emits.{Keeps_by}
 use Rattle.tsp_acks.specs.{Stands.StationStands, Stands.StandsActing, declared.station.Station.Station}
-use Rattle.tsp_acks.proofs.{ActingLemmas.taken-acts, StandsLemmas.Stands_idle}
+use Rattle.tsp_acks.proofs.{ActingLemmas.taken_acts, StandsLemmas.Stands_idle}
 use Rattle.tsp_clock.specs.{ClockStands.ClockStands, Clocks.ClockValue}
 use Rattle.tsp_slave.specs.SlaveStands.{AlsoState, AlsoStands}
 use Rattle.tsp_slave.proofs.BesideLemmas.{AlsoStands_by, beside_sorts}
 use Rattle.tsp_measure.specs.{Slaves.Changes, Slaves.acks_where, Slaves.entry_of, declared.entry.Entry.Entry}
 use Rattle.tsp_master.{proofs.MasterLemmas.MasterStands_aside, specs.MasterStands.MasterStands, specs.declared.master.Master.Master}
-use Rattle.tsp_master.proofs.TableLemmas.{MasterStands_changed, MasterStands_quiet, acked-after, quiet_sorts}
+use Rattle.tsp_master.proofs.TableLemmas.{MasterStands_changed, MasterStands_quiet, acked_after, quiet_sorts}
 use Rattle.tsp_date.specs.Dates.{DatesValue, last_in, peers_of}
 use Rattle.tsp_date.{proofs.KeepLemmas.DatesStand_by, specs.DateStands.DatesStand, specs.DateStands.DateState, specs.DateStands.DateStands}
 
@@ -33,33 +33,33 @@ abbrev also_of : DateState → AlsoState
 also_of s = record { last = s.last; clock = s.clock; took = s.took }
 
 -- such rows leave alone what is remembered of corrections, the clock, and what was taken
-also-kept : (s : DateState) (row : Row) → Emits beside_sorts row → (x : ℕ) (past : Past) → DateStands past s →
+also_kept : (s : DateState) (row : Row) → Emits beside_sorts row → (x : ℕ) (past : Past) → DateStands past s →
     AlsoStands (grown x past (row x past)) (also_of s)
-also-kept s row e x past h = AlsoStands_by row e x past (also_of s) (record { last = h.last; clock = h.clock; took = h.took })
+also_kept s row e x past h = AlsoStands_by row e x past (also_of s) (record { last = h.last; clock = h.clock; took = h.took })
 
 -- what stands beside the station, and the station
-stands-with : {past : Past} (s : DateState) → DatesStand past s.dates → MasterStands past s.master → StationStands past s.station →
+stands_with : {past : Past} (s : DateState) → DatesStand past s.dates → MasterStands past s.master → StationStands past s.station →
     AlsoStands past (also_of s) → DateStands past s
-stands-with s dates master station also = record { dates = dates; master = master; station = station; last = also.last; clock = also.clock; took = also.took }
+stands_with s dates master station also = record { dates = dates; master = master; station = station; last = also.last; clock = also.clock; took = also.took }
 
 -- a call of the station that the rest doesn't feel
 pub Performs_posting : (s : DateState) {row : Row} {x : ℕ} {port : Port} {before after : Station} {old new : List Placed} → Emits (Posting ∷ []) row →
     Performs StationStands StationStands row x port before after old new → Performs DateStands DateStands row x port (record s { station = before })
     (record s { station = after }) old new
 Performs_posting s {row = row} {x = x} {before = before} {after = after} e d = Performs_part d (λ past h. h.station)
-    (λ past h z. stands-with (record s { station = after })
+    (λ past h z. stands_with (record s { station = after })
     (DatesStand_by row (Emits_more posting refl e) x past s.dates h.dates)
     (Keeps_by quiet_sorts MasterStands row MasterStands_quiet (Emits_more posting refl e) x past s.master h.master)
     z
-    (also-kept (record s { station = before }) row (Emits_more posting refl e) x past h))
+    (also_kept (record s { station = before }) row (Emits_more posting refl e) x past h))
 
 -- a date begins to be passed on
 abbrev pub passing : List Sort
 passing = Passing ∷ []
 
-pub begins-emits : (q : PeerId) (time : ℤ) → Emits passing (begins_timed SetDateReq q time)
+pub begins_emits : (q : PeerId) (time : ℤ) → Emits passing (begins_timed SetDateReq q time)
 unfolding begins_timed
-begins-emits q time = Emits_reading next_number (λ n. posts_time q SetDateReq n time) (λ n. Emits_posts_time q SetDateReq n time refl)
+begins_emits q time = Emits_reading next_number (λ n. posts_time q SetDateReq n time) (λ n. Emits_posts_time q SetDateReq n time refl)
 
 DatesStand_asks : (q : PeerId) (time : ℤ) (x : ℕ) (past : Past) (old new : DatesValue) → new ≡ record old { asked = Some x } → acting past.seen ≡ true →
     DatesStand past old → DatesStand (grown x past (begins_timed SetDateReq q time x past)) new
@@ -79,30 +79,30 @@ pub Performs_asks : (s : DateState) (q : PeerId) (time : ℤ) {x : ℕ} {port : 
     }) old new
 Performs_asks s q time {x = x} {before = before} {after = after} dates asked r t e d =
     let row = begins_timed SetDateReq q time in
-    let sorts = begins-emits q time in
-    Performs_part d (λ past h. record { stands = h.station; acted = taken-acts past.seen r (h.took ∙ t) })
-    (λ past h z. stands-with (record s { dates = asked; station = after })
-    (DatesStand_asks q time x past dates asked e (taken-acts past.seen r (h.took ∙ t)) h.dates)
+    let sorts = begins_emits q time in
+    Performs_part d (λ past h. record { stands = h.station; acted = taken_acts past.seen r (h.took ∙ t) })
+    (λ past h z. stands_with (record s { dates = asked; station = after })
+    (DatesStand_asks q time x past dates asked e (taken_acts past.seen r (h.took ∙ t)) h.dates)
     (Keeps_by quiet_sorts MasterStands row MasterStands_quiet (Emits_more passing refl sorts) x past s.master h.master)
     z.stands
-    (also-kept (record s { dates = dates; station = before }) row (Emits_more passing refl sorts) x past h))
+    (also_kept (record s { dates = dates; station = before }) row (Emits_more passing refl sorts) x past h))
 
 -- messages of dates don't correct as a master's do
-date-no-correction : (k : Kind) → sets_date k ≡ true → is_correction k ≡ false
-date-no-correction AdjTime e = absurd (false≢true e)
-date-no-correction SetTime e = absurd (false≢true e)
-date-no-correction _ e = refl
+date_no_correction : (k : Kind) → sets_date k ≡ true → is_correction k ≡ false
+date_no_correction AdjTime e = absurd (false≢true e)
+date_no_correction SetTime e = absurd (false≢true e)
+date_no_correction _ e = refl
 
-none-taken : {A : Type 0} (b : Bool) (a : A) → b ≡ false → (if b then Some a else None) ≡ None
-none-taken true a e = absurd (false≢true (sym e))
-none-taken false a e = refl
+none_taken : {A : Type 0} (b : Bool) (a : A) → b ≡ false → (if b then Some a else None) ≡ None
+none_taken true a e = absurd (false≢true (sym e))
+none_taken false a e = refl
 
 uncorrected : (from : Place) (m : MessageValue) → is_correction m.kind ≡ false → correcting_of (said_by from (Some m)) ≡ None
-uncorrected (Peer p) m e = none-taken (is_correction m.kind) _ e
+uncorrected (Peer p) m e = none_taken (is_correction m.kind) _ e
 uncorrected Stranger m e = refl
 
 -- the clock is set to a date that was taken, which is noted
-stands-dated : (s : DateState) (amount : ℤ) (shown : ℤ) (x : ℕ) (past : Past) (dates noted : DatesValue) (clock moved : ClockValue) (from : Place)
+stands_dated : (s : DateState) (amount : ℤ) (shown : ℤ) (x : ℕ) (past : Past) (dates noted : DatesValue) (clock moved : ClockValue) (from : Place)
     (m : MessageValue) →
     s.took ≡ Some (record { from = from; taken = Good (Message m) }) → sets_date m.kind ≡ true →
     ((q : PeerId) → last_in noted.dated q ≡ dating_of q x (said_by from (Some m)) (last_in dates.dated q)) → peers_of noted.dated ≡ peers_of dates.dated →
@@ -114,7 +114,7 @@ stands-dated : (s : DateState) (amount : ℤ) (shown : ℤ) (x : ℕ) (past : Pa
       clock = moved;
     })
 unfolding puts
-stands-dated s amount shown x past dates noted clock moved from m t k n ps a h c =
+stands_dated s amount shown x past dates noted clock moved from m t k n ps a h c =
     let is : taken past.seen ≡ Some (record { from = from; taken = Good (Message m) }) = h.took ∙ t in
     record {
       dates = record {
@@ -126,7 +126,7 @@ stands-dated s amount shown x past dates noted clock moved from m t k n ps a h c
       station = Stands_idle (Correct amount true shown) refl x past s.station h.station;
       last = record {
         tick_is = refl;
-        taken_is = sym (ap (λ r. correcting_of (said r)) is ∙ uncorrected from m (date-no-correction m.kind k));
+        taken_is = sym (ap (λ r. correcting_of (said r)) is ∙ uncorrected from m (date_no_correction m.kind k));
         name_is = h.last.name_is;
       };
       clock = c;
@@ -146,23 +146,23 @@ pub Performs_dated : (s : DateState) (time : ℤ) {x : ℕ} {port : Port} (dates
     }) old new
 unfolding sets
 Performs_dated s time {x = x} dates noted {clock = clock} {moved = moved} from m t k n ps a d = Performs_part d (λ past h. h.clock)
-    (λ past h z. stands-dated s _ time x past dates noted clock moved from m t k n ps a h z)
+    (λ past h z. stands_dated s _ time x past dates noted clock moved from m t k n ps a h z)
 
 -- a date that is passed on is no correction, so that its end leaves the table alone
-request-no-correction : (k : Kind) → is_set_date_request k ≡ true → is_correction k ≡ false
-request-no-correction SetDateReq e = refl
-request-no-correction _ e = absurd (false≢true e)
+request_no_correction : (k : Kind) → is_set_date_request k ≡ true → is_correction k ≡ false
+request_no_correction SetDateReq e = refl
+request_no_correction _ e = absurd (false≢true e)
 
-date-open : (number : ℕ) (o : Option Sending) → answers_date number o ≡ true → corrects_in o ≡ false
-date-open number None e = refl
-date-open number (Some s) e = request-no-correction s.message.kind ((and_parts (is_set_date_request s.message.kind) (s.message.number == number) e).0)
+date_open : (number : ℕ) (o : Option Sending) → answers_date number o ≡ true → corrects_in o ≡ false
+date_open number None e = refl
+date_open number (Some s) e = request_no_correction s.message.kind ((and_parts (is_set_date_request s.message.kind) (s.message.number == number) e).0)
 
 MasterStands_dated : (p : PeerId) (number x : ℕ) (past : Past) (m : Master) → has_date p number x past ≡ true → MasterStands past m →
     MasterStands (grown x past (Acked p ∷ [])) m
 MasterStands_dated p number x past m e h =
     MasterStands_changed p (acks_where (corrects_in (open_send p past.seen))) (Acked p) x past m m refl (makes-none (corrects_in (open_send p past.seen)))
-    (acked-after p past x)
-    (λ q. same (corrects_in (open_send p past.seen)) (p.0 == q.0) (entry_of m.slaves q) (date-open number (open_send p past.seen) e)) refl refl h where
+    (acked_after p past x)
+    (λ q. same (corrects_in (open_send p past.seen)) (p.0 == q.0) (entry_of m.slaves q) (date_open number (open_send p past.seen) e)) refl refl h where
       makes-none : (c : Bool) (k : Entry) → k.joined ≡ false → k.measured ≡ false → ((acks_where c k).joined ≡ false) × ((acks_where c k).measured ≡ false)
       makes-none true k j s = (j, s)
       makes-none false k j s = (j, s)
@@ -186,11 +186,11 @@ Performs_ends : (s : DateState) (p : PeerId) (number : ℕ) {x : ℕ} {port : Po
     Performs DateStands DateStands (puts (Acked p)) x port (record s { station = before }) (record s { station = after }) old new
 Performs_ends s p number {x = x} {before = before} {after = after} test d =
     let emits : Emits (Acking ∷ []) (puts (Acked p)) = Emits_puts (Acked p) refl in
-    Performs_part d (λ past h. h.station) (λ past h z. stands-with (record s { station = after })
+    Performs_part d (λ past h. h.station) (λ past h z. stands_with (record s { station = after })
     (DatesStand_by (puts (Acked p)) (Emits_more acking refl emits) x past s.dates h.dates)
     (unputs p x past s.master (MasterStands_dated p number x past s.master (test past h.station) h.master))
     z
-    (also-kept (record s { station = before }) (puts (Acked p)) (Emits_more acking refl emits) x past h))
+    (also_kept (record s { station = before }) (puts (Acked p)) (Emits_more acking refl emits) x past h))
 
 -- an answer ends the date that it names, or nothing
 pub Performs_ended : (s : DateState) (p : PeerId) (number : ℕ) {x : ℕ} {port : Port} {before after : Station} (ended : Bool) (Ends : Type 0)
@@ -204,33 +204,33 @@ Performs_ended s p number true Ends test row same sends = Performs_then_part (ha
 Performs_ended s p number false Ends test row same sends = rw (same refl, sends) (Performs_else_part (has_date p number) (puts (Acked p))
     (λ past h. test past h.station) Performs_nothing)
 
-pub date_acked_in-other : (m : MessageValue) (p : PeerId) (r : Role) → ((q : PeerId) → r ≡ Follow q → ⊥) → date_acked_in m p r ≡ nothing
+pub date_acked_in_other : (m : MessageValue) (p : PeerId) (r : Role) → ((q : PeerId) → r ≡ Follow q → ⊥) → date_acked_in m p r ≡ nothing
 unfolding date_acked_in
-date_acked_in-other m p (Follow q) n = absurd (n q refl)
-date_acked_in-other m p _ n = refl
+date_acked_in_other m p (Follow q) n = absurd (n q refl)
+date_acked_in_other m p _ n = refl
 
 -- every slave leaves
-leaves-keep : Keeps StationStands leaves_all
+leaves_keep : Keeps StationStands leaves_all
 unfolding leaves leaves_all
-leaves-keep = Keeps_reading StationStands table_at (for_each leaves) (λ ps. Keeps_each StationStands leaves ps (λ p. Stands_idle (Leave p) refl))
+leaves_keep = Keeps_reading StationStands table_at (for_each leaves) (λ ps. Keeps_each StationStands leaves ps (λ p. Stands_idle (Leave p) refl))
 
 abbrev tabling : List Sort
 tabling = Tabling ∷ []
 
-leaves-emit : Emits (Tabling ∷ []) leaves_all
+leaves_emit : Emits (Tabling ∷ []) leaves_all
 unfolding leaves leaves_all
-leaves-emit = Emits_reading table_at (for_each leaves) (λ ps. Emits_each leaves ps (λ p. Emits_puts (Leave p) refl))
+leaves_emit = Emits_reading table_at (for_each leaves) (λ ps. Emits_each leaves ps (λ p. Emits_puts (Leave p) refl))
 
 pub Performs_leaves : (s : DateState) {x : ℕ} {port : Port} {before after : Master} {old new : List Placed} →
     Performs MasterStands MasterStands leaves_all x port before after old new →
     Performs DateStands DateStands leaves_all x port (record s { master = before }) (record s { master = after }) old new
 Performs_leaves s {x = x} {before = before} {after = after} d =
-    let emits : Emits (Tabling ∷ []) leaves_all = leaves-emit in
-    Performs_part d (λ past h. h.master) (λ past h z. stands-with (record s { master = after })
+    let emits : Emits (Tabling ∷ []) leaves_all = leaves_emit in
+    Performs_part d (λ past h. h.master) (λ past h z. stands_with (record s { master = after })
     (DatesStand_by leaves_all (Emits_more tabling refl emits) x past s.dates h.dates)
     z
-    (leaves-keep x past s.station h.station)
-    (also-kept (record s { master = before }) leaves_all (Emits_more tabling refl emits) x past h))
+    (leaves_keep x past s.station h.station)
+    (also_kept (record s { master = before }) leaves_all (Emits_more tabling refl emits) x past h))
 
 -- one slave leaves
 pub Performs_leave : (p : PeerId) {x : ℕ} {port : Port} {before after : Master} {old new : List Placed} → ((y : ℕ) (past : Past) → MasterStands past before →
@@ -240,28 +240,28 @@ unfolding leaves puts
 Performs_leave p {x = x} k e = record { acts = λ past h. e; stands = λ past h. k x past h }
 
 -- the entries of all other peers are as before
-pub changes-others : (f : Entry → Entry) (p : PeerId) (old new : List Entry) → Changes p f old new → (q : PeerId) → (q.0 ≡ p.0 → ⊥) → entry_of new q ≡
+pub changes_others : (f : Entry → Entry) (p : PeerId) (old new : List Entry) → Changes p f old new → (q : PeerId) → (q.0 ≡ p.0 → ⊥) → entry_of new q ≡
     entry_of old q
-changes-others f p old new change q n = let apart : (p.0 == q.0) ≡ false = ne_eqb p.0 q.0 (λ e. n (sym e)) in change q ∙
+changes_others f p old new change q n = let apart : (p.0 == q.0) ≡ false = ne_eqb p.0 q.0 (λ e. n (sym e)) in change q ∙
     ap (λ b. if b then f (entry_of old q) else entry_of old q) apart
 
 -- who is heard, as the station has it
-pub heard-is : (p : PeerId) (x : ℕ) (past : Past) (station : Station) → StationStands past station → is_heard p x past ≡
+pub heard_is : (p : PeerId) (x : ℕ) (past : Past) (station : Station) → StationStands past station → is_heard p x past ≡
     (is_among p station.peers && not (is_starting_role station.role))
-heard-is p x past station s = rw (s.peers, s.role) refl
+heard_is p x past station s = rw (s.peers, s.role) refl
 
 -- what only a peer may say that is heard
 pub Performs_heard : (p : PeerId) (r : PeerId → Row) {x : ℕ} {port : Port} {before after : DateState} {old new : List Placed} →
     (is_among p before.station.peers && not (is_starting_role before.station.role)) ≡ true →
     Performs DateStands DateStands (r p) x port before after old new → Performs DateStands DateStands (from_peer (Peer p) r) x port before after old new
 unfolding from_peer
-Performs_heard p r {x = x} {before = before} e d = Performs_then_part (is_heard p) nothing (λ past h. heard-is p x past before.station h.station ∙ e) d
+Performs_heard p r {x = x} {before = before} e d = Performs_then_part (is_heard p) nothing (λ past h. heard_is p x past before.station h.station ∙ e) d
 
 pub Performs_unheard : (p : PeerId) (r : PeerId → Row) {x : ℕ} {port : Port} {state : DateState} {old : List Placed} →
     (is_among p state.station.peers && not (is_starting_role state.station.role)) ≡ false →
     Performs DateStands DateStands (from_peer (Peer p) r) x port state state old old
 unfolding from_peer
-Performs_unheard p r {x = x} {state = state} e = Performs_else_part (is_heard p) (r p) (λ past h. heard-is p x past state.station h.station ∙
+Performs_unheard p r {x = x} {state = state} e = Performs_else_part (is_heard p) (r p) (λ past h. heard_is p x past state.station h.station ∙
     e) Performs_nothing
 
 pub Performs_stranger : (r : PeerId → Row) {x : ℕ} {port : Port} {state : DateState} {old : List Placed} →

@@ -10,33 +10,33 @@ use Rattle.tsp_date.specs.{declared.dates.Dated.Dated, Dates.dating_in, Dates.id
 abbrev pub at : PeerId → List Dated → ℕ
 at p ds = position_or_len (λ (d : Dated). d.peer.0 == p.0) ds
 
-some-case : (t : Bool) (n i : ℕ) → cond t (Some n) None ≡ Some i → (t ≡ true) × (n ≡ i)
-some-case true n i e = (refl, cc)
-some-case false n i e = let bad : ⊥ = cc in absurd bad
+some_case : (t : Bool) (n i : ℕ) → cond t (Some n) None ≡ Some i → (t ≡ true) × (n ≡ i)
+some_case true n i e = (refl, cc)
+some_case false n i e = let bad : ⊥ = cc in absurd bad
 
-none-case : (t : Bool) (n : ℕ) → cond t (Some n) None ≡ None → t ≡ false
-none-case true n e = let bad : ⊥ = cc in absurd bad
-none-case false n e = refl
+none_case : (t : Bool) (n : ℕ) → cond t (Some n) None ≡ None → t ≡ false
+none_case true n e = let bad : ⊥ = cc in absurd bad
+none_case false n e = refl
 
 -- the place that is found
 pub found : (p : PeerId) (ds : List Dated) (i : ℕ) → position (λ (d : Dated). d.peer.0 == p.0) ds ≡ Some i → (at p ds < length ds) × (at p ds ≡ i)
-found p ds i e = let s = some-case (nat_lt (at p ds) (length ds)) (at p ds) i e in (ltb-true (at p ds) (length ds) s.0, s.1)
+found p ds i e = let s = some_case (nat_lt (at p ds) (length ds)) (at p ds) i e in (ltb-true (at p ds) (length ds) s.0, s.1)
 
 missing : (p : PeerId) (ds : List Dated) → position (λ (d : Dated). d.peer.0 == p.0) ds ≡ None → at p ds < length ds → ⊥
-missing p ds e h = false≢true (sym (none-case (nat_lt (at p ds) (length ds)) (at p ds) e) ∙ lt-ltb (at p ds) (length ds) h)
+missing p ds e h = false≢true (sym (none_case (nat_lt (at p ds) (length ds)) (at p ds) e) ∙ lt-ltb (at p ds) (length ds) h)
 
 -- the date at a peer's place is its last one
-pub last-at : (ds : List Dated) (p : PeerId) (d : Dated) → at p ds < length ds → last_in ds p ≡ dating_in (get_or ds (at p ds) d).last
-last-at [] p d h = absurd (omega arith)
-last-at (e ∷ ds) p d h = by_test (e.peer.0 == p.0) (at p ds) h (last-at ds p d) where
+pub last_at : (ds : List Dated) (p : PeerId) (d : Dated) → at p ds < length ds → last_in ds p ≡ dating_in (get_or ds (at p ds) d).last
+last_at [] p d h = absurd (omega arith)
+last_at (e ∷ ds) p d h = by_test (e.peer.0 == p.0) (at p ds) h (last_at ds p d) where
   by_test : (b : Bool) (n : ℕ) → cond (not b) (1 + n) 0 < length (e ∷ ds) → (n < length ds → last_in ds p ≡ dating_in (get_or ds n d).last) →
       (if b then dating_in e.last else last_in ds p) ≡ dating_in (get_or (e ∷ ds) (cond (not b) (1 + n) 0) d).last
   by_test true n h k = refl
   by_test false n h k = let one : 1 + n ≡ suc n = omega arith in rw one (k (omega arith))
 
 -- a peer that isn't known has no date
-pub last-none : (ds : List Dated) (p : PeerId) → position (λ (d : Dated). d.peer.0 == p.0) ds ≡ None → last_in ds p ≡ None
-last-none ds p e = absent ds (missing p ds e) where
+pub last_none : (ds : List Dated) (p : PeerId) → position (λ (d : Dated). d.peer.0 == p.0) ds ≡ None → last_in ds p ≡ None
+last_none ds p e = absent ds (missing p ds e) where
   absent : (ds : List Dated) → (at p ds < length ds → ⊥) → last_in ds p ≡ None
   absent [] n = refl
   absent (e ∷ ds) n = by_test (e.peer.0 == p.0) (at p ds) n (absent ds) where
@@ -58,18 +58,18 @@ pub never_missing : (ds : List Dated) (p : PeerId) → is_among p (peers_of ds) 
 never_missing ds p e m = missing p ds m (always_known ds p e)
 
 -- a date is put in its peer's place
-pub peer-at : (ds : List Dated) (p : PeerId) (d : Dated) → at p ds < length ds → (get_or ds (at p ds) d).peer.0 ≡ p.0
-peer-at [] p d h = absurd (omega arith)
-peer-at (e ∷ ds) p d h = by_test (e.peer.0 == p.0) refl (at p ds) h (peer-at ds p d) where
+pub peer_at : (ds : List Dated) (p : PeerId) (d : Dated) → at p ds < length ds → (get_or ds (at p ds) d).peer.0 ≡ p.0
+peer_at [] p d h = absurd (omega arith)
+peer_at (e ∷ ds) p d h = by_test (e.peer.0 == p.0) refl (at p ds) h (peer_at ds p d) where
   by_test : (b : Bool) → (e.peer.0 == p.0) ≡ b → (n : ℕ) → cond (not b) (1 + n) 0 < length (e ∷ ds) → (n < length ds → (get_or ds n d).peer.0 ≡ p.0) →
       (get_or (e ∷ ds) (cond (not b) (1 + n) 0) d).peer.0 ≡ p.0
   by_test true t n h k = eqb-true e.peer.0 p.0 t
   by_test false t n h k = let one : 1 + n ≡ suc n = omega arith in rw one (k (omega arith))
 
-pub last-set : (ds : List Dated) (p : PeerId) (new : Dated) (q : PeerId) → at p ds < length ds → new.peer.0 ≡ p.0 →
+pub last_set : (ds : List Dated) (p : PeerId) (new : Dated) (q : PeerId) → at p ds < length ds → new.peer.0 ≡ p.0 →
     last_in (set ds (at p ds) new) q ≡ (if p.0 == q.0 then dating_in new.last else last_in ds q)
-last-set [] p new q h f = absurd (omega arith)
-last-set (e ∷ ds) p new q h f = by_test (e.peer.0 == p.0) refl (at p ds) h (λ l. last-set ds p new q l f) where
+last_set [] p new q h f = absurd (omega arith)
+last_set (e ∷ ds) p new q h f = by_test (e.peer.0 == p.0) refl (at p ds) h (λ l. last_set ds p new q l f) where
   same : (b : Bool) (l : Option Dating) → (if b then dating_in new.last else l) ≡ (if b then dating_in new.last else (if b then dating_in e.last else l))
   same true l = refl
   same false l = refl
@@ -99,19 +99,19 @@ last-set (e ∷ ds) p new q h f = by_test (e.peer.0 == p.0) refl (at p ds) h (λ
       let one : 1 + n ≡ suc n = omega arith in
       rw one (ap (λ l. if e.peer.0 == q.0 then dating_in e.last else l) (k (omega arith)) ∙ other (e.peer.0 == q.0) refl t (last_in ds q))
 
-pub peers-set : (ds : List Dated) (i : ℕ) (d new : Dated) → (i < length ds → new.peer ≡ (get_or ds i d).peer) → peers_of (set ds i new) ≡ peers_of ds
-peers-set [] i d new e = refl
-peers-set (x ∷ ds) zero d new e = ap (λ p. p ∷ peers_of ds) (e (omega arith))
-peers-set (x ∷ ds) (suc i) d new e = ap (λ ps. x.peer ∷ ps) (peers-set ds i d new (λ h. e (omega arith)))
+pub peers_set : (ds : List Dated) (i : ℕ) (d new : Dated) → (i < length ds → new.peer ≡ (get_or ds i d).peer) → peers_of (set ds i new) ≡ peers_of ds
+peers_set [] i d new e = refl
+peers_set (x ∷ ds) zero d new e = ap (λ p. p ∷ peers_of ds) (e (omega arith))
+peers_set (x ∷ ds) (suc i) d new e = ap (λ ps. x.peer ∷ ps) (peers_set ds i d new (λ h. e (omega arith)))
 
 -- peers without dates
-pub peers-idle : (ps : List PeerId) → peers_of (map idle ps) ≡ ps
-peers-idle [] = refl
-peers-idle (p ∷ ps) = ap (λ qs. p ∷ qs) (peers-idle ps)
+pub peers_idle : (ps : List PeerId) → peers_of (map idle ps) ≡ ps
+peers_idle [] = refl
+peers_idle (p ∷ ps) = ap (λ qs. p ∷ qs) (peers_idle ps)
 
-pub last-idle : (ps : List PeerId) (q : PeerId) → last_in (map idle ps) q ≡ None
-last-idle [] q = refl
-last-idle (p ∷ ps) q = by_test (p.0 == q.0) (last-idle ps q) where
+pub last_idle : (ps : List PeerId) (q : PeerId) → last_in (map idle ps) q ≡ None
+last_idle [] q = refl
+last_idle (p ∷ ps) q = by_test (p.0 == q.0) (last_idle ps q) where
   by_test : (b : Bool) → last_in (map idle ps) q ≡ None → (if b then None else last_in (map idle ps) q) ≡ None
   by_test true e = refl
   by_test false e = e

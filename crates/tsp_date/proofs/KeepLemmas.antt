@@ -9,9 +9,9 @@ use Rattle.tsp_rules.proofs.Emits.{Tabling, Rivalling, Acking, Giving, Sampling,
 use Rattle.tsp_date.specs.{DateStands.DatesStand, Dates.DatesValue}
 
 -- the post of a message that begins no passing on of a date: another message, or a repeat
-asked-other : (b : Bool) (x : ℕ) (seen : List Seen) → b ≡ false → (if b then Some x else last_asked seen) ≡ last_asked seen
-asked-other true x seen e = absurd (false≢true (sym e))
-asked-other false x seen e = refl
+asked_other : (b : Bool) (x : ℕ) (seen : List Seen) → b ≡ false → (if b then Some x else last_asked seen) ≡ last_asked seen
+asked_other true x seen e = absurd (false≢true (sym e))
+asked_other false x seen e = refl
 
 pub DatesStand_post : (to : Place) (m : MessageValue) (x : ℕ) (past : Past) (d : DatesValue) → (is_set_date_request m.kind && acting past.seen) ≡ false →
     DatesStand past d → DatesStand (grown x past (Post to (Message m) ∷ [])) d
@@ -19,7 +19,7 @@ DatesStand_post to m x past d e h = record {
   peers = h.peers;
   last = h.last;
   asked = h.asked ∙
-      sym (asked-other (is_set_date_request m.kind && acting past.seen) x past.seen e);
+      sym (asked_other (is_set_date_request m.kind && acting past.seen) x past.seen e);
 }
 
 -- whether a peer's message passes a date on
@@ -27,9 +27,9 @@ abbrev pub passes_date : Option Said → Bool
 passes_date None = false
 passes_date (Some s) = is_date_request s.message.kind
 
-pub dating-none : (o : Option Said) (p : PeerId) (x : ℕ) (was : Option Dating) → passes_date o ≡ false → dating_of p x o was ≡ was
-dating-none None p x was e = refl
-dating-none (Some s) p x was e = rw e (by_test (s.from.0 == p.0)) where
+pub dating_none : (o : Option Said) (p : PeerId) (x : ℕ) (was : Option Dating) → passes_date o ≡ false → dating_of p x o was ≡ was
+dating_none None p x was e = refl
+dating_none (Some s) p x was e = rw e (by_test (s.from.0 == p.0)) where
   by_test : (b : Bool) → (if b && false then Some (record { at = x; number = s.message.number }) else was) ≡ was
   by_test true = refl
   by_test false = refl
@@ -41,7 +41,7 @@ pub DatesStand_correct : (amount : ℤ) (stepped : Bool) (shown : ℤ) (x : ℕ)
 DatesStand_correct amount stepped shown x past d e h = record {
   peers = h.peers;
   last = λ p. h.last p ∙
-      sym (dating-none (said (taken past.seen)) p x (last_date p past.seen) e);
+      sym (dating_none (said (taken past.seen)) p x (last_date p past.seen) e);
   asked = h.asked;
 }
 
@@ -50,15 +50,15 @@ abbrev pub dates_sorts : List Sort
 dates_sorts = Taking ∷ Asking ∷ Correcting ∷ Numbering ∷ Posting ∷ Leading ∷ Following ∷ Changing ∷ Backing ∷ Counting ∷ Rounding ∷ Alarming ∷ Tabling ∷
     Rivalling ∷ Acking ∷ Giving ∷ Sampling ∷ Closing ∷ Tracing ∷ []
 
-kind-other : (k : Kind) → is_in (sort_of_kind k) dates_sorts ≡ true → is_set_date_request k ≡ false
-kind-other SetDateReq e = absurd (false≢true e)
-kind-other _ e = refl
+kind_other : (k : Kind) → is_in (sort_of_kind k) dates_sorts ≡ true → is_set_date_request k ≡ false
+kind_other SetDateReq e = absurd (false≢true e)
+kind_other _ e = refl
 
 pub DatesStand_act : (a : Act) → is_in (sort_of a) dates_sorts ≡ true → Keeps DatesStand (puts a)
 unfolding puts
 DatesStand_act Boot e x past d h = absurd (false≢true e)
 DatesStand_act (Post to (Message m)) e x past d h = DatesStand_post to m x past d (and_left (is_set_date_request m.kind) (acting past.seen)
-    (kind-other m.kind e)) h
+    (kind_other m.kind e)) h
 DatesStand_act (Correct amount stepped shown) e x past d h = absurd (false≢true e)
 DatesStand_act _ e x past d h = record { peers = h.peers; last = h.last; asked = h.asked }
 
@@ -76,9 +76,9 @@ abbrev pub aside_sorts : List Sort
 aside_sorts = Asking ∷ Correcting ∷ Numbering ∷ Posting ∷ Leading ∷ Following ∷ Changing ∷ Backing ∷ Counting ∷ Rounding ∷ Alarming ∷ Tabling ∷ Rivalling ∷
     Acking ∷ Giving ∷ Sampling ∷ Closing ∷ Moving ∷ Tracing ∷ []
 
-kind-aside : (k : Kind) → is_in (sort_of_kind k) aside_sorts ≡ true → is_set_date_request k ≡ false
-kind-aside SetDateReq e = absurd (false≢true e)
-kind-aside _ e = refl
+kind_aside : (k : Kind) → is_in (sort_of_kind k) aside_sorts ≡ true → is_set_date_request k ≡ false
+kind_aside SetDateReq e = absurd (false≢true e)
+kind_aside _ e = refl
 
 pub DatesAside_act : (a : Act) → is_in (sort_of a) aside_sorts ≡ true → Keeps DatesAside (puts a)
 unfolding puts
@@ -86,7 +86,7 @@ DatesAside_act Boot e x past d h = absurd (false≢true e)
 DatesAside_act (Took from t) e x past d h = absurd (false≢true e)
 DatesAside_act (Post to (Message m)) e x past d h = record {
   stands = DatesStand_post to m x past d (and_left (is_set_date_request m.kind) (acting past.seen)
-      (kind-aside m.kind e)) h.stands;
+      (kind_aside m.kind e)) h.stands;
   none = h.none;
 }
 DatesAside_act (Correct amount stepped shown) e x past d h = record { stands = DatesStand_correct amount stepped shown x past d h.none h.stands; none = h.none }

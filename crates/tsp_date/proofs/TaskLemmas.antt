@@ -12,85 +12,85 @@ use Rattle.tsp_date.specs.{DateStands.DatesStand, DateStands.DateState, DateStan
 use Rattle.tsp_date.specs.{Tasks.task_row, declared.task.Task.Task}
 
 -- what kind of message has which row
-pub handles-date : (charge : Bool) (from : Place) (m : MessageValue) (k : Kind) → sets_date k ≡ true → is_date_request k ≡ false →
+pub handles_date : (charge : Bool) (from : Place) (m : MessageValue) (k : Kind) → sets_date k ≡ true → is_date_request k ≡ false →
     handles_kind charge from m k ≡ date_of charge from m
 unfolding handles_kind
-handles-date charge from m Date e n = refl
-handles-date charge from m SetDate e n = refl
-handles-date charge from m DateReq e n = absurd (false≢true (sym n))
-handles-date charge from m SetDateReq e n = absurd (false≢true (sym n))
-handles-date charge from m _ e n = absurd (false≢true e)
+handles_date charge from m Date e n = refl
+handles_date charge from m SetDate e n = refl
+handles_date charge from m DateReq e n = absurd (false≢true (sym n))
+handles_date charge from m SetDateReq e n = absurd (false≢true (sym n))
+handles_date charge from m _ e n = absurd (false≢true e)
 
-pub handles-request : (charge : Bool) (from : Place) (m : MessageValue) (k : Kind) → is_date_request k ≡ true → handles_kind charge from m k ≡
+pub handles_request : (charge : Bool) (from : Place) (m : MessageValue) (k : Kind) → is_date_request k ≡ true → handles_kind charge from m k ≡
     from_peer from (date_request_of charge m)
 unfolding handles_kind
-handles-request charge from m DateReq e = refl
-handles-request charge from m SetDateReq e = refl
-handles-request charge from m _ e = absurd (false≢true e)
+handles_request charge from m DateReq e = refl
+handles_request charge from m SetDateReq e = refl
+handles_request charge from m _ e = absurd (false≢true e)
 
-pub handles-end : (charge : Bool) (from : Place) (m : MessageValue) (k : Kind) → k ≡ DateAck → handles_kind charge from m k ≡ from_peer from (date_acked m)
+pub handles_end : (charge : Bool) (from : Place) (m : MessageValue) (k : Kind) → k ≡ DateAck → handles_kind charge from m k ≡ from_peer from (date_acked m)
 unfolding handles_kind
-handles-end charge from m k e = rw e refl
+handles_end charge from m k e = rw e refl
 
 -- a client's date
-pub date-charged : (from : Place) (m : MessageValue) (r : Role) (t : Task) (x : ℕ) (past : Past) → role past.seen ≡ r →
+pub date_charged : (from : Place) (m : MessageValue) (r : Role) (t : Task) (x : ℕ) (past : Past) → role past.seen ≡ r →
     date_in from m.number (time_in m.body) r ≡ task_row t from m → date_of true from m x past ≡ task_row t from m x past
 unfolding date_of reading
-date-charged from m r t x past e f = rw (e, f) refl
+date_charged from m r t x past e f = rw (e, f) refl
 
-pub date-ignored : (from : Place) (m : MessageValue) (r : Role) → ((q : PeerId) → r ≡ Follow q → ⊥) → r ≢ Master → date_in from m.number (time_in m.body) r ≡
+pub date_ignored : (from : Place) (m : MessageValue) (r : Role) → ((q : PeerId) → r ≡ Follow q → ⊥) → r ≢ Master → date_in from m.number (time_in m.body) r ≡
     task_row Nothing from m
 unfolding date_in
-date-ignored from m (Follow q) f n = absurd (f q refl)
-date-ignored from m Master f n = absurd (n refl)
-date-ignored from m _ f n = refl
+date_ignored from m (Follow q) f n = absurd (f q refl)
+date_ignored from m Master f n = absurd (n refl)
+date_ignored from m _ f n = refl
 
-pub date-uncharged : (from : Place) (m : MessageValue) (x : ℕ) (past : Past) → date_of false from m x past ≡ task_row Nothing from m x past
+pub date_uncharged : (from : Place) (m : MessageValue) (x : ℕ) (past : Past) → date_of false from m x past ≡ task_row Nothing from m x past
 unfolding date_of
-date-uncharged from m x past = refl
+date_uncharged from m x past = refl
 
 -- a date that a peer passes on
-pub request-heard : (charge : Bool) (m : MessageValue) (p : PeerId) (r : Role) (t : Task) (x : ℕ) (past : Past) → is_heard p x past ≡ true → role past.seen ≡
+pub request_heard : (charge : Bool) (m : MessageValue) (p : PeerId) (r : Role) (t : Task) (x : ℕ) (past : Past) → is_heard p x past ≡ true → role past.seen ≡
     r → date_request_in charge m p r x past ≡ task_row t (Peer p) m x past →
     from_peer (Peer p) (date_request_of charge m) x past ≡ task_row t (Peer p) m x past
 unfolding from_peer either_by date_request_of reading
-request-heard charge m p r t x past h e f = let row : date_request_in charge m p (role past.seen) x past ≡ task_row t (Peer p) m x past = rw e f in rw h row
+request_heard charge m p r t x past h e f = let row : date_request_in charge m p (role past.seen) x past ≡ task_row t (Peer p) m x past = rw e f in rw h row
 
-pub request-unheard : (charge : Bool) (m : MessageValue) (p : PeerId) (x : ℕ) (past : Past) → is_heard p x past ≡ false →
+pub request_unheard : (charge : Bool) (m : MessageValue) (p : PeerId) (x : ℕ) (past : Past) → is_heard p x past ≡ false →
     from_peer (Peer p) (date_request_of charge m) x past ≡ task_row Nothing (Peer p) m x past
 unfolding from_peer either_by
-request-unheard charge m p x past h = rw h refl
+request_unheard charge m p x past h = rw h refl
 
-pub request-stranger : (charge : Bool) (m : MessageValue) (x : ℕ) (past : Past) → from_peer Stranger (date_request_of charge m) x past ≡
+pub request_stranger : (charge : Bool) (m : MessageValue) (x : ℕ) (past : Past) → from_peer Stranger (date_request_of charge m) x past ≡
     task_row Nothing Stranger m x past
 unfolding from_peer
-request-stranger charge m x past = refl
+request_stranger charge m x past = refl
 
 -- whether a date is the last one of its peer, as the dates have it
-pub dated-is : (p : PeerId) (number x : ℕ) (past : Past) (d : DatesValue) → DatesStand past d → is_dated p number x past ≡ is_last number x (last_in d.dated p)
-dated-is p number x past d h = ap (is_last number x) (sym (h.last p))
+pub dated_is : (p : PeerId) (number x : ℕ) (past : Past) (d : DatesValue) → DatesStand past d → is_dated p number x past ≡ is_last number x (last_in d.dated p)
+dated_is p number x past d h = ap (is_last number x) (sym (h.last p))
 
 -- at a master it is the last one, or another one
-pub request-again : (charge : Bool) (m : MessageValue) (p : PeerId) (x : ℕ) (past : Past) → is_dated p m.number x past ≡ true →
+pub request_again : (charge : Bool) (m : MessageValue) (p : PeerId) (x : ℕ) (past : Past) → is_dated p m.number x past ≡ true →
     date_request_in charge m p Master x past ≡ task_row (AnswerAgain p) (Peer p) m x past
 unfolding date_request_in either_by
-request-again charge m p x past e = rw e refl
+request_again charge m p x past e = rw e refl
 
-pub request-sets : (m : MessageValue) (p : PeerId) (x : ℕ) (past : Past) → is_dated p m.number x past ≡ false → date_request_in true m p Master x past ≡
+pub request_sets : (m : MessageValue) (p : PeerId) (x : ℕ) (past : Past) → is_dated p m.number x past ≡ false → date_request_in true m p Master x past ≡
     task_row Set (Peer p) m x past
 unfolding date_request_in either_by sets_in_charge
-request-sets m p x past e = rw e refl
+request_sets m p x past e = rw e refl
 
-pub request-ignored : (m : MessageValue) (p : PeerId) (x : ℕ) (past : Past) → is_dated p m.number x past ≡ false → date_request_in false m p Master x past ≡
+pub request_ignored : (m : MessageValue) (p : PeerId) (x : ℕ) (past : Past) → is_dated p m.number x past ≡ false → date_request_in false m p Master x past ≡
     task_row Nothing (Peer p) m x past
 unfolding date_request_in either_by sets_in_charge
-request-ignored m p x past e = rw e refl
+request_ignored m p x past e = rw e refl
 
-pub request-other : (charge : Bool) (m : MessageValue) (p : PeerId) (r : Role) (x : ℕ) (past : Past) → r ≢ Master → date_request_in charge m p r x past ≡
+pub request_other : (charge : Bool) (m : MessageValue) (p : PeerId) (r : Role) (x : ℕ) (past : Past) → r ≢ Master → date_request_in charge m p r x past ≡
     task_row Nothing (Peer p) m x past
 unfolding date_request_in
-request-other charge m p Master x past n = absurd (n refl)
-request-other charge m p _ x past n = refl
+request_other charge m p Master x past n = absurd (n refl)
+request_other charge m p _ x past n = refl
 
 -- the acts of the message's task are what it calls for
 pub Performs_task : (t : Task) (charge : Bool) (from : Place) (m : MessageValue) {x : ℕ} {port : Port} {before after : DateState} {old new : List Placed} →

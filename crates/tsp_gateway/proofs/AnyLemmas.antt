@@ -55,20 +55,20 @@ station_there past g q part station lt is same h = subst (λ (s : Station). Stat
     (h.ports q part (part_there g q part lt is)).station
 
 module _ (test keep : Port → Bool) where
-  any-none : (i : ℕ) (setups : List PortSetup) → ((k : ℕ) → keep (port_at k) ≡ true → i ≤ k → k < i + length setups → test (port_at k) ≡ false) →
+  any_none : (i : ℕ) (setups : List PortSetup) → ((k : ℕ) → keep (port_at k) ≡ true → i ≤ k → k < i + length setups → test (port_at k) ≡ false) →
       any_port test (filter keep (ports_from i setups)) ≡ false
-  any-none i [] none = refl
-  any-none i (s ∷ later) none = by_case (keep (port_at i)) refl (any-none (i + 1) later (λ k kept from lt. none k kept (omega (arith, from))
+  any_none i [] none = refl
+  any_none i (s ∷ later) none = by_case (keep (port_at i)) refl (any_none (i + 1) later (λ k kept from lt. none k kept (omega (arith, from))
       (omega (arith, lt)))) where
         by_case : (b : Bool) → keep (port_at i) ≡ b → any_port test (filter keep (ports_from (i + 1) later)) ≡ false →
             any_port test (if b then port_at i ∷ filter keep (ports_from (i + 1) later) else filter keep (ports_from (i + 1) later)) ≡ false
         by_case true kept more = let here = none i kept (omega arith) (omega arith) in rw here more
         by_case false kept more = more
 
-  any-some : (i : ℕ) (setups : List PortSetup) (k : ℕ) → keep (port_at k) ≡ true → i ≤ k → k < i + length setups → test (port_at k) ≡ true →
+  any_some : (i : ℕ) (setups : List PortSetup) (k : ℕ) → keep (port_at k) ≡ true → i ≤ k → k < i + length setups → test (port_at k) ≡ true →
       any_port test (filter keep (ports_from i setups)) ≡ true
-  any-some i [] k kept from lt is = let bad : ⊥ = omega (arith, from, lt) in absurd bad
-  any-some i (s ∷ later) k kept from lt is = by_case (i == k) refl (λ n. any-some (i + 1) later k kept (omega (arith, from, n)) (omega (arith, lt)) is)
+  any_some i [] k kept from lt is = let bad : ⊥ = omega (arith, from, lt) in absurd bad
+  any_some i (s ∷ later) k kept from lt is = by_case (i == k) refl (λ n. any_some (i + 1) later k kept (omega (arith, from, n)) (omega (arith, lt)) is)
       (keep (port_at i)) refl where
         hold : (b : Bool) (rest : List Port) → any_port test rest ≡ true → any_port test (if b then port_at i ∷ rest else rest) ≡ true
         hold true rest more = or_right (test (port_at i)) (any_port test rest) more
@@ -83,32 +83,32 @@ module _ (test keep : Port → Bool) where
 -- none of the lower ports
 pub lower_none : (asked : Asked) (q : ℕ) (past : NodePast) → ((k : ℕ) → k < q → asked_on asked past (port_at k) ≡ false) → any_lower asked (port_at q) past ≡
     false
-lower_none asked q past none = any-none (asked_on asked past) (λ r. nat_lt r.0 q) 0 past.ports (λ k kept from lt. none k (ltb-true k q kept))
+lower_none asked q past none = any_none (asked_on asked past) (λ r. nat_lt r.0 q) 0 past.ports (λ k kept from lt. none k (ltb-true k q kept))
 
 -- one of them
 pub lower_some : (asked : Asked) (q : ℕ) (past : NodePast) (k : ℕ) → k < q → k < length past.ports → asked_on asked past (port_at k) ≡ true →
     any_lower asked (port_at q) past ≡ true
-lower_some asked q past k lt has is = any-some (asked_on asked past) (λ r. nat_lt r.0 q) 0 past.ports k (lt-ltb k q lt) (omega arith) (omega (arith, has)) is
+lower_some asked q past k lt has is = any_some (asked_on asked past) (λ r. nat_lt r.0 q) 0 past.ports k (lt-ltb k q lt) (omega arith) (omega (arith, has)) is
 
 -- none of the other ports
 pub other_none : (asked : Asked) (q : ℕ) (past : NodePast) → ((k : ℕ) → k < length past.ports → k ≢ q → asked_on asked past (port_at k) ≡ false) →
     any_other asked (port_at q) past ≡ false
 other_none asked q past none =
-    any-none (asked_on asked past) (λ r. not (r.0 == q)) 0 past.ports (λ k kept from lt. none k (omega (arith, lt)) (λ same. true≢false (sym (eq-eqb k q same) ∙
+    any_none (asked_on asked past) (λ r. not (r.0 == q)) 0 past.ports (λ k kept from lt. none k (omega (arith, lt)) (λ same. true≢false (sym (eq-eqb k q same) ∙
     not-true (k == q) kept)))
 
 -- one of them
 pub other_some : (asked : Asked) (q : ℕ) (past : NodePast) (k : ℕ) → k ≢ q → k < length past.ports → asked_on asked past (port_at k) ≡ true →
     any_other asked (port_at q) past ≡ true
 other_some asked q past k n has is =
-    any-some (asked_on asked past) (λ r. not (r.0 == q)) 0 past.ports k (let other = ne_eqb k q n in rw other refl) (omega arith) (omega (arith, has)) is
+    any_some (asked_on asked past) (λ r. not (r.0 == q)) 0 past.ports k (let other = ne_eqb k q n in rw other refl) (omega arith) (omega (arith, has)) is
 
 -- all ports are below their number
 pub lower_all : (asked : Asked) (past : NodePast) → any_lower asked (port_at (length past.ports)) past ≡
     any_port (asked_on asked past) (ports_from 0 past.ports)
-lower_all asked past = ap (any_port (asked_on asked past)) (kept-all (length past.ports) 0 past.ports (omega arith)) where
-  kept-all : (n i : ℕ) (setups : List PortSetup) → i + length setups ≤ n → filter (λ (r : Port). nat_lt r.0 n) (ports_from i setups) ≡ ports_from i setups
-  kept-all n i [] le = refl
-  kept-all n i (s ∷ later) le =
+lower_all asked past = ap (any_port (asked_on asked past)) (kept_all (length past.ports) 0 past.ports (omega arith)) where
+  kept_all : (n i : ℕ) (setups : List PortSetup) → i + length setups ≤ n → filter (λ (r : Port). nat_lt r.0 n) (ports_from i setups) ≡ ports_from i setups
+  kept_all n i [] le = refl
+  kept_all n i (s ∷ later) le =
       let here : nat_lt i n ≡ true = lt-ltb i n (omega (arith, le)) in
-      rw here (ap (λ rs. port_at i ∷ rs) (kept-all n (i + 1) later (omega (arith, le))))
+      rw here (ap (λ rs. port_at i ∷ rs) (kept_all n (i + 1) later (omega (arith, le))))

@@ -20,9 +20,9 @@ record StandsAside (past : Past) (v : PortValue) : Type 0 where
   pub resolve : ResolveStands past v.resolve
   pub dates : DatesStand past v.dates
 
-stands-aside : (x : ℕ) (past : Past) (a : Act) (v : PortValue) → (a ≡ Boot → ⊥) → StandsAside past v → StandsAside (aside x past a) v
-stands-aside x past Boot v n h = absurd (n refl)
-stands-aside x past _ v n h = record {
+stands_aside : (x : ℕ) (past : Past) (a : Act) (v : PortValue) → (a ≡ Boot → ⊥) → StandsAside past v → StandsAside (aside x past a) v
+stands_aside x past Boot v n h = absurd (n refl)
+stands_aside x past _ v n h = record {
   station = record {
     own = h.station.own;
     name = h.station.name;
@@ -57,60 +57,60 @@ stands-aside x past _ v n h = record {
   dates = record { peers = h.dates.peers; last = h.dates.last; asked = h.dates.asked };
 }
 
-stands-all-aside : (x : ℕ) (past : Past) (acts : List Act) (v : PortValue) → Bootless acts → StandsAside past v → StandsAside (all_aside x past acts) v
-stands-all-aside x past [] v b h = record { station = h.station; name_is = h.name_is; master = h.master; resolve = h.resolve; dates = h.dates }
-stands-all-aside x past (a ∷ later) v b h = stands-all-aside x (aside x past a) later v b.1 (stands-aside x past a v b.0 h)
+stands_all_aside : (x : ℕ) (past : Past) (acts : List Act) (v : PortValue) → Bootless acts → StandsAside past v → StandsAside (all_aside x past acts) v
+stands_all_aside x past [] v b h = record { station = h.station; name_is = h.name_is; master = h.master; resolve = h.resolve; dates = h.dates }
+stands_all_aside x past (a ∷ later) v b h = stands_all_aside x (aside x past a) later v b.1 (stands_aside x past a v b.0 h)
 
 -- the tick of the node's last correction, and what it took on this port
 record Remembered (past : Past) (tick : Option ℕ) (took : Option Correcting) : Type 0 where
   pub tick_is : tick ≡ correct_tick (plain past.seen)
   pub taken_is : took ≡ last_taken past.seen
 
-still-aside : (x : ℕ) (past : Past) (a : Act) (tick : Option ℕ) (took : Option Correcting) → (a ≡ Boot → ⊥) → is_correct a ≡ false → Remembered past tick took →
+still_aside : (x : ℕ) (past : Past) (a : Act) (tick : Option ℕ) (took : Option Correcting) → (a ≡ Boot → ⊥) → is_correct a ≡ false → Remembered past tick took →
     Remembered (aside x past a) tick took
-still-aside x past Boot tick took n c h = absurd (n refl)
-still-aside x past (Correct amount stepped shown) tick took n c h = absurd (true≢false c)
-still-aside x past _ tick took n c h = record { tick_is = h.tick_is; taken_is = h.taken_is }
+still_aside x past Boot tick took n c h = absurd (n refl)
+still_aside x past (Correct amount stepped shown) tick took n c h = absurd (true≢false c)
+still_aside x past _ tick took n c h = record { tick_is = h.tick_is; taken_is = h.taken_is }
 
-still-all-aside : (x : ℕ) (past : Past) (acts : List Act) (tick : Option ℕ) (took : Option Correcting) → Bootless acts → corrects acts ≡ false →
+still_all_aside : (x : ℕ) (past : Past) (acts : List Act) (tick : Option ℕ) (took : Option Correcting) → Bootless acts → corrects acts ≡ false →
     Remembered past tick took → Remembered (all_aside x past acts) tick took
-still-all-aside x past [] tick took b c h = record { tick_is = h.tick_is; taken_is = h.taken_is }
-still-all-aside x past (a ∷ later) tick took b c h =
+still_all_aside x past [] tick took b c h = record { tick_is = h.tick_is; taken_is = h.taken_is }
+still_all_aside x past (a ∷ later) tick took b c h =
     let both = or_parts (is_correct a) (corrects later) c in
-    still-all-aside x (aside x past a) later tick took b.1 both.1 (still-aside x past a tick took b.0 both.0 h)
+    still_all_aside x (aside x past a) later tick took b.1 both.1 (still_aside x past a tick took b.0 both.0 h)
 
-moved-aside : (x : ℕ) (past : Past) (a : Act) → is_correct a ≡ true → Remembered (aside x past a) (Some x) None
-moved-aside x past (Correct amount stepped shown) c = record { tick_is = refl; taken_is = refl }
-moved-aside x past _ c = absurd (true≢false (sym c))
+moved_aside : (x : ℕ) (past : Past) (a : Act) → is_correct a ≡ true → Remembered (aside x past a) (Some x) None
+moved_aside x past (Correct amount stepped shown) c = record { tick_is = refl; taken_is = refl }
+moved_aside x past _ c = absurd (true≢false (sym c))
 
 -- a correction elsewhere at this tick is still the last one, or there was another at this tick
-told-aside : (x : ℕ) (past : Past) (a : Act) → (a ≡ Boot → ⊥) → Remembered past (Some x) None → Remembered (aside x past a) (Some x) None
-told-aside x past Boot n h = absurd (n refl)
-told-aside x past (Correct amount stepped shown) n h = record { tick_is = refl; taken_is = refl }
-told-aside x past _ n h = record { tick_is = h.tick_is; taken_is = h.taken_is }
+told_aside : (x : ℕ) (past : Past) (a : Act) → (a ≡ Boot → ⊥) → Remembered past (Some x) None → Remembered (aside x past a) (Some x) None
+told_aside x past Boot n h = absurd (n refl)
+told_aside x past (Correct amount stepped shown) n h = record { tick_is = refl; taken_is = refl }
+told_aside x past _ n h = record { tick_is = h.tick_is; taken_is = h.taken_is }
 
-told-all-aside : (x : ℕ) (past : Past) (acts : List Act) → Bootless acts → Remembered past (Some x) None → Remembered (all_aside x past acts) (Some x) None
-told-all-aside x past [] b h = record { tick_is = h.tick_is; taken_is = h.taken_is }
-told-all-aside x past (a ∷ later) b h = told-all-aside x (aside x past a) later b.1 (told-aside x past a b.0 h)
+told_all_aside : (x : ℕ) (past : Past) (acts : List Act) → Bootless acts → Remembered past (Some x) None → Remembered (all_aside x past acts) (Some x) None
+told_all_aside x past [] b h = record { tick_is = h.tick_is; taken_is = h.taken_is }
+told_all_aside x past (a ∷ later) b h = told_all_aside x (aside x past a) later b.1 (told_aside x past a b.0 h)
 
-moved-all-aside : (x : ℕ) (past : Past) (acts : List Act) → Bootless acts → corrects acts ≡ true → Remembered (all_aside x past acts) (Some x) None
-moved-all-aside x past [] b c = absurd (true≢false (sym c))
-moved-all-aside x past (a ∷ later) b c = by_case (is_correct a) refl c (λ f. moved-all-aside x (aside x past a) later b.1 f) where
+moved_all_aside : (x : ℕ) (past : Past) (acts : List Act) → Bootless acts → corrects acts ≡ true → Remembered (all_aside x past acts) (Some x) None
+moved_all_aside x past [] b c = absurd (true≢false (sym c))
+moved_all_aside x past (a ∷ later) b c = by_case (is_correct a) refl c (λ f. moved_all_aside x (aside x past a) later b.1 f) where
   by_case : (d : Bool) → is_correct a ≡ d → (d || corrects later) ≡ true → (corrects later ≡ true →
       Remembered (all_aside x (aside x past a) later) (Some x) None) → Remembered (all_aside x (aside x past a) later) (Some x) None
-  by_case true e f more = told-all-aside x (aside x past a) later b.1 (moved-aside x past a e)
+  by_case true e f more = told_all_aside x (aside x past a) later b.1 (moved_aside x past a e)
   by_case false e f more = more f
 
-aside-of : (past : Past) (part : Part) (clock : ClockValue) → PortStands past (port_with part clock) → StandsAside past (port_with part clock)
-aside-of past part clock h = record { station = h.station; name_is = h.last.name_is; master = h.master; resolve = h.resolve; dates = h.dates }
+aside_of : (past : Past) (part : Part) (clock : ClockValue) → PortStands past (port_with part clock) → StandsAside past (port_with part clock)
+aside_of past part clock h = record { station = h.station; name_is = h.last.name_is; master = h.master; resolve = h.resolve; dates = h.dates }
 
 -- another port's acts leave a port alone that don't correct
 pub stands_still : (x : ℕ) (past : Past) (acts : List Act) (part : Part) (before after : ClockValue) → Bootless acts → corrects acts ≡ false →
     ClockStands (all_aside x past acts) after → PortStands past (port_with part before) →
     PortStands (all_aside x past acts) (port_with part after)
 stands_still x past acts part before after b c k h =
-    let s = stands-all-aside x past acts (port_with part before) b (aside-of past part before h) in
-    let r = still-all-aside x past acts part.last.tick part.last.taken b c (record { tick_is = h.last.tick_is; taken_is = h.last.taken_is }) in
+    let s = stands_all_aside x past acts (port_with part before) b (aside_of past part before h) in
+    let r = still_all_aside x past acts part.last.tick part.last.taken b c (record { tick_is = h.last.tick_is; taken_is = h.last.taken_is }) in
     record {
       station = s.station;
       last = record { tick_is = r.tick_is; taken_is = r.taken_is; name_is = s.name_is };
@@ -125,8 +125,8 @@ pub stands_told : (x : ℕ) (past : Past) (acts : List Act) (part : Part) (befor
     ClockStands (all_aside x past acts) after → PortStands past (port_with part before) →
     PortStands (all_aside x past acts) (told x part after)
 stands_told x past acts part before after b c k h =
-    let s = stands-all-aside x past acts (port_with part before) b (aside-of past part before h) in
-    let r = moved-all-aside x past acts b c in
+    let s = stands_all_aside x past acts (port_with part before) b (aside_of past part before h) in
+    let r = moved_all_aside x past acts b c in
     record {
       station = s.station;
       last = record { tick_is = r.tick_is; taken_is = r.taken_is; name_is = s.name_is };

@@ -30,9 +30,9 @@ get_last (x ∷ xs) y (suc k) p is = elim (get_last xs y k p is) [
 ]
 
 -- every port sees a boot
-boot-on : (q : Port) (x : ℕ) (past : NodePast) → on_port q (spread x past (record { port = first_port; act = Boot } ∷ [])) ≡
+boot_on : (q : Port) (x : ℕ) (past : NodePast) → on_port q (spread x past (record { port = first_port; act = Boot } ∷ [])) ≡
     grown x (on_port q past) (Boot ∷ [])
-boot-on q x past = ap (λ b. record (on_port q past) { seen = seen_as b (line_of past.step x first_port (Acts Boot)).did ∷ view q past.lines })
+boot_on q x past = ap (λ b. record (on_port q past) { seen = seen_as b (line_of past.step x first_port (Acts Boot)).did ∷ view q past.lines })
     (or_right (first_port.0 == q.0) true refl)
 
 -- the node stands after its boot
@@ -51,23 +51,23 @@ booted c word x wall past g fresh flag clock u = record {
         strict = sym u.of.strict;
         peers_are = ap (λ (ps : List PortSetup). (slice_index_or ps q no_port).peers) (sym u.of.ports);
       } in
-      subst (λ (p : Past). PortStands p (port_with part g.clock)) (sym (boot-on (port_at q) x past)) ((fresh.each q part is).1 (on_port (port_at q) past) wall
+      subst (λ (p : Past). PortStands p (port_with part g.clock)) (sym (boot_on (port_at q) x past)) ((fresh.each q part is).1 (on_port (port_at q) past) wall
       g.clock of u.cause (clock (on_port (port_at q) past) u.cause));
 }
 
 -- its ports have the peers that they were set up with
-same-peers : (parts : List Part) (setups : List PortSetup) → length parts ≡ length setups → ((q : ℕ) (part : Part) → slice_get parts q ≡ Some part →
+same_peers : (parts : List Part) (setups : List PortSetup) → length parts ≡ length setups → ((q : ℕ) (part : Part) → slice_get parts q ≡ Some part →
     part.station.peers ≡ (slice_index_or setups q no_port).peers) → map (λ (p : Part). p.station.peers) parts ≡ peers_of_ports setups
-same-peers [] [] many each = refl
-same-peers (p ∷ parts) (s ∷ later) many each =
+same_peers [] [] many each = refl
+same_peers (p ∷ parts) (s ∷ later) many each =
     let head = each 0 p refl in
-    let tail = same-peers parts later (omega (arith, many)) (λ q part is. each (suc q) part is) in
+    let tail = same_peers parts later (omega (arith, many)) (λ q part is. each (suc q) part is) in
     ap (λ (ps : List PeerId). ps ∷ map (λ (p : Part). p.station.peers) parts) head ∙ ap (λ (rest : List (List PeerId)). s.peers ∷ rest) tail
-same-peers _ _ many each = let bad : ⊥ = cc in absurd bad
+same_peers _ _ many each = let bad : ⊥ = cc in absurd bad
 
 pub booted_peers : (c : GateConfigValue) (word x : ℕ) (parts : List Part) → AreFresh c word x parts → map (λ (p : Part). p.station.peers) parts ≡
     peers_of_ports c.ports
-booted_peers c word x parts fresh = same-peers parts c.ports fresh.many (λ q part is. (fresh.each q part is).0)
+booted_peers c word x parts fresh = same_peers parts c.ports fresh.many (λ q part is. (fresh.each q part is).0)
 
 -- ports each of which a node can have
 pub each_port : (ports : List PortSetup) → ((q : ℕ) → q < length ports → IsPortSetup (slice_index_or ports q no_port)) → AreGatePorts ports

@@ -9,7 +9,7 @@ use Rattle.tsp_rules.specs.NodeRows.{NodePast, NodeRow, abandons_on, for_ports, 
 use Rattle.tsp_rules.proofs.Emits.{Sort, Acking, Alarming, AllOf, Asking, Backing, Changing, Closing, Correcting, Counting, Emits, Emits_more, Following}
 use Rattle.tsp_rules.proofs.Emits.{Giving, Leading, Numbering, Passing, Posting, Rivalling, Rounding, Sampling, Tabling, is_in, sort_of}
 use Rattle.tsp_rules.proofs.NodeRowLemmas.{All_then, Bootless, on_own}
-use Rattle.tsp_rules.proofs.{Asides.all_aside, Asides.on_other, EmitsStill.row_corrects-none}
+use Rattle.tsp_rules.proofs.{Asides.all_aside, Asides.on_other, EmitsStill.row_corrects_none}
 use Rattle.tsp_clients.{proofs.ClientLemmas.TraceStands_by, specs.ClientStands.TraceStands}
 use Rattle.tsp_clock.specs.{ClockStands.ClockStands, Clocks.ClockValue}
 use Rattle.tsp_node.specs.declared.part.Part.{Part}
@@ -29,16 +29,16 @@ set_cases (x ∷ xs) (suc i) (suc m) y z e = elim (set_cases xs i m y z e) [
 ]
 set_cases (x ∷ xs) _ _ y z e = inr ((λ q. cc), e)
 
-bootless-act : (a : Act) → is_in (sort_of a) bootless ≡ true → a ≡ Boot → ⊥
-bootless-act a e is = true≢false (sym (subst (λ b. is_in (sort_of b) bootless ≡ true) is e))
+bootless_act : (a : Act) → is_in (sort_of a) bootless ≡ true → a ≡ Boot → ⊥
+bootless_act a e is = true≢false (sym (subst (λ b. is_in (sort_of b) bootless ≡ true) is e))
 
-bootless-all : (acts : List Act) → AllOf bootless acts → Bootless acts
-bootless-all [] h = tt
-bootless-all (a ∷ rest) h = (λ is. bootless-act a h.0 is, bootless-all rest h.1)
+bootless_all : (acts : List Act) → AllOf bootless acts → Bootless acts
+bootless_all [] h = tt
+bootless_all (a ∷ rest) h = (λ is. bootless_act a h.0 is, bootless_all rest h.1)
 
 -- rows of no Boot
 pub bootless_by : {row : Row} → Emits bootless row → (x : ℕ) (past : Past) → Bootless (row x past)
-bootless_by {row} e x past = bootless-all (row x past) (e.only x past)
+bootless_by {row} e x past = bootless_all (row x past) (e.only x past)
 
 pub bootless_silent : {row : Row} → Emits silent_trace row → Emits bootless row
 bootless_silent e = Emits_more silent_trace refl e
@@ -53,27 +53,27 @@ pub take_stands : (q : ℕ) (past : NodePast) (g : Gateway) (part : Part) → sl
 take_stands q past g part was h = record { port = h.ports q part was; trace = ap tracing (plain_view (port_at q) past.lines) ∙ h.traces }
 
 -- what all ports see alike of a port's acts
-same-plain : (q r x : ℕ) (past : NodePast) (acts : List Act) → plain (grown x (on_port (port_at q) past) acts).seen ≡
+same_plain : (q r x : ℕ) (past : NodePast) (acts : List Act) → plain (grown x (on_port (port_at q) past) acts).seen ≡
     plain (on_port (port_at r) (spread x past (placed (port_at q) acts))).seen
-same-plain q r x past acts =
+same_plain q r x past acts =
     ap (λ (p : Past). plain p.seen) (sym (on_own (port_at q) x past acts)) ∙ plain_view (port_at q) (spread x past (placed (port_at q) acts)).lines
     ∙ sym (plain_view (port_at r) (spread x past (placed (port_at q) acts)).lines)
 
-traces-on : (q x : ℕ) (past : NodePast) (acts : List Act) (flag : Bool) → TraceStands (grown x (on_port (port_at q) past) acts) flag →
+traces_on : (q x : ℕ) (past : NodePast) (acts : List Act) (flag : Bool) → TraceStands (grown x (on_port (port_at q) past) acts) flag →
     tracing (dids (spread x past (placed (port_at q) acts)).lines) ≡ flag
-traces-on q x past acts flag h =
+traces_on q x past acts flag h =
     ap tracing (sym (plain_view (port_at q) (spread x past (placed (port_at q) acts)).lines)) ∙
     ap (λ (p : Past). tracing (plain p.seen)) (on_own (port_at q) x past acts) ∙ h
 
-own-on : (q x : ℕ) (past : NodePast) (acts : List Act) (state : PortValue) → PortStands (grown x (on_port (port_at q) past) acts) state →
+own_on : (q x : ℕ) (past : NodePast) (acts : List Act) (state : PortValue) → PortStands (grown x (on_port (port_at q) past) acts) state →
     PortStands (on_port (port_at q) (spread x past (placed (port_at q) acts))) state
-own-on q x past acts state h = subst (λ (p : Past). PortStands p state) (sym (on_own (port_at q) x past acts)) h
+own_on q x past acts state h = subst (λ (p : Past). PortStands p state) (sym (on_own (port_at q) x past acts)) h
 
-clock-on : (q r x : ℕ) (past : NodePast) (acts : List Act) (clock : ClockValue) → q ≢ r → Bootless acts →
+clock_on : (q r x : ℕ) (past : NodePast) (acts : List Act) (clock : ClockValue) → q ≢ r → Bootless acts →
     ClockStands (grown x (on_port (port_at q) past) acts) clock → ClockStands (all_aside x (on_port (port_at r) past) acts) clock
-clock-on q r x past acts clock n b h =
+clock_on q r x past acts clock n b h =
     let other = on_other (port_at q) (port_at r) x past acts (apart q r n) b in
-    clock_same (grown x (on_port (port_at q) past) acts) (all_aside x (on_port (port_at r) past) acts) clock (same-plain q r x past acts ∙
+    clock_same (grown x (on_port (port_at q) past) acts) (all_aside x (on_port (port_at r) past) acts) clock (same_plain q r x past acts ∙
     ap (λ (p : Past). plain p.seen) other) h
 
 -- what a node stands for after acts of a port: where they correct, it stands once the other ports are told
@@ -81,32 +81,32 @@ abbrev pub After : Bool → ℕ → ℕ → NodePast → Gateway → Type 0
 After true q x past g = Untold q x past g
 After false q x past g = GatewayStands past g
 
-on-after : (moves : Bool) (q x : ℕ) (past : NodePast) (acts : List Act) (g h : Gateway) (part : Part) → Bootless acts → corrects acts ≡ moves → h.ports.items ≡
+on_after : (moves : Bool) (q x : ℕ) (past : NodePast) (acts : List Act) (g h : Gateway) (part : Part) → Bootless acts → corrects acts ≡ moves → h.ports.items ≡
     set g.ports.items q part → GatewayStands past g →
     TakeStands (grown x (on_port (port_at q) past) acts) (traced_with part h.clock h.tracing) → After moves q x (spread x past (placed (port_at q) acts)) h
-on-after false q x past acts g h part b c is s t = record {
+on_after false q x past acts g h part b c is s t = record {
   many = ap (λ (ps : List Part). length ps) is ∙ length-set g.ports.items q part ∙ s.many;
-  traces = traces-on q x past acts h.tracing t.trace;
+  traces = traces_on q x past acts h.tracing t.trace;
   ports = λ r p there. elim (set_cases g.ports.items q r part p (subst (λ (ps : List Part). slice_get ps r ≡ Some p) is there)) [
     | inl same ↦ subst (λ k. PortStands (on_port (port_at k) (spread x past (placed (port_at q) acts))) (port_with p h.clock)) same.0
         (subst (λ (k : Part). PortStands (on_port (port_at q) (spread x past (placed (port_at q) acts))) (port_with k h.clock)) same.1
-        (own-on q x past acts (port_with part h.clock) t.port))
+        (own_on q x past acts (port_with part h.clock) t.port))
     | inr other ↦ subst (λ (k : Past). PortStands k (port_with p h.clock)) (sym (on_other (port_at q) (port_at r) x past acts (apart q r other.0) b))
-        (stands_still x (on_port (port_at r) past) acts p g.clock h.clock b c (clock-on q r x past acts h.clock other.0 b t.port.clock) (s.ports r p other.1))
+        (stands_still x (on_port (port_at r) past) acts p g.clock h.clock b c (clock_on q r x past acts h.clock other.0 b t.port.clock) (s.ports r p other.1))
   ];
 }
-on-after true q x past acts g h part b c is s t = record {
+on_after true q x past acts g h part b c is s t = record {
   many = ap (λ (ps : List Part). length ps) is ∙ length-set g.ports.items q part ∙ s.many;
-  traces = traces-on q x past acts h.tracing t.trace;
+  traces = traces_on q x past acts h.tracing t.trace;
   here = λ p there. elim (set_cases g.ports.items q q part p (subst (λ (ps : List Part). slice_get ps q ≡ Some p) is there)) [
     | inl same ↦ subst (λ (k : Part). PortStands (on_port (port_at q) (spread x past (placed (port_at q) acts))) (port_with k h.clock)) same.1
-        (own-on q x past acts (port_with part h.clock) t.port)
+        (own_on q x past acts (port_with part h.clock) t.port)
     | inr other ↦ absurd (other.0 refl)
   ];
   others = λ r p there n. elim (set_cases g.ports.items q r part p (subst (λ (ps : List Part). slice_get ps r ≡ Some p) is there)) [
     | inl same ↦ absurd (n (sym same.0))
     | inr other ↦ subst (λ (k : Past). PortStands k (told x p h.clock)) (sym (on_other (port_at q) (port_at r) x past acts (apart q r other.0) b))
-        (stands_told x (on_port (port_at r) past) acts p g.clock h.clock b c (clock-on q r x past acts h.clock other.0 b t.port.clock) (s.ports r p other.1))
+        (stands_told x (on_port (port_at r) past) acts p g.clock h.clock b c (clock_on q r x past acts h.clock other.0 b t.port.clock) (s.ports r p other.1))
   ];
 }
 
@@ -124,7 +124,7 @@ All_on {row = row} {x = x} {q = q} {g = g} {h = h} moves before after e same is 
   acts = λ past w. d.acts (on_port (port_at q) past) (from past w);
   stands = λ past w.
       let acts = row x (on_port (port_at q) past) in
-      on-after moves q x past acts g h after (bootless_by e x (on_port (port_at q) past)) (same past w) is (stands past w)
+      on_after moves q x past acts g h after (bootless_by e x (on_port (port_at q) past)) (same past w) is (stands past w)
       (to (grown x (on_port (port_at q) past) acts) (d.stands (on_port (port_at q) past) (from past w)));
 }
 
@@ -163,7 +163,7 @@ still_sorts = Asking ∷ Correcting ∷ Numbering ∷ Passing ∷ Posting ∷ Le
 
 -- rows of these sorts don't correct
 pub still_by : {row : Row} → Emits still_sorts row → (x : ℕ) (past : Past) → corrects (row x past) ≡ false
-still_by e x past = row_corrects-none (Emits_more still_sorts refl e) x past
+still_by e x past = row_corrects_none (Emits_more still_sorts refl e) x past
 
 pub silent_still : {row : Row} → Emits still_sorts row → Emits silent_trace row
 silent_still e = Emits_more still_sorts refl e
@@ -207,14 +207,14 @@ unfolding reading_all
 All_reading fact rows a t d = record { acts = λ past h. rw (t past h) (d.acts past h); stands = λ past h. rw (t past h) (d.stands past h) }
 
 -- what stands in a place of a list
-there-is : {X : Type 0} (xs : List X) (i : ℕ) → i < length xs → (x : X) × (slice_get xs i ≡ Some x)
-there-is [] i lt = let bad : ⊥ = omega (arith, lt) in absurd bad
-there-is (y ∷ ys) zero lt = (y, refl)
-there-is (y ∷ ys) (suc i) lt = there-is ys i (omega (arith, lt))
+there_is : {X : Type 0} (xs : List X) (i : ℕ) → i < length xs → (x : X) × (slice_get xs i ≡ Some x)
+there_is [] i lt = let bad : ⊥ = omega (arith, lt) in absurd bad
+there_is (y ∷ ys) zero lt = (y, refl)
+there_is (y ∷ ys) (suc i) lt = there_is ys i (omega (arith, lt))
 
 -- the part of a port that the node has
 pub part_of : (g : Gateway) (q : ℕ) → q < length (ports_in g) → (part : Part) × (slice_get g.ports.items q ≡ Some part)
-part_of g q lt = there-is g.ports.items q (subst (λ n. q < n) (length-map g.ports.items _) lt)
+part_of g q lt = there_is g.ports.items q (subst (λ n. q < n) (length-map g.ports.items _) lt)
 
 -- acts of a port that change nothing of it
 pub All_idle : {row : Row} {x q : ℕ} {g : Gateway} {old new : List Placed} → q < length (ports_in g) → Emits bootless row →

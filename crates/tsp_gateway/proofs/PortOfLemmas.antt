@@ -22,7 +22,7 @@ setups_same (p ∷ parts) (s ∷ rest) e f = cons_same (setup_in p) s (map setup
 setups_same _ _ e f = absurd (cc)
 
 -- the ports are set up as the node's past says
-pub setups-stand : (past : NodePast) (g : Gateway) → GatewayStands past g → setups_in g ≡ past.ports
-setups-stand past g s =
+pub setups_stand : (past : NodePast) (g : Gateway) → GatewayStands past g → setups_in g ≡ past.ports
+setups_stand past g s =
     setups_same g.ports.items past.ports s.many (λ q part h. same_setup (setup_in part) (slice_index_or past.ports q no_port) (s.ports q part h).station.own
     (s.ports q part h).station.peers)

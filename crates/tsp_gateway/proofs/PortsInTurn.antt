@@ -12,20 +12,20 @@ between : ℕ → ℕ → List Port
 between k zero = []
 between k (suc n) = port_at k ∷ between (k + 1) n
 
-from-between : (k : ℕ) (setups : List PortSetup) → ports_from k setups ≡ between k (length setups)
+from_between : (k : ℕ) (setups : List PortSetup) → ports_from k setups ≡ between k (length setups)
 unfolding between
-from-between k [] = refl
-from-between k (s ∷ later) = ap (λ rest. port_at k ∷ rest) (from-between (k + 1) later)
+from_between k [] = refl
+from_between k (s ∷ later) = ap (λ rest. port_at k ∷ rest) (from_between (k + 1) later)
 
-between-more : (r n : ℕ) → r < n → between r (n - r) ≡ port_at r ∷ between (r + 1) (n - (r + 1))
+between_more : (r n : ℕ) → r < n → between r (n - r) ≡ port_at r ∷ between (r + 1) (n - (r + 1))
 unfolding between
-between-more r n lt = by_count (n - r) (n - (r + 1)) (omega (arith, lt)) where
+between_more r n lt = by_count (n - r) (n - (r + 1)) (omega (arith, lt)) where
   by_count : (m k : ℕ) → m ≡ suc k → between r m ≡ port_at r ∷ between (r + 1) k
   by_count m k e = rw e refl
 
-between-none : (r n : ℕ) → n ≤ r → between r (n - r) ≡ []
+between_none : (r n : ℕ) → n ≤ r → between r (n - r) ≡ []
 unfolding between
-between-none r n le = by_count (n - r) (omega (arith, le)) where
+between_none r n le = by_count (n - r) (omega (arith, le)) where
   by_count : (m : ℕ) → m ≡ zero → between r m ≡ []
   by_count m e = rw e refl
 
@@ -36,31 +36,31 @@ left whole q r n = filter (is_upset whole q) (between r (n - r))
 pub left_kept : (whole : Bool) (q r n : ℕ) → r < n → is_upset whole q (port_at r) ≡ true → left whole q r n ≡ port_at r ∷ left whole q (r + 1) n
 unfolding left
 left_kept whole q r n lt e =
-    ap (filter (is_upset whole q)) (between-more r n lt) ∙ ap (λ (b : Bool). if b then port_at r ∷
+    ap (filter (is_upset whole q)) (between_more r n lt) ∙ ap (λ (b : Bool). if b then port_at r ∷
     filter (is_upset whole q) (between (r + 1) (n - (r + 1))) else filter (is_upset whole q) (between (r + 1) (n - (r + 1)))) e
 
 pub left_passed : (whole : Bool) (q r n : ℕ) → r < n → is_upset whole q (port_at r) ≡ false → left whole q r n ≡ left whole q (r + 1) n
 unfolding left
 left_passed whole q r n lt e =
-    ap (filter (is_upset whole q)) (between-more r n lt) ∙ ap (λ (b : Bool). if b then port_at r ∷
+    ap (filter (is_upset whole q)) (between_more r n lt) ∙ ap (λ (b : Bool). if b then port_at r ∷
     filter (is_upset whole q) (between (r + 1) (n - (r + 1))) else filter (is_upset whole q) (between (r + 1) (n - (r + 1)))) e
 
 pub left_none : (whole : Bool) (q r n : ℕ) → n ≤ r → left whole q r n ≡ []
 unfolding left
-left_none whole q r n le = ap (filter (is_upset whole q)) (between-none r n le)
+left_none whole q r n le = ap (filter (is_upset whole q)) (between_none r n le)
 
-filter-all : (ports : List Port) (q : ℕ) → filter (is_upset true q) ports ≡ ports
-filter-all [] q = refl
-filter-all (p ∷ later) q = ap (λ rest. p ∷ rest) (filter-all later q)
+filter_all : (ports : List Port) (q : ℕ) → filter (is_upset true q) ports ≡ ports
+filter_all [] q = refl
+filter_all (p ∷ later) q = ap (λ rest. p ∷ rest) (filter_all later q)
 
-all-between : (setups : List PortSetup) → ports_from 0 setups ≡ between 0 (length setups - 0)
-all-between setups = let none : length setups ≡ length setups - 0 = omega arith in from-between 0 setups ∙ ap (between 0) none
+all_between : (setups : List PortSetup) → ports_from 0 setups ≡ between 0 (length setups - 0)
+all_between setups = let none : length setups ≡ length setups - 0 = omega arith in from_between 0 setups ∙ ap (between 0) none
 
 -- at first they are all that are upset
 pub left_all : (whole : Bool) (q x : ℕ) (past : NodePast) → upset_ports whole (port_at q) x past ≡ left whole q 0 (length past.ports)
 unfolding left
-left_all true q x past = sym (filter-all (ports_from 0 past.ports) q) ∙ ap (filter (is_upset true q)) (all-between past.ports)
-left_all false q x past = ap (filter (is_upset false q)) (all-between past.ports)
+left_all true q x past = sym (filter_all (ports_from 0 past.ports) q) ∙ ap (filter (is_upset true q)) (all_between past.ports)
+left_all false q x past = ap (filter (is_upset false q)) (all_between past.ports)
 
 -- a call for one port more
 pub next_port : {P Q R : NodePast → Gateway → Type 0} (row : Port → NodeRow) (whole : Bool) (q r n x : ℕ) {g h last : Gateway} {old mid new : List Placed} →

@@ -15,33 +15,33 @@ use Rattle.tsp_gateway.specs.{GatewayStands.GatewayStands, GatewayStands.port_at
 use Rattle.tsp_gateway.proofs.LiftLemmas.{All_on, bootless_silent, set_same, silent_still, still_by, still_sorts, take_stands}
 
 -- a LOOP is a post like any other
-sort-loop : (m : MessageValue) (sorts : List Sort) → m.kind ≡ LoopKind → is_in Posting sorts ≡ true → is_in (sort_of_kind m.kind) sorts ≡ true
-sort-loop m sorts k e = rw k e
+sort_loop : (m : MessageValue) (sorts : List Sort) → m.kind ≡ LoopKind → is_in Posting sorts ≡ true → is_in (sort_of_kind m.kind) sorts ≡ true
+sort_loop m sorts k e = rw k e
 
-emits-post : {sorts : List Sort} (p : PeerId) (m : MessageValue) → m.kind ≡ LoopKind → is_in Posting sorts ≡ true → Emits sorts (puts (repost m p))
-emits-post {sorts} p m k i = Emits_puts (repost m p) (sort-loop m sorts k i)
+emits_post : {sorts : List Sort} (p : PeerId) (m : MessageValue) → m.kind ≡ LoopKind → is_in Posting sorts ≡ true → Emits sorts (puts (repost m p))
+emits_post {sorts} p m k i = Emits_puts (repost m p) (sort_loop m sorts k i)
 
-one-post : (p : PeerId) (m : MessageValue) (x : ℕ) (past : Past) (state : TracedValue) → m.kind ≡ LoopKind → TakeStands past state →
+one_post : (p : PeerId) (m : MessageValue) (x : ℕ) (past : Past) (state : TracedValue) → m.kind ≡ LoopKind → TakeStands past state →
     TakeStands (grown x past (repost m p ∷ [])) state
 unfolding puts
-one-post p m x past state k h =
+one_post p m x past state k h =
     let numbered : is_numbered m.kind ≡ false = rw k refl in
     record {
       port = record {
         station = Stands_post (Peer p) m x past state.port.station numbered h.port.station;
-        last = Remembers_by (puts (repost m p)) (emits-post p m k refl) x past state.port.last h.port.last;
-        master = MasterStands_quiet (repost m p) (sort-loop m quiet_sorts k refl) x past state.port.master h.port.master;
-        resolve = ResolveStands_by (puts (repost m p)) (emits-post p m k refl) x past state.port.resolve h.port.resolve;
-        dates = DatesStand_by (puts (repost m p)) (emits-post p m k refl) x past state.port.dates h.port.dates;
-        clock = ClockStands_by (puts (repost m p)) (emits-post p m k refl) x past state.port.clock h.port.clock;
+        last = Remembers_by (puts (repost m p)) (emits_post p m k refl) x past state.port.last h.port.last;
+        master = MasterStands_quiet (repost m p) (sort_loop m quiet_sorts k refl) x past state.port.master h.port.master;
+        resolve = ResolveStands_by (puts (repost m p)) (emits_post p m k refl) x past state.port.resolve h.port.resolve;
+        dates = DatesStand_by (puts (repost m p)) (emits_post p m k refl) x past state.port.dates h.port.dates;
+        clock = ClockStands_by (puts (repost m p)) (emits_post p m k refl) x past state.port.clock h.port.clock;
       };
-      trace = TraceStands_by (puts (repost m p)) (emits-post p m k refl) x past state.tracing h.trace;
+      trace = TraceStands_by (puts (repost m p)) (emits_post p m k refl) x past state.tracing h.trace;
     }
 
-all-posts : (ps : List PeerId) (m : MessageValue) (x : ℕ) (past : Past) (state : TracedValue) → m.kind ≡ LoopKind → TakeStands past state →
+all_posts : (ps : List PeerId) (m : MessageValue) (x : ℕ) (past : Past) (state : TracedValue) → m.kind ≡ LoopKind → TakeStands past state →
     TakeStands (grown x past (map (repost m) ps)) state
-all-posts [] m x past state k h = h
-all-posts (p ∷ later) m x past state k h = all-posts later m x (grown x past (repost m p ∷ [])) state k (one-post p m x past state k h)
+all_posts [] m x past state k h = h
+all_posts (p ∷ later) m x past state k h = all_posts later m x (grown x past (repost m p ∷ [])) state k (one_post p m x past state k h)
 
 -- a LOOP to each other peer of a port
 pub All_posted : {x : ℕ} {g : Gateway} {part : Part} {old new : List Placed} (q : ℕ) (row : Row) (m : MessageValue) → m.kind ≡ LoopKind →
@@ -56,7 +56,7 @@ All_posted {x} {g} {part} {old} {new} q row m k e was put same =
     (record {
       acts = λ past h. put ∙ ap (λ acts. old ++ placed (port_at q) acts) (same past h);
       stands = λ past h. subst (λ acts. TakeStands (grown x past acts) (traced_with part g.clock g.tracing)) (same past h)
-          (all-posts (others part.station.me.own part.station.peers) m x past (traced_with part g.clock g.tracing) k h);
+          (all_posts (others part.station.me.own part.station.peers) m x past (traced_with part g.clock g.tracing) k h);
     })
 
 -- a node's own LOOP, posted as it is

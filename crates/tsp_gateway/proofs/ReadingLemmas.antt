@@ -36,16 +36,16 @@ target_there past g x h =
     ∙ ap (λ (ds : List Did). (base ds +ℤ moved ds) +ℤ pos x) (plain_view (port_at 0) past.lines)
 
 -- a port that follows nobody is passed over
-pub followed-step : (past : NodePast) (setups : List PortSetup) (k q next : ℕ) → q < length setups → next ≡ suc q
+pub followed_step : (past : NodePast) (setups : List PortSetup) (k q next : ℕ) → q < length setups → next ≡ suc q
     → followed_on past (ports_from k (drop q setups))
     ≡ or_else (master_of (role (view (port_at k) past.lines))) (followed_on past (ports_from (k + 1) (drop next setups)))
-followed-step past [] k q next lt e = let bad : ⊥ = omega (arith, lt) in absurd bad
-followed-step past (s ∷ later) k zero next lt e = rw e refl
-followed-step past (s ∷ later) k (suc q) next lt e = rw e (followed-step past later k q (suc q) (omega (arith, lt)) refl)
+followed_step past [] k q next lt e = let bad : ⊥ = omega (arith, lt) in absurd bad
+followed_step past (s ∷ later) k zero next lt e = rw e refl
+followed_step past (s ∷ later) k (suc q) next lt e = rw e (followed_step past later k q (suc q) (omega (arith, lt)) refl)
 
 -- behind the last port there is none
-pub followed-end : (past : NodePast) (setups : List PortSetup) (k q : ℕ) → length setups ≤ q → followed_on past (ports_from k (drop q setups)) ≡ None
-followed-end past [] k zero le = refl
-followed-end past [] k (suc q) le = refl
-followed-end past (s ∷ later) k zero le = let bad : ⊥ = omega (arith, le) in absurd bad
-followed-end past (s ∷ later) k (suc q) le = followed-end past later k q (omega (arith, le))
+pub followed_end : (past : NodePast) (setups : List PortSetup) (k q : ℕ) → length setups ≤ q → followed_on past (ports_from k (drop q setups)) ≡ None
+followed_end past [] k zero le = refl
+followed_end past [] k (suc q) le = refl
+followed_end past (s ∷ later) k zero le = let bad : ⊥ = omega (arith, le) in absurd bad
+followed_end past (s ∷ later) k (suc q) le = followed_end past later k q (omega (arith, le))

@@ -7,18 +7,18 @@ use Rattle.tsp_rules.proofs.NodeRowLemmas.{All_then}
 use Rattle.tsp_node.specs.declared.part.Part.{Part}
 use Rattle.tsp_gateway.specs.{declared.gateway.Gateway.Gateway, Dues.IsGatewayDue, Dues.RestsUntil, Dues.Waits, Dues.least_of}
 use Rattle.tsp_gateway.specs.GatewayStands.{GatewayBegun, GatewayStands, GatewayTurning}
-use Rattle.tsp_gateway.proofs.{DueLemmas.before-over, DueLemmas.none_over, TurnLemmas.All_waits, TurnLemmas.Waits-before}
+use Rattle.tsp_gateway.proofs.{DueLemmas.before_over, DueLemmas.none_over, TurnLemmas.All_waits, TurnLemmas.Waits_before}
 use Rattle.tsp_gateway.proofs.LiftLemmas.{All_nothing, All_same, part_of, ports_many}
 use Rattle.tsp_gateway.proofs.PortsInTurn.{last_port, left, next_port, upset_all}
 
 -- nothing of a node is due before its deadline
-pub RestsUntil-deadline : (g : Gateway) (due : ℕ) → IsGatewayDue g due → RestsUntil due g
-RestsUntil-deadline g due d x q part before there =
+pub RestsUntil_deadline : (g : Gateway) (due : ℕ) → IsGatewayDue g due → RestsUntil due g
+RestsUntil_deadline g due d x q part before there =
     let own = get_or d.dues q None in
     let has : slice_get d.dues q ≡ Some own = slice_get-get_or d.dues q None (let inside = slice_get_within g.ports.items q part there in let many = d.many in
     omega (arith, inside, many)) in
     let one = d.each q own has in
-    let waits = Waits-before x one.0 own one.2 (none_over d.dues q x own has (before-over (least_of d.dues) x (subst (λ t. x < t) d.at_is before))) in
+    let waits = Waits_before x one.0 own one.2 (none_over d.dues q x own has (before_over (least_of d.dues) x (subst (λ t. x < t) d.at_is before))) in
     subst (λ (p : Part). Waits x p) (same_Some one.0 part (sym one.1 ∙ there)) waits
 
 -- so many ports that are left do nothing

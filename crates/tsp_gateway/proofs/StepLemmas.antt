@@ -10,9 +10,9 @@ use Rattle.tsp_node.proofs.RivalKeeps.{ResolveStands_in_step, ResolveStands_step
 use Rattle.tsp_gateway.specs.declared.gateway.Gateway.{Gateway}
 use Rattle.tsp_gateway.specs.GatewayStands.{GatewayBegun, GatewayStands, port_at}
 
-part-step : (step : Step) (past : Past) (part : Part) (clock : ClockValue) → PortStands past (port_with part clock) →
+part_step : (step : Step) (past : Past) (part : Part) (clock : ClockValue) → PortStands past (port_with part clock) →
     PortStands (record past { step = step }) (port_with part clock)
-part-step step past part clock p = record {
+part_step step past part clock p = record {
   station = record {
     own = p.station.own;
     name = p.station.name;
@@ -39,13 +39,13 @@ pub GatewayStands_step : (step : Step) (past : NodePast) (g : Gateway) → Gatew
 GatewayStands_step step past g h = record {
   many = h.many;
   traces = h.traces;
-  ports = λ q part is. part-step step (on_port (port_at q) past) part g.clock
+  ports = λ q part is. part_step step (on_port (port_at q) past) part g.clock
       (h.ports q part is);
 }
 
-part-in-step : (step : Step) (x : ℕ) (past : Past) (part : Part) (clock : ClockValue) → PortStands past (port_with part clock) →
+part_in_step : (step : Step) (x : ℕ) (past : Past) (part : Part) (clock : ClockValue) → PortStands past (port_with part clock) →
     PortStands (in_step step x past) (port_with part clock)
-part-in-step step x past part clock p = record {
+part_in_step step x past part clock p = record {
   station = record {
     own = p.station.own;
     name = p.station.name;
@@ -81,7 +81,7 @@ GatewayBegun_in_step step x past g h = record {
     many = h.many;
     traces = h.traces;
     ports = λ q part is. subst (λ (p : Past). PortStands p (port_with part g.clock)) (sym (mark_on q step x past))
-        (part-in-step step x (on_port (port_at q) past) part g.clock (h.ports q part is));
+        (part_in_step step x (on_port (port_at q) past) part g.clock (h.ports q part is));
   };
   turns = record {
     untaken = λ r. ap (λ (p : Past). taken p.seen) (mark_on r.0 step x past);

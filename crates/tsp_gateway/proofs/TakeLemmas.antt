@@ -11,7 +11,7 @@ use Rattle.tsp_node.{proofs.TakeEmits.emits_takes, specs.NodeStands.TakeStands, 
 use Rattle.tsp_gateway.specs.{GateInputs.HoldsNoMessage, GatewayStands.GatewayStands, GatewayStands.port_at}
 use Rattle.tsp_gateway.specs.{Untold.Untold, Untold.upset_ports, declared.gateway.Gateway.Gateway}
 use Rattle.tsp_rules.proofs.{BuiltAnswers.built_handles, BuiltAnswers.taken_sorts, EmitsBuilt.emits_built, EmitsBuilt.nothing_taken}
-use Rattle.tsp_rules.proofs.{EmitsStill.row_corrects-none, EmitsStill.still_sorts, Unchanged.place_unchanged}
+use Rattle.tsp_rules.proofs.{EmitsStill.row_corrects_none, EmitsStill.still_sorts, Unchanged.place_unchanged}
 use Rattle.tsp_gateway.proofs.LiftLemmas.{All_on, All_same, All_stirred, All_unstirred, take_stands}
 
 -- the ports whose rounds a message may end
@@ -22,9 +22,9 @@ upset_are q kind x past = by_case (sets_date kind) where
   by_case false = refl
 
 -- the same row by other names of what it reads
-same-row : (q : Port) (from : Place) (t : Taken) (x : ℕ) (past : NodePast) (s s' c c' : Bool) (ports ports' : List Port) → s' ≡ s → c' ≡ c → ports ≡ ports' →
+same_row : (q : Port) (from : Place) (t : Taken) (x : ℕ) (past : NodePast) (s s' c c' : Bool) (ports ports' : List Port) → s' ≡ s → c' ≡ c → ports ≡ ports' →
     stirring q ports (takes s c from t) x past ≡ stirring q ports' (takes s' c' from t) x past
-same-row q from t x past s s' c c' ports ports' e f g = rw (e, f, g) refl
+same_row q from t x past s s' c c' ports ports' e f g = rw (e, f, g) refl
 
 -- a message is taken that corrects
 pub All_taken : {x : ℕ} {g h i : Gateway} {before : Part} {old mid new : List Placed} (after : Part) (q : ℕ) (steer charge : Bool) (from : Place)
@@ -40,7 +40,7 @@ unfolding takes_message
 All_taken {x} {g} {h} {i} {before} after q steer charge from m flags was is moves d upset =
     let row = takes steer charge from (Good (Message m)) in
     let moved = λ (past : NodePast) (w : GatewayStands past g). moves (on_port (port_at q) past) (take_stands q past g before was w) in
-    All_same (takes_message (port_at q) from m) (λ past w. same-row (port_at q) from (Good (Message m)) x past steer (steers (port_at q) x past) charge
+    All_same (takes_message (port_at q) from m) (λ past w. same_row (port_at q) from (Good (Message m)) x past steer (steers (port_at q) x past) charge
     (in_charge (port_at q) x past) (upset_ports (sets_date m.kind) (port_at q) x past) (stirred_ports (port_at q) m.kind past) (flags past w).0
     (flags past w).1 (upset_are q m.kind x past))
     (All_stirred {W = GatewayStands} q row (sets_date m.kind) moved
@@ -59,7 +59,7 @@ unfolding takes_message
 All_passed {x} {g} {h} {before} after q steer charge from m flags was is stays d =
     let row = takes steer charge from (Good (Message m)) in
     let still = λ (past : NodePast) (w : GatewayStands past g). stays (on_port (port_at q) past) (take_stands q past g before was w) in
-    All_same (takes_message (port_at q) from m) (λ past w. same-row (port_at q) from (Good (Message m)) x past steer (steers (port_at q) x past) charge
+    All_same (takes_message (port_at q) from m) (λ past w. same_row (port_at q) from (Good (Message m)) x past steer (steers (port_at q) x past) charge
     (in_charge (port_at q) x past) (upset_ports (sets_date m.kind) (port_at q) x past) (stirred_ports (port_at q) m.kind past) (flags past w).0
     (flags past w).1 (upset_are q m.kind x past))
     (All_unstirred {W = GatewayStands} q row (sets_date m.kind) still
@@ -67,20 +67,20 @@ All_passed {x} {g} {h} {before} after q steer charge from m flags was is stays d
     (λ past w. take_stands q past g before was w) (λ past t. t) d))
 
 -- what spells no message is taken
-still-part : (t : Taken) → HoldsNoMessage t → is_part (taken_sorts t) still_sorts ≡ true
-still-part (Good (Message m)) none = absurd none
-still-part _ none = refl
+still_part : (t : Taken) → HoldsNoMessage t → is_part (taken_sorts t) still_sorts ≡ true
+still_part (Good (Message m)) none = absurd none
+still_part _ none = refl
 
-other-emits : (from : Place) (t : Taken) → HoldsNoMessage t → Emits still_sorts (takes true true from t)
+other_emits : (from : Place) (t : Taken) → HoldsNoMessage t → Emits still_sorts (takes true true from t)
 unfolding takes
-other-emits from t none =
+other_emits from t none =
     Emits_then (puts (Took from t)) _ (Emits_puts (Took from t) refl)
-    (Emits_either (is_own from) nothing (handles true true from t) Emits_nothing (emits_built (still-part t none)
+    (Emits_either (is_own from) nothing (handles true true from t) Emits_nothing (emits_built (still_part t none)
     (built_handles true true from t (place_unchanged from) tt (nothing_taken t))))
 
 -- it doesn't correct
 pub other_still : (from : Place) (t : Taken) → HoldsNoMessage t → (x : ℕ) (past : Past) → corrects (takes true true from t x past) ≡ false
-other_still from t none = row_corrects-none (other-emits from t none)
+other_still from t none = row_corrects_none (other_emits from t none)
 
 pub other_on : (q : Port) (from : Place) (t : Taken) → HoldsNoMessage t → on q (takes true true from t) ≡ takes_on q from t
 unfolding takes_on

@@ -13,7 +13,7 @@ use Rattle.tsp_rules.proofs.{FewActs.is_calm, FewActs.is_calm_act, Asides.on_oth
 use Rattle.tsp_rules.proofs.NodeRowLemmas.{Bootless, on_own, All_then, spread_append}
 use Rattle.tsp_base.specs.Words.{Past, view, Performs, acting, taken, Row, grown, placed, Acts, Did, Seen, is_shared, seen_as, line_of, is_going, either_by}
 use Rattle.tsp_base.specs.Words.{nothing, puts, ◌followed_by◌, least_deadline, for_each, reading, Sending, deadline_of, open_send}
-use Rattle.tsp_base.proofs.ViewPlaces.{port-same}
+use Rattle.tsp_base.proofs.ViewPlaces.{port_same}
 use Rattle.tsp_clients.proofs.ClientLemmas.{TraceStands_by}
 use Rattle.tsp_node.{specs.declared.part.Part.Part, proofs.TakeEmits.silent_trace, specs.Dues.IsPartDue}
 use Rattle.tsp_node.proofs.{NodeLemmas.Performs_traced, NodeLemmas.untaken_by, DueLemmas.alarm_waits, DueLemmas.neither_over}
@@ -25,16 +25,16 @@ use Rattle.tsp_gateway.specs.{Untold.Untold, Untold.upset_ports, Dues.Waits, Roo
 use Rattle.tsp_sends.specs.{Repeating.IsEarliest, Repeating.is_due_send, Slots.sending_to}
 use Rattle.tsp_clock.specs.Clocks.{ClockValue}
 
-calm-correct : (a : Act) → is_calm_act false false a ≡ true → is_correct a ≡ false
-calm-correct (Correct amount stepped shown) e = absurd (true≢false (sym e))
-calm-correct _ e = refl
+calm_correct : (a : Act) → is_calm_act false false a ≡ true → is_correct a ≡ false
+calm_correct (Correct amount stepped shown) e = absurd (true≢false (sym e))
+calm_correct _ e = refl
 
 -- calm acts don't correct
 pub calm_corrects : (acts : List Act) → is_calm false false acts ≡ true → corrects acts ≡ false
 calm_corrects [] e = refl
 calm_corrects (a ∷ later) e =
     let both = and_parts (is_calm_act false false a) (is_calm false false later) e in
-    rw (calm-correct a both.0) (calm_corrects later both.1)
+    rw (calm_correct a both.0) (calm_corrects later both.1)
 
 -- an alarm but a Close doesn't correct
 pub rings_still : (own wait : Bool) (alarm : Alarm) → moves_by alarm ≡ false → (x : ℕ) (past : Past) → corrects (rings own wait alarm x past) ≡ false
@@ -55,15 +55,15 @@ moves_not CloseAlarm c = absurd (c refl)
 moves_not _ c = refl
 
 -- acts of a port that take nothing keep what no port has taken, and what later ports have done
-turned-acts : (q j k x : ℕ) (past : NodePast) (acts : List Act) → Bootless acts → taken (grown x (on_port (port_at q) past) acts).seen ≡ None → q < k → j ≤ k →
+turned_acts : (q j k x : ℕ) (past : NodePast) (acts : List Act) → Bootless acts → taken (grown x (on_port (port_at q) past) acts).seen ≡ None → q < k → j ≤ k →
     TurnsFrom j past → TurnsFrom k (spread x past (placed (port_at q) acts))
-turned-acts q j k x past acts b own lt le h = record {
+turned_acts q j k x past acts b own lt le h = record {
   untaken = λ r. by_case r (q == r.0) refl;
   still = λ r from. later r from (q == r.0) refl;
 } where
   by_case : (r : Port) (b : Bool) → (q == r.0) ≡ b → taken (view r (spread x past (placed (port_at q) acts)).lines) ≡ None
   by_case r true is =
-      subst (λ (p : Port). taken (on_port p (spread x past (placed (port_at q) acts))).seen ≡ None) (port-same (port_at q) r is)
+      subst (λ (p : Port). taken (on_port p (spread x past (placed (port_at q) acts))).seen ≡ None) (port_same (port_at q) r is)
       (ap (λ (p : Past). taken p.seen) (on_own (port_at q) x past acts) ∙ own)
   by_case r false is = ap (λ (p : Past). taken p.seen) (on_other (port_at q) r x past acts is b) ∙ taken_aside x (on_port r past) acts ∙ h.untaken r
 
@@ -76,7 +76,7 @@ pub turned : {row : Row} (q j k x : ℕ) (past : NodePast) → Emits silent_trac
     TurnsFrom k (spread x past (on (port_at q) row x past))
 unfolding on
 turned {row} q j k x past e lt le h =
-    turned-acts q j k x past (row x (on_port (port_at q) past)) (bootless_by (bootless_silent e) x (on_port (port_at q) past))
+    turned_acts q j k x past (row x (on_port (port_at q) past)) (bootless_by (bootless_silent e) x (on_port (port_at q) past))
     (untaken_by row (Emits_more silent_trace refl e) x (on_port (port_at q) past) (h.untaken (port_at q))) lt le h
 
 -- a call in a port's turn
@@ -135,41 +135,41 @@ All_rung {x} {q} {g} {h} {before} after row e still was is same d =
 -- what a correction in a port's turn makes of its node
 
 -- an Abandon on whatever port
-abandon-seen : (b : Bool) (d : Did) (before : List Seen) → d.deed ≡ Acts Abandon → (taken (seen_as b d ∷ before) ≡ taken before) ×
+abandon_seen : (b : Bool) (d : Did) (before : List Seen) → d.deed ≡ Acts Abandon → (taken (seen_as b d ∷ before) ≡ taken before) ×
     (acting (seen_as b d ∷ before) ≡ acting before)
-abandon-seen true d before e = rw e (refl, refl)
-abandon-seen false d before e = (refl, refl)
+abandon_seen true d before e = rw e (refl, refl)
+abandon_seen false d before e = (refl, refl)
 
-abandoned-one : (k x : ℕ) (q : Port) (past : NodePast) → TurnsFrom k past → TurnsFrom k (spread x past (abandons_on q x past))
+abandoned_one : (k x : ℕ) (q : Port) (past : NodePast) → TurnsFrom k past → TurnsFrom k (spread x past (abandons_on q x past))
 unfolding abandons_on
-abandoned-one k x q past h = by_case (is_going (view q past.lines)) where
+abandoned_one k x q past h = by_case (is_going (view q past.lines)) where
   by_case : (b : Bool) → TurnsFrom k (spread x past (if b then record { port = q; act = Abandon } ∷ [] else []))
   by_case true = record {
-    untaken = λ r. (abandon-seen ((q.0 == r.0) || is_shared (Acts Abandon)) (line_of past.step x q (Acts Abandon)).did (view r past.lines) refl).0 ∙
+    untaken = λ r. (abandon_seen ((q.0 == r.0) || is_shared (Acts Abandon)) (line_of past.step x q (Acts Abandon)).did (view r past.lines) refl).0 ∙
         h.untaken r;
-    still = λ r le. (abandon-seen ((q.0 == r.0) || is_shared (Acts Abandon)) (line_of past.step x q (Acts Abandon)).did (view r past.lines) refl).1 ∙
+    still = λ r le. (abandon_seen ((q.0 == r.0) || is_shared (Acts Abandon)) (line_of past.step x q (Acts Abandon)).did (view r past.lines) refl).1 ∙
         h.still r le;
   }
   by_case false = record { untaken = h.untaken; still = h.still }
 
-abandoned-all : (k x : ℕ) (ports : List Port) (past : NodePast) → TurnsFrom k past → TurnsFrom k (spread x past (for_ports abandons_on ports x past))
+abandoned_all : (k x : ℕ) (ports : List Port) (past : NodePast) → TurnsFrom k past → TurnsFrom k (spread x past (for_ports abandons_on ports x past))
 unfolding for_ports nothing_at_all ◌and_then◌
-abandoned-all k x [] past h = record { untaken = h.untaken; still = h.still }
-abandoned-all k x (q ∷ later) past h =
+abandoned_all k x [] past h = record { untaken = h.untaken; still = h.still }
+abandoned_all k x (q ∷ later) past h =
     let first = abandons_on q x past in
     subst (TurnsFrom k) (sym (spread_append x past first (for_ports abandons_on later x (spread x past first))))
-    (abandoned-all k x later (spread x past first) (abandoned-one k x q past h))
+    (abandoned_all k x later (spread x past first) (abandoned_one k x q past h))
 
-stirred-turned : {row : Row} (q k x : ℕ) (ports : List Port) (past : NodePast) → Emits silent_trace row → q < k → TurnsFrom k past →
+stirred_turned : {row : Row} (q k x : ℕ) (ports : List Port) (past : NodePast) → Emits silent_trace row → q < k → TurnsFrom k past →
     TurnsFrom k (spread x past (stirring (port_at q) ports row x past))
 unfolding stirring
-stirred-turned {row} q k x ports past e lt h = by_case (corrects (row x (on_port (port_at q) past))) where
+stirred_turned {row} q k x ports past e lt h = by_case (corrects (row x (on_port (port_at q) past))) where
   by_case : (b : Bool) → TurnsFrom k (spread x past (on (port_at q) row x past ++
       (if b then for_ports abandons_on ports x (spread x past (on (port_at q) row x past)) else [])))
   by_case true =
       let first = on (port_at q) row x past in
       subst (TurnsFrom k) (sym (spread_append x past first (for_ports abandons_on ports x (spread x past first))))
-      (abandoned-all k x ports (spread x past first) (turned q k k x past e lt (omega arith) h))
+      (abandoned_all k x ports (spread x past first) (turned q k k x past e lt (omega arith) h))
   by_case false = subst (λ acts. TurnsFrom k (spread x past acts)) (sym (append-nil (on (port_at q) row x past))) (turned q k k x past e lt (omega arith) h)
 
 -- a port in its turn, which has taken nothing
@@ -177,15 +177,15 @@ pub untaken_there : (j q : ℕ) (past : NodePast) (g : Gateway) (part : Part) �
     PortUntaken (on_port (port_at q) past) (port_with part g.clock)
 untaken_there j q past g part was w = record { stands = w.stands.ports q part was; untaken = w.turns.untaken (port_at q) }
 
-turning-stirred : {x : ℕ} {g h : Gateway} {old new : List Placed} (q : ℕ) (row : Row) → Emits silent_trace row →
+turning_stirred : {x : ℕ} {g h : Gateway} {old new : List Placed} (q : ℕ) (row : Row) → Emits silent_trace row →
     PerformsAll (GatewayTurning (q + 1)) GatewayStands (λ y past. stirring (port_at q) (upset_ports false (port_at q) y past) row y past) x g h old new →
     PerformsAll (GatewayTurning (q + 1)) (GatewayTurning (q + 1)) (λ y past. stirring (port_at q) (upset_ports false (port_at q) y past) row y past) x g h old
     new
-turning-stirred {x} q row e d = record {
+turning_stirred {x} q row e d = record {
   acts = d.acts;
   stands = λ past w. record {
     stands = d.stands past w;
-    turns = stirred-turned q (q + 1) x (upset_ports false (port_at q) x past) past e (omega arith) w.turns;
+    turns = stirred_turned q (q + 1) x (upset_ports false (port_at q) x past) past e (omega arith) w.turns;
   };
 }
 
@@ -198,7 +198,7 @@ pub All_upset : {x q : ℕ} {g h i : Gateway} {before : Part} {old mid new : Lis
     PerformsAll (GatewayTurning (q + 1)) (GatewayTurning (q + 1)) (λ y past. stirring (port_at q) (upset_ports false (port_at q) y past) row y past) x g i old
     new
 All_upset {x} {q} {g} {h} {i} {before} after row e moves was is same d upset =
-    turning-stirred q row e (All_stirred {W = GatewayTurning (q + 1)} q row false moves
+    turning_stirred q row e (All_stirred {W = GatewayTurning (q + 1)} q row false moves
     (All_on {W = GatewayTurning (q + 1)} {P = Traced PortUntaken} {Q = Traced PortUntaken} true before after (bootless_silent e) moves is (λ past w. w.stands)
     (λ past w. record { port = untaken_there (q + 1) q past g before was w; trace = (take_stands q past g before was w.stands).trace })
     (λ past t. record { port = t.port.stands; trace = t.trace }) (trace_beside g h before after e same d)) upset)
@@ -211,7 +211,7 @@ pub All_calm : {x q : ℕ} {g h : Gateway} {before : Part} {old new : List Place
     PerformsAll (GatewayTurning (q + 1)) (GatewayTurning (q + 1)) (λ y past. stirring (port_at q) (upset_ports false (port_at q) y past) row y past) x g h old
     new
 All_calm {x} {q} {g} {h} {before} after row e still was is same d =
-    turning-stirred q row e (All_unstirred {W = GatewayTurning (q + 1)} q row false still
+    turning_stirred q row e (All_unstirred {W = GatewayTurning (q + 1)} q row false still
     (All_on {W = GatewayTurning (q + 1)} {P = Traced PortUntaken} {Q = Traced PortUntaken} false before after (bootless_silent e) still is (λ past w. w.stands)
     (λ past w. record { port = untaken_there (q + 1) q past g before was w; trace = (take_stands q past g before was w.stands).trace })
     (λ past t. record { port = t.port.stands; trace = t.trace }) (trace_beside g h before after e same d)))
@@ -303,8 +303,8 @@ unfolding alarms_on
 no_alarms_on q x past e = no_alarms q ALL x past e
 
 -- where the earliest deadline of a port hasn't come, nothing of it is due
-pub Waits-before : (x : ℕ) (part : Part) (due : Option ℕ) → IsPartDue part due → is_over due x ≡ false → Waits x part
-Waits-before x part due d e =
+pub Waits_before : (x : ℕ) (part : Part) (due : Option ℕ) → IsPartDue part due → is_over due x ≡ false → Waits x part
+Waits_before x part due d e =
     let both = neither_over (least_deadline part.station.alarms) d.sends x (rw d.due_is at e) in
     record { alarms = alarm_waits part.station.alarms x both.0; sends = send_waits (sending_to part.station.sends) d.sends x d.first both.1 }
 
@@ -334,4 +334,4 @@ pub idle_waits : (x q : ℕ) (g : Gateway) {old : List Placed} (idle : Bool) →
 idle_waits x q g idle lt e says =
     let part = part_of g q lt in
     let due = says part.0 part.1 in
-    All_waits part.0 part.1 (Waits-before x part.0 due.0 due.1 (not-true (is_over due.0 x) (sym due.2 ∙ e)))
+    All_waits part.0 part.1 (Waits_before x part.0 due.0 due.1 (not-true (is_over due.0 x) (sym due.2 ∙ e)))

@@ -5,7 +5,7 @@ use Rattle.std.proofs.lemmas.{Bool.cases_lt, Int.ints, Int.by_lt_z, List.Element
 use Rattle.std.specs.List.{Contains}
 use Rattle.tsp_group.specs.{Groups.group_from, Groups.goes_before, Groups.IsLargest, Values.IsAscending, declared.group.Group.Group}
 use Rattle.tsp_group.specs.Windows.{window_of, Spans, IsBest}
-use Rattle.tsp_group.proofs.{Members.group_from-stretch, Windows.best_count, Windows.fewer_behind}
+use Rattle.tsp_group.proofs.{Members.group_from_stretch, Windows.best_count, Windows.fewer_behind}
 
 cases_ℤ : (x y : ℤ) → (x <ℤ y) ⊎ (y ≤ℤ x)
 cases_ℤ x y = by_lt_z {P = (x <ℤ y) ⊎ (y ≤ℤ x)} x y (λ h. inl h) (λ h. inr h)
@@ -58,7 +58,7 @@ group_window span xs lo up c =
     let k = at_from_Contains xs lo c in
     let f = first_place xs lo k.0 up k.1 (k.2 (pos 0)) in
     let l = last_place span xs f.0 (f.0 + 1) (length xs - (f.0 + 1)) (omega arith) (omega (arith, f.1.0)) (own_span span xs f.0) in
-    (f.0, l.0, (l.1.0, l.1.1, l.1.2, ap (group_from span xs) (sym f.1.1) ∙ group_from-stretch span xs f.0 l.0 up l.1.0 l.1.1 l.1.2 l.1.3 f.1.2))
+    (f.0, l.0, (l.1.0, l.1.1, l.1.2, ap (group_from span xs) (sym f.1.1) ∙ group_from_stretch span xs f.0 l.0 up l.1.0 l.1.1 l.1.2 l.1.3 f.1.2))
 
 fresh_by : (span : ℕ) (xs : List ℤ) (m : ℕ) (best : Group) (b : ℕ) → IsBest span xs m (length xs) best → 0 < b → b + m ≤ length xs → 0 < m →
     Spans span xs b (b + m) → (get_or xs (b - 1) (pos 0) <ℤ get_or xs b (pos 0)) ⊎ (get_or xs b (pos 0) ≤ℤ get_or xs (b - 1) (pos 0)) →
@@ -82,7 +82,7 @@ beyond_by span xs m best b h n some (inr within) =
 best_whole : (span : ℕ) (xs : List ℤ) (m : ℕ) (best : Group) (b : ℕ) → IsAscending xs → IsBest span xs m (length xs) best → 0 < m → b + m ≤ length xs →
     Spans span xs b (b + m) → window_of xs b (b + m) ≡ group_from span xs (get_or xs b (pos 0))
 best_whole span xs m best b up h some bound s =
-    sym (group_from-stretch span xs b (b + m) up (omega arith) bound s
+    sym (group_from_stretch span xs b (b + m) up (omega arith) bound s
     (λ n. beyond_by span xs m best b h n some (cases_ℤ (get_or xs b (pos 0) +ℤ pos span) (get_or xs (b + m) (pos 0))))
     (λ p. fresh_by span xs m best b h p bound some s (cases_ℤ (get_or xs (b - 1) (pos 0)) (get_or xs b (pos 0)))))
 
@@ -108,9 +108,9 @@ best_largest_at span xs m best up h b some bound s e =
           rw w.2.3 (none_before span xs m best w.0 w.1 h some w.2.0 w.2.1 w.2.2 (cases_lt w.1 (w.0 + m)));
     }
 
-pub best-IsLargest : (span : ℕ) (xs : List ℤ) (m : ℕ) (best : Group) → IsAscending xs → 0 < length xs → IsBest span xs m (length xs) best →
+pub best_IsLargest : (span : ℕ) (xs : List ℤ) (m : ℕ) (best : Group) → IsAscending xs → 0 < length xs → IsBest span xs m (length xs) best →
     IsLargest span xs best
-best-IsLargest span xs m best up some h = elim h.found [
+best_IsLargest span xs m best up some h = elim h.found [
   | inl w ↦ absurd (omega (arith, w.2, some))
   | inr w ↦ best_largest_at span xs m best up h w.0 w.1 w.2 w.3 w.4
 ]

@@ -7,28 +7,28 @@ use Rattle.std.proofs.lemmas.List.Elements.{Contains-append_right}
 use Rattle.std.{proofs.lemmas.List.Sums.sum_by-cons, proofs.lemmas.List.Sums.length-filter, specs.Int.int_min}
 use Rattle.std.specs.List.{All, Contains, fold, filter, count_by}
 use Rattle.tsp_group.specs.Groups.{is_member, members, total, group_from, goes_before, IsLargest, HasMean, mean_of, IsWithin, Agree}
-use Rattle.tsp_group.proofs.{Sums.le-total, Sums.total-le, Sums.near_total-low, Sums.near_total-high, LargestGroup.group_from-count}
-use Rattle.tsp_group.{proofs.Members.is_member-inside, proofs.Members.is_member-low, proofs.Members.is_member-high, specs.Values.IsNear}
-use Rattle.tsp_group.proofs.{Permutations.Passing, Permutations.passing_from_filter, Means.le-floor_div, Means.floor_div-le}
+use Rattle.tsp_group.proofs.{Sums.le_total, Sums.total_le, Sums.near_total_low, Sums.near_total_high, LargestGroup.group_from_count}
+use Rattle.tsp_group.{proofs.Members.is_member_inside, proofs.Members.is_member_low, proofs.Members.is_member_high, specs.Values.IsNear}
+use Rattle.tsp_group.proofs.{Permutations.Passing, Permutations.passing_from_filter, Means.le_floor_div, Means.floor_div_le}
 use Rattle.tsp_group.specs.{declared.group.Group.Group, Groups.FollowsMajority}
 
 members_low : (span : ℕ) (xs : List ℤ) (lo : ℤ) → All (λ x. lo ≤ℤ x) (members span xs lo)
-members_low span xs lo = All-weaker (λ x. is_member span lo x ≡ true) (λ x. lo ≤ℤ x) (is_member-low span lo) (members span xs lo)
+members_low span xs lo = All-weaker (λ x. is_member span lo x ≡ true) (λ x. lo ≤ℤ x) (is_member_low span lo) (members span xs lo)
     (filter_passes (is_member span lo) xs)
 
 members_high : (span : ℕ) (xs : List ℤ) (lo : ℤ) → All (λ x. x ≤ℤ (lo +ℤ pos span)) (members span xs lo)
-members_high span xs lo = All-weaker (λ x. is_member span lo x ≡ true) (λ x. x ≤ℤ (lo +ℤ pos span)) (is_member-high span lo) (members span xs lo)
+members_high span xs lo = All-weaker (λ x. is_member span lo x ≡ true) (λ x. x ≤ℤ (lo +ℤ pos span)) (is_member_high span lo) (members span xs lo)
     (filter_passes (is_member span lo) xs)
 
 mean_low : (span : ℕ) (xs : List ℤ) (lo : ℤ) → Contains xs lo → lo ≤ℤ mean_of (group_from span xs lo)
 unfolding group_from
-mean_low span xs lo c = le-floor_div (total (members span xs lo)) lo (length (members span xs lo)) (group_from-count span xs lo c)
-    (le-total lo (members span xs lo) (members_low span xs lo))
+mean_low span xs lo c = le_floor_div (total (members span xs lo)) lo (length (members span xs lo)) (group_from_count span xs lo c)
+    (le_total lo (members span xs lo) (members_low span xs lo))
 
 mean_high : (span : ℕ) (xs : List ℤ) (lo : ℤ) → Contains xs lo → mean_of (group_from span xs lo) ≤ℤ (lo +ℤ pos span)
 unfolding group_from
-mean_high span xs lo c = floor_div-le (total (members span xs lo)) (lo +ℤ pos span) (length (members span xs lo)) (group_from-count span xs lo c)
-    (total-le (lo +ℤ pos span) (members span xs lo) (members_high span xs lo))
+mean_high span xs lo c = floor_div_le (total (members span xs lo)) (lo +ℤ pos span) (length (members span xs lo)) (group_from_count span xs lo c)
+    (total_le (lo +ℤ pos span) (members span xs lo) (members_high span xs lo))
 
 pub near_sum : (s : ℤ) (n : ℕ) → 0 < n → (negsuc 1073741823999998 *ℤ pos n) ≤ℤ s → s ≤ℤ (pos 1073741823999999 *ℤ pos n) → unsigned_abs s < n * 1073741824000000
 near_sum (pos s) n some low high = omega (arith, ints)
@@ -40,19 +40,19 @@ near_group span xs lo near c =
     let n : ℕ = length (members span xs lo) in
     let s : ℤ = total (members span xs lo) in
     let all = All-filter (is_member span lo) IsNear xs near in
-    let some : 0 < length (members span xs lo) = group_from-count span xs lo c in
-    let low = near_total-low (members span xs lo) all in
-    let high = near_total-high (members span xs lo) all in (
+    let some : 0 < length (members span xs lo) = group_from_count span xs lo c in
+    let low = near_total_low (members span xs lo) all in
+    let high = near_total_high (members span xs lo) all in (
       record { some = some; near = near_sum (total (members span xs lo)) (length (members span xs lo)) some low high },
       record {
-        low = le-floor_div (total (members span xs lo)) (negsuc 1073741823999998) (length (members span xs lo)) some low;
-        high = floor_div-le (total (members span xs lo)) (pos 1073741823999999) (length (members span xs lo)) some high;
+        low = le_floor_div (total (members span xs lo)) (negsuc 1073741823999998) (length (members span xs lo)) some low;
+        high = floor_div_le (total (members span xs lo)) (pos 1073741823999999) (length (members span xs lo)) some high;
       },
     )
 
 -- the largest group of near values has a mean, which is near
-pub IsLargest-near : (span : ℕ) (xs : List ℤ) (g : Group) → All IsNear xs → IsLargest span xs g → HasMean g × IsNear (mean_of g)
-IsLargest-near span xs g near h = subst (λ (k : Group). HasMean k × IsNear (mean_of k)) (sym h.whole) (near_group span xs g.lo near h.from)
+pub IsLargest_near : (span : ℕ) (xs : List ℤ) (g : Group) → All IsNear xs → IsLargest span xs g → HasMean g × IsNear (mean_of g)
+IsLargest_near span xs g near h = subst (λ (k : Group). HasMean k × IsNear (mean_of k)) (sym h.whole) (near_group span xs g.lo near h.from)
 
 shared_cond : (p q : ℤ → Bool) (x : ℤ) (xs : List ℤ) (t u : Bool) → p x ≡ t → q x ≡ u
     → length (x ∷ xs) < (cond t 1 0 + count_by p xs) + (cond u 1 0 + count_by q xs)
@@ -110,14 +110,14 @@ agreeing_members : (span : ℕ) (xs : List ℤ) (test : ℤ → Bool) (lo : ℤ)
     All (Passing test (λ x. lo ≤ℤ x)) xs → All (Passing test (λ x. is_member span lo x ≡ true)) xs
 agreeing_members span xs test lo agree c t low k d h e =
     let w = agree (get_or xs k d) lo (Contains-get_or xs k d h) c e t in
-    is_member-inside span lo (get_or xs k d) (low k d h e) w.low
+    is_member_inside span lo (get_or xs k d) (low k d h e) w.low
 
 count_not_before : (a b : ℕ) (p : Bool) → cond (a == b) p (nat_lt b a) ≡ false → a ≤ b
 count_not_before a b p h = grind (arith, nat_tests)
 
-goes_before-count : (g h : Group) → goes_before g h ≡ false → g.count ≤ h.count
+goes_before_count : (g h : Group) → goes_before g h ≡ false → g.count ≤ h.count
 unfolding goes_before
-goes_before-count g h e = count_not_before g.count h.count _ e
+goes_before_count g h e = count_not_before g.count h.count _ e
 
 count_of_group : (span : ℕ) (xs : List ℤ) (lo : ℤ) → (group_from span xs lo).count ≡ count_by (is_member span lo) xs
 unfolding group_from
@@ -128,16 +128,16 @@ near_both : (span : ℕ) (lo mean x y : ℤ) → lo ≤ℤ mean → mean ≤ℤ 
     IsWithin (2 * span) mean x
 near_both span lo mean x y a b c d w = let l = w.low in let h = w.high in record { low = omega (arith, ints); high = omega (arith, ints) }
 
-pub IsLargest-majority : (span : ℕ) (xs : List ℤ) (g : Group) → IsLargest span xs g → FollowsMajority span xs (mean_of g)
-IsLargest-majority span xs g largest test most agree x c t =
+pub IsLargest_majority : (span : ℕ) (xs : List ℤ) (g : Group) → IsLargest span xs g → FollowsMajority span xs (mean_of g)
+IsLargest_majority span xs g largest test most agree x c t =
     let w = least test xs (omega arith) in
     let inside : All (Passing test (λ y. is_member span w.0 y ≡ true)) xs = agreeing_members span xs test w.0 agree w.1 w.2 w.3 in
     let fewer = count_le test (is_member span w.0) xs inside in
     let a = count_of_group span xs w.0 in
-    let b = goes_before-count (group_from span xs w.0) g (largest.first w.0 w.1) in
+    let b = goes_before_count (group_from span xs w.0) g (largest.first w.0 w.1) in
     let d : g.count ≡ count_by (is_member span g.lo) xs = ap (λ (k : Group). k.count) largest.whole ∙ count_of_group span xs g.lo in
     let s = shared test (is_member span g.lo) xs (omega (arith, most, fewer, a, b, d)) in
     let low : g.lo ≤ℤ mean_of g = subst (λ (k : Group). g.lo ≤ℤ mean_of k) (sym largest.whole) (mean_low span xs g.lo largest.from) in
     let high : mean_of g ≤ℤ (g.lo +ℤ pos span) = subst (λ (k : Group). mean_of k ≤ℤ (g.lo +ℤ pos span)) (sym largest.whole)
     (mean_high span xs g.lo largest.from) in
-    near_both span g.lo (mean_of g) x s.0 low high (is_member-low span g.lo s.0 s.3) (is_member-high span g.lo s.0 s.3) (agree x s.0 c s.1 t s.2)
+    near_both span g.lo (mean_of g) x s.0 low high (is_member_low span g.lo s.0 s.3) (is_member_high span g.lo s.0 s.3) (agree x s.0 c s.1 t s.2)

@@ -8,17 +8,17 @@ use Rattle.tsp_group.specs.Groups.{floor_div}
 div_below : (s n a : ℕ) → 0 < n → s < a * n → s / n < a
 div_below s n a p h = (div-lt_iff_lt-mul {k = n} {x = s} {y = a} p).1 h
 
-pub le-floor_div : (s a : ℤ) (n : ℕ) → 0 < n → (a *ℤ pos n) ≤ℤ s → a ≤ℤ floor_div s n
-le-floor_div (pos s) (pos a) n p h = let k : a ≤ s / n = le-div a s n p (omega (arith, ints)) in omega (arith, ints)
-le-floor_div (pos s) (negsuc a) n p h = omega (arith, ints)
-le-floor_div (negsuc s) (pos a) n p h = absurd (omega (arith, ints))
-le-floor_div (negsuc s) (negsuc a) n p h = let k : s / n < suc a = div_below s n (suc a) p (omega (arith, ints)) in omega (arith, ints)
+pub le_floor_div : (s a : ℤ) (n : ℕ) → 0 < n → (a *ℤ pos n) ≤ℤ s → a ≤ℤ floor_div s n
+le_floor_div (pos s) (pos a) n p h = let k : a ≤ s / n = le-div a s n p (omega (arith, ints)) in omega (arith, ints)
+le_floor_div (pos s) (negsuc a) n p h = omega (arith, ints)
+le_floor_div (negsuc s) (pos a) n p h = absurd (omega (arith, ints))
+le_floor_div (negsuc s) (negsuc a) n p h = let k : s / n < suc a = div_below s n (suc a) p (omega (arith, ints)) in omega (arith, ints)
 
-pub floor_div-le : (s b : ℤ) (n : ℕ) → 0 < n → s ≤ℤ (b *ℤ pos n) → floor_div s n ≤ℤ b
-floor_div-le (pos s) (pos b) n p h = let k : s / n < suc b = div_below s n (suc b) p (omega (arith, ints)) in omega (arith, ints)
-floor_div-le (pos s) (negsuc b) n p h = absurd (omega (arith, ints))
-floor_div-le (negsuc s) (pos b) n p h = omega (arith, ints)
-floor_div-le (negsuc s) (negsuc b) n p h = let k : b ≤ s / n = le-div b s n p (omega (arith, ints)) in omega (arith, ints)
+pub floor_div_le : (s b : ℤ) (n : ℕ) → 0 < n → s ≤ℤ (b *ℤ pos n) → floor_div s n ≤ℤ b
+floor_div_le (pos s) (pos b) n p h = let k : s / n < suc b = div_below s n (suc b) p (omega (arith, ints)) in omega (arith, ints)
+floor_div_le (pos s) (negsuc b) n p h = absurd (omega (arith, ints))
+floor_div_le (negsuc s) (pos b) n p h = omega (arith, ints)
+floor_div_le (negsuc s) (negsuc b) n p h = let k : b ≤ s / n = le-div b s n p (omega (arith, ints)) in omega (arith, ints)
 
 -- a mean of near values fits
 pub floor_div_fits : (s : ℤ) (n : ℕ) → 0 < n → unsigned_abs s < n * 1073741824000000 → (negsuc 1073741823999999 ≤ℤ floor_div s n) ×

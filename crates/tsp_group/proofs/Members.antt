@@ -6,30 +6,30 @@ use Rattle.std.proofs.lemmas.List.{take-append-drop, take-append-le, get_or-take
 use Rattle.std.proofs.lemmas.List.Elements.{All-head, All-tail, All-from_get_or, All-contains, filter-append, Contains-get_or}
 use Rattle.std.specs.List.{All, Contains, fold, filter}
 use Rattle.tsp_group.specs.Groups.{is_member, members, total, group_from}
-use Rattle.tsp_group.{proofs.Sums.total-append, specs.Values.IsAscending}
+use Rattle.tsp_group.{proofs.Sums.total_append, specs.Values.IsAscending}
 
-pub is_member-below : (span : ℕ) (lo x : ℤ) → x <ℤ lo → is_member span lo x ≡ false
-is_member-below span lo x h = grind (arith, ints)
+pub is_member_below : (span : ℕ) (lo x : ℤ) → x <ℤ lo → is_member span lo x ≡ false
+is_member_below span lo x h = grind (arith, ints)
 
-pub is_member-inside : (span : ℕ) (lo x : ℤ) → lo ≤ℤ x → x ≤ℤ (lo +ℤ pos span) → is_member span lo x ≡ true
-is_member-inside span lo x h k = grind (arith, ints)
+pub is_member_inside : (span : ℕ) (lo x : ℤ) → lo ≤ℤ x → x ≤ℤ (lo +ℤ pos span) → is_member span lo x ≡ true
+is_member_inside span lo x h k = grind (arith, ints)
 
-pub is_member-above : (span : ℕ) (lo x : ℤ) → (lo +ℤ pos span) <ℤ x → is_member span lo x ≡ false
-is_member-above span lo x h = grind (arith, ints)
+pub is_member_above : (span : ℕ) (lo x : ℤ) → (lo +ℤ pos span) <ℤ x → is_member span lo x ≡ false
+is_member_above span lo x h = grind (arith, ints)
 
-pub is_member-low : (span : ℕ) (lo x : ℤ) → is_member span lo x ≡ true → lo ≤ℤ x
-is_member-low span lo x h = grind (arith, ints)
+pub is_member_low : (span : ℕ) (lo x : ℤ) → is_member span lo x ≡ true → lo ≤ℤ x
+is_member_low span lo x h = grind (arith, ints)
 
-pub is_member-high : (span : ℕ) (lo x : ℤ) → is_member span lo x ≡ true → x ≤ℤ (lo +ℤ pos span)
-is_member-high span lo x h = grind (arith, ints)
+pub is_member_high : (span : ℕ) (lo x : ℤ) → is_member span lo x ≡ true → x ≤ℤ (lo +ℤ pos span)
+is_member_high span lo x h = grind (arith, ints)
 
-filter-all : (p : ℤ → Bool) (xs : List ℤ) → All (λ x. p x ≡ true) xs → filter p xs ≡ xs
-filter-all p [] h = refl
-filter-all p (x ∷ xs) h = rw (All-head (λ x. p x ≡ true) x xs h, filter-all p xs (All-tail (λ x. p x ≡ true) x xs h)) refl
+filter_all : (p : ℤ → Bool) (xs : List ℤ) → All (λ x. p x ≡ true) xs → filter p xs ≡ xs
+filter_all p [] h = refl
+filter_all p (x ∷ xs) h = rw (All-head (λ x. p x ≡ true) x xs h, filter_all p xs (All-tail (λ x. p x ≡ true) x xs h)) refl
 
-filter-none : (p : ℤ → Bool) (xs : List ℤ) → All (λ x. p x ≡ false) xs → filter p xs ≡ []
-filter-none p [] h = refl
-filter-none p (x ∷ xs) h = rw (All-head (λ x. p x ≡ false) x xs h, filter-none p xs (All-tail (λ x. p x ≡ false) x xs h)) refl
+filter_none : (p : ℤ → Bool) (xs : List ℤ) → All (λ x. p x ≡ false) xs → filter p xs ≡ []
+filter_none p [] h = refl
+filter_none p (x ∷ xs) h = rw (All-head (λ x. p x ≡ false) x xs h, filter_none p xs (All-tail (λ x. p x ≡ false) x xs h)) refl
 
 take_of_take : (xs : List ℤ) (i j : ℕ) → i ≤ j → j ≤ length xs → take i (take j xs) ≡ take i xs
 take_of_take xs i j h n =
@@ -37,12 +37,12 @@ take_of_take xs i j h n =
     sym (ap (take i) (sym (take-append-drop j xs)) ∙ take-append-le i (take j xs) (drop j xs) k)
 
 -- a test that passes from place i to before place j alone
-filter-stretch : (p : ℤ → Bool) (xs : List ℤ) (i j : ℕ) → i ≤ j → j ≤ length xs
+filter_stretch : (p : ℤ → Bool) (xs : List ℤ) (i j : ℕ) → i ≤ j → j ≤ length xs
     → ((k : ℕ) → k < i → p (get_or xs k (pos 0)) ≡ false)
     → ((k : ℕ) → i ≤ k → k < j → p (get_or xs k (pos 0)) ≡ true)
     → ((k : ℕ) → j ≤ k → k < length xs → p (get_or xs k (pos 0)) ≡ false)
     → filter p xs ≡ drop i (take j xs)
-filter-stretch p xs i j o n before inside after =
+filter_stretch p xs i j o n before inside after =
     let a : All (λ x. p x ≡ false) (take i (take j xs)) = All-from_get_or (λ x. p x ≡ false) (take i (take j xs)) (pos 0) (λ k h.
     let u : k < i = omega (arith, h, length-take i (take j xs)) in
     let v : k < j = omega arith in
@@ -57,8 +57,8 @@ filter-stretch p xs i j o n before inside after =
     rw (get_or-drop j xs k (pos 0)) (after (j + k) u v)) in
     ap (filter p) (sym (take-append-drop j xs)) ∙ filter-append p (take j xs) (drop j xs)
     ∙ ap (λ ys. ys ++ filter p (drop j xs)) (ap (filter p) (sym (take-append-drop i (take j xs))) ∙ filter-append p (take i (take j xs)) (drop i (take j xs)) ∙
-    ap (λ ys. ys ++ filter p (drop i (take j xs))) (filter-none p (take i (take j xs)) a) ∙ filter-all p (drop i (take j xs)) b)
-    ∙ ap (λ ys. drop i (take j xs) ++ ys) (filter-none p (drop j xs) c) ∙ append-nil (drop i (take j xs))
+    ap (λ ys. ys ++ filter p (drop i (take j xs))) (filter_none p (take i (take j xs)) a) ∙ filter_all p (drop i (take j xs)) b)
+    ∙ ap (λ ys. drop i (take j xs) ++ ys) (filter_none p (drop j xs) c) ∙ append-nil (drop i (take j xs))
 
 pub le_antisymm_ℤ : (x y : ℤ) → x ≤ℤ y → y ≤ℤ x → x ≡ y
 le_antisymm_ℤ x y h k = omega (arith, ints)
@@ -78,7 +78,7 @@ greatest_is a m ys low all here =
 total_stretch : (xs : List ℤ) (i j : ℕ) → i ≤ j → j ≤ length xs → total (drop i (take j xs)) ≡ total (take j xs) -ℤ total (take i xs)
 total_stretch xs i j o n =
     let e : total (take j xs) ≡ total (take i xs) +ℤ total (drop i (take j xs)) = ap total (sym (take-append-drop i (take j xs))) ∙
-    total-append (take i (take j xs)) (drop i (take j xs)) ∙ ap (λ ys. total ys +ℤ total (drop i (take j xs))) (take_of_take xs i j o n) in
+    total_append (take i (take j xs)) (drop i (take j xs)) ∙ ap (λ ys. total ys +ℤ total (drop i (take j xs))) (take_of_take xs i j o n) in
     omega (arith, ints, e)
 
 members_stretch : (span : ℕ) (xs : List ℤ) (i j : ℕ) → IsAscending xs → i < j → j ≤ length xs
@@ -88,18 +88,18 @@ members_stretch : (span : ℕ) (xs : List ℤ) (i j : ℕ) → IsAscending xs �
     → members span xs (get_or xs i (pos 0)) ≡ drop i (take j xs)
 members_stretch span xs i j up o n high beyond first =
     let lo : ℤ = get_or xs i (pos 0) in
-    filter-stretch (is_member span (get_or xs i (pos 0))) xs i j (omega arith) n
+    filter_stretch (is_member span (get_or xs i (pos 0))) xs i j (omega arith) n
     (λ k h.
     let a : get_or xs k (pos 0) ≤ℤ get_or xs (i - 1) (pos 0) = up k (i - 1) (omega arith) (omega arith) in
     let b = first (omega arith) in
-    is_member-below span (get_or xs i (pos 0)) (get_or xs k (pos 0)) (omega (arith, ints, a, b)))
+    is_member_below span (get_or xs i (pos 0)) (get_or xs k (pos 0)) (omega (arith, ints, a, b)))
     (λ k u v.
     let a : get_or xs k (pos 0) ≤ℤ get_or xs (j - 1) (pos 0) = up k (j - 1) (omega arith) (omega arith) in
-    is_member-inside span (get_or xs i (pos 0)) (get_or xs k (pos 0)) (up i k u (omega arith)) (omega (arith, ints, a, high)))
+    is_member_inside span (get_or xs i (pos 0)) (get_or xs k (pos 0)) (up i k u (omega arith)) (omega (arith, ints, a, high)))
     (λ k u v.
     let a : get_or xs j (pos 0) ≤ℤ get_or xs k (pos 0) = up j k u v in
     let b = beyond (omega arith) in
-    is_member-above span (get_or xs i (pos 0)) (get_or xs k (pos 0)) (omega (arith, ints, a, b)))
+    is_member_above span (get_or xs i (pos 0)) (get_or xs k (pos 0)) (omega (arith, ints, a, b)))
 
 greatest_stretch : (xs : List ℤ) (i j : ℕ) → IsAscending xs → i < j → j ≤ length xs
     → fold int_max (get_or xs i (pos 0)) (drop i (take j xs)) ≡ get_or xs (j - 1) (pos 0)
@@ -119,7 +119,7 @@ greatest_stretch xs i j up o n =
     (subst (λ (x : ℤ). Contains (drop i (take j xs)) x) last here)
 
 -- the group of the value at place i of an ascending list, whose members end before place j
-pub group_from-stretch : (span : ℕ) (xs : List ℤ) (i j : ℕ) → IsAscending xs → i < j → j ≤ length xs
+pub group_from_stretch : (span : ℕ) (xs : List ℤ) (i j : ℕ) → IsAscending xs → i < j → j ≤ length xs
     → get_or xs (j - 1) (pos 0) ≤ℤ (get_or xs i (pos 0) +ℤ pos span)
     → (j < length xs → (get_or xs i (pos 0) +ℤ pos span) <ℤ get_or xs j (pos 0))
     → (0 < i → get_or xs (i - 1) (pos 0) <ℤ get_or xs i (pos 0))
@@ -130,7 +130,7 @@ pub group_from-stretch : (span : ℕ) (xs : List ℤ) (i j : ℕ) → IsAscendin
       sum = total (take j xs) -ℤ total (take i xs);
     }
 unfolding group_from
-group_from-stretch span xs i j up o n high beyond first =
+group_from_stretch span xs i j up o n high beyond first =
     let stretch : members span xs (get_or xs i (pos 0)) ≡ drop i (take j xs) = members_stretch span xs i j up o n high beyond first in
     let wide : fold int_max (get_or xs i (pos 0)) (drop i (take j xs)) ≡ get_or xs (j - 1) (pos 0) = greatest_stretch xs i j up o n in
     let many : length (drop i (take j xs)) ≡ j - i = omega (arith, length-drop i (take j xs), length-take j xs) in

@@ -6,7 +6,7 @@ use Rattle.std.proofs.lemmas.List.Sorted.{IsPermutation-sym, sum_by-IsPermutatio
 use Rattle.std.specs.List.{All, fold, filter, sum_by, count_by}
 use Rattle.std.specs.{Int.int_max, List.Sorted.IsPermutation}
 use Rattle.tsp_group.specs.Groups.{is_member, members, total, group_from}
-use Rattle.tsp_group.proofs.{Members.le_antisymm_ℤ, Sums.total-cons}
+use Rattle.tsp_group.proofs.{Members.le_antisymm_ℤ, Sums.total_cons}
 
 -- how far a value is above 0, and how far below
 abbrev above : ℤ → ℕ
@@ -29,7 +29,7 @@ split_value (negsuc n) = omega (arith, ints)
 
 total_cond : (p : ℤ → Bool) (x : ℤ) (xs : List ℤ) (t : Bool) (a b : ℕ) → p x ≡ t → total (filter p xs) ≡ pos a -ℤ pos b →
     total (cond t (x ∷ filter p xs) (filter p xs)) ≡ pos (cond t (above x) 0 + a) -ℤ pos (cond t (below x) 0 + b)
-total_cond p x xs true a b e h = let v = split_value x in omega (arith, ints, v, h, total-cons x (filter p xs))
+total_cond p x xs true a b e h = let v = split_value x in omega (arith, ints, v, h, total_cons x (filter p xs))
 total_cond p x xs false a b e h = omega (arith, ints, h)
 
 -- the sum of the values that pass, as a difference of sums of natural numbers
@@ -38,13 +38,13 @@ total_split p [] = refl
 total_split p (x ∷ xs) = rw (sum_by-cons (above_in p) x xs, sum_by-cons (below_in p) x xs) (total_cond p x xs (p x) (sum_by (above_in p) xs)
     (sum_by (below_in p) xs) refl (total_split p xs))
 
-total-permutation : (p : ℤ → Bool) (xs ys : List ℤ) → IsPermutation xs ys → total (filter p ys) ≡ total (filter p xs)
-total-permutation p xs ys h =
+total_permutation : (p : ℤ → Bool) (xs ys : List ℤ) → IsPermutation xs ys → total (filter p ys) ≡ total (filter p xs)
+total_permutation p xs ys h =
     total_split p ys ∙ ap (λ n. pos n -ℤ pos (sum_by (below_in p) ys)) (sum_by-IsPermutation (above_in p) xs ys h)
     ∙ ap (λ n. pos (sum_by (above_in p) xs) -ℤ pos n) (sum_by-IsPermutation (below_in p) xs ys h) ∙ sym (total_split p xs)
 
-pub count-permutation : (p : ℤ → Bool) (xs ys : List ℤ) → IsPermutation xs ys → count_by p ys ≡ count_by p xs
-count-permutation p xs ys h = sum_by-IsPermutation (λ x. cond (p x) 1 0) xs ys h
+pub count_permutation : (p : ℤ → Bool) (xs ys : List ℤ) → IsPermutation xs ys → count_by p ys ≡ count_by p xs
+count_permutation p xs ys h = sum_by-IsPermutation (λ x. cond (p x) 1 0) xs ys h
 
 -- what holds of the values that pass
 abbrev pub Passing : (ℤ → Bool) → (ℤ → Type 0) → ℤ → Type 0
@@ -71,28 +71,28 @@ filter_from_passing p P [] h = All-nil P
 filter_from_passing p P (x ∷ xs) h = filter_cond p P x xs (p x) refl (All-head (Passing p P) x xs h)
     (filter_from_passing p P xs (All-tail (Passing p P) x xs h))
 
-all_filter-permutation : (p : ℤ → Bool) (P : ℤ → Type 0) (xs ys : List ℤ) → IsPermutation xs ys → All P (filter p xs) → All P (filter p ys)
-all_filter-permutation p P xs ys h k = filter_from_passing p P ys (All-permutation (Passing p P) xs ys h (passing_from_filter p P xs k))
+all_filter_permutation : (p : ℤ → Bool) (P : ℤ → Type 0) (xs ys : List ℤ) → IsPermutation xs ys → All P (filter p xs) → All P (filter p ys)
+all_filter_permutation p P xs ys h k = filter_from_passing p P ys (All-permutation (Passing p P) xs ys h (passing_from_filter p P xs k))
 
 greatest_le : (p : ℤ → Bool) (a : ℤ) (xs ys : List ℤ) → IsPermutation xs ys → fold int_max a (filter p ys) ≤ℤ fold int_max a (filter p xs)
 greatest_le p a xs ys h =
     let bounds = fold-int_max_bounds a (filter p xs) (fold int_max a (filter p xs)) refl in
-    let all = all_filter-permutation p (λ x. x ≤ℤ fold int_max a (filter p xs)) xs ys h bounds.1 in
+    let all = all_filter_permutation p (λ x. x ≤ℤ fold int_max a (filter p xs)) xs ys h bounds.1 in
     elim (fold-int_max_reached a (filter p ys) (fold int_max a (filter p ys)) refl) [
       | inl e ↦ rw e bounds.0
       | inr k ↦ All-contains (λ x. x ≤ℤ fold int_max a (filter p xs)) (filter p ys) (fold int_max a (filter p ys)) all k
     ]
 
-greatest-permutation : (p : ℤ → Bool) (a : ℤ) (xs ys : List ℤ) → IsPermutation xs ys → fold int_max a (filter p ys) ≡ fold int_max a (filter p xs)
-greatest-permutation p a xs ys h = le_antisymm_ℤ _ _ (greatest_le p a xs ys h) (greatest_le p a ys xs (IsPermutation-sym xs ys h))
+greatest_permutation : (p : ℤ → Bool) (a : ℤ) (xs ys : List ℤ) → IsPermutation xs ys → fold int_max a (filter p ys) ≡ fold int_max a (filter p xs)
+greatest_permutation p a xs ys h = le_antisymm_ℤ _ _ (greatest_le p a xs ys h) (greatest_le p a ys xs (IsPermutation-sym xs ys h))
 
 -- a value's group is that of the list in any order
-pub group_from-permutation : (span : ℕ) (xs ys : List ℤ) (lo : ℤ) → IsPermutation xs ys → group_from span ys lo ≡ group_from span xs lo
+pub group_from_permutation : (span : ℕ) (xs ys : List ℤ) (lo : ℤ) → IsPermutation xs ys → group_from span ys lo ≡ group_from span xs lo
 unfolding group_from
-group_from-permutation span xs ys lo h =
+group_from_permutation span xs ys lo h =
     let p : ℤ → Bool = is_member span lo in
     let count : length (members span ys lo) ≡ length (members span xs lo) = length-filter (is_member span lo) ys ∙
-    count-permutation (is_member span lo) xs ys h ∙ sym (length-filter (is_member span lo) xs) in
-    let sum = total-permutation (is_member span lo) xs ys h in
-    let wide = greatest-permutation (is_member span lo) lo xs ys h in
+    count_permutation (is_member span lo) xs ys h ∙ sym (length-filter (is_member span lo) xs) in
+    let sum = total_permutation (is_member span lo) xs ys h in
+    let wide = greatest_permutation (is_member span lo) lo xs ys h in
     rw (wide, count, sum) refl

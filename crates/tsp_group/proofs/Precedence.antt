@@ -42,9 +42,9 @@ lo_tie : (x y : ℤ) → int_lt x y ≡ false → int_lt y x ≡ false → x ≡
 lo_tie x y h k = grind (arith, ints)
 
 -- two groups of which none goes before the other have one lo
-pub goes_before-tie : (g h : Group) → goes_before g h ≡ false → goes_before h g ≡ false → g.lo ≡ h.lo
+pub goes_before_tie : (g h : Group) → goes_before g h ≡ false → goes_before h g ≡ false → g.lo ≡ h.lo
 unfolding goes_before
-goes_before-tie g h p q =
+goes_before_tie g h p q =
     let a = down_tie g.count h.count _ _ p q in
     let b = up_tie (unsigned_abs g.width) (unsigned_abs h.width) _ _ a.0 a.1 in
     let c = up_tie (unsigned_abs g.lo) (unsigned_abs h.lo) _ _ b.0 b.1 in
@@ -54,30 +54,30 @@ not_itself : (b : Bool) → (b ≡ true → b ≡ false) → b ≡ false
 not_itself true h = h refl
 not_itself false h = refl
 
-pub goes_before-same : (g : Group) → goes_before g g ≡ false
-goes_before-same g = not_itself (goes_before g g) (goes_before_order.one_way g g)
+pub goes_before_same : (g : Group) → goes_before g g ≡ false
+goes_before_same g = not_itself (goes_before g g) (goes_before_order.one_way g g)
 
 left_by : (a h : Group) (t : Bool) → goes_before h a ≡ t → goes_before a (cond t h a) ≡ false
 left_by a h true e = goes_before_order.one_way h a e
-left_by a h false e = goes_before-same a
+left_by a h false e = goes_before_same a
 
 right_by : (a h : Group) (t : Bool) → goes_before h a ≡ t → goes_before h (cond t h a) ≡ false
-right_by a h true e = goes_before-same h
+right_by a h true e = goes_before_same h
 right_by a h false e = e
 
-pub better-left : (a h : Group) → goes_before a (better a h) ≡ false
+pub better_left : (a h : Group) → goes_before a (better a h) ≡ false
 unfolding better
-better-left a h = left_by a h (goes_before h a) refl
+better_left a h = left_by a h (goes_before h a) refl
 
-pub better-right : (a h : Group) → goes_before h (better a h) ≡ false
+pub better_right : (a h : Group) → goes_before h (better a h) ≡ false
 unfolding better
-better-right a h = right_by a h (goes_before h a) refl
+better_right a h = right_by a h (goes_before h a) refl
 
 -- a group that doesn't go before changes nothing
-pub better-stays : (a h : Group) → goes_before h a ≡ false → better a h ≡ a
+pub better_stays : (a h : Group) → goes_before h a ≡ false → better a h ≡ a
 unfolding better
-better-stays a h e = rw e refl
+better_stays a h e = rw e refl
 
-pub better-takes : (a h : Group) → goes_before h a ≡ true → better a h ≡ h
+pub better_takes : (a h : Group) → goes_before h a ≡ true → better a h ≡ h
 unfolding better
-better-takes a h e = rw e refl
+better_takes a h e = rw e refl

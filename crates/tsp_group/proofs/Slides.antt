@@ -3,7 +3,7 @@ use Rattle.std.proofs.Common.{◌≡◌, refl, sym, ap, subst, ℕ, ◌+◌, ◌
 use Rattle.std.{proofs.lemmas.Bool.cases_lt, proofs.lemmas.Int.ints, proofs.lemmas.List.Elements.All-get_or, specs.List.All}
 use Rattle.tsp_group.specs.{Groups.better, Values.IsNear, Values.IsAscending, declared.group.Group.Group, declared.window.Window.Window}
 use Rattle.tsp_group.specs.Windows.{window_of, IsSmallSum, IsWindow, IsBest, Moves, Spans}
-use Rattle.tsp_group.proofs.{Sums.total_more, Sums.small_total, Windows.best-grows, Windows.best-moves, Windows.best-passes}
+use Rattle.tsp_group.proofs.{Sums.total_more, Sums.small_total, Windows.best_grows, Windows.best_moves, Windows.best_passes}
 
 pub window_near : (xs : List ℤ) (w : Window) → All IsNear xs → IsWindow xs w → IsNear w.lo
 window_near xs w near h = rw h.lo (All-get_or IsNear xs w.first (pos 0) h.starts near)
@@ -65,7 +65,7 @@ pub step_tries : (span : ℕ) (xs : List ℤ) (i k next : ℕ) (best : Group) �
 step_tries span xs i k next best up n le h (inl m) within =
     let s : Spans span xs i (k + 1) = rw (last_is k) m.1 in
     let size : k + 1 - i ≡ k - i + 1 = omega arith in
-    rw m.0 (subst (λ n. IsBest span xs n (k + 1) (better best (window_of xs i (k + 1)))) (sym size) (best-grows span xs (k - i) k i best up n (omega arith) h
+    rw m.0 (subst (λ n. IsBest span xs n (k + 1) (better best (window_of xs i (k + 1)))) (sym size) (best_grows span xs (k - i) k i best up n (omega arith) h
     s))
 step_tries span xs i k next best up n le h (inr m) within =
     let t : get_or xs k (pos 0) ≤ℤ (get_or xs (i + 1) (pos 0) +ℤ pos span) = rw m.0 at within in
@@ -73,7 +73,7 @@ step_tries span xs i k next best up n le h (inr m) within =
     let some : 0 < k - i = not_first span xs i k le m.1 (cases_lt i k) in
     let size : k + 1 - (i + 1) ≡ k - i = omega arith in
     rw m.0 (subst (λ n. IsBest span xs n (k + 1) (better best (window_of xs (i + 1) (k + 1)))) (sym size)
-    (best-moves span xs (k - i) k i best up n (omega arith) some h m.1 s))
+    (best_moves span xs (k - i) k i best up n (omega arith) some h m.1 s))
 
 -- the window beyond the span is passed over
 pub step_passes : (span : ℕ) (xs : List ℤ) (i k next : ℕ) (best : Group) → IsAscending xs → k < length xs → i ≤ k → IsBest span xs (k - i) k best →
@@ -83,7 +83,7 @@ step_passes span xs i k next best up n le h (inr m) out =
     let t = rw m.0 at out in
     let some : 0 < k - i = not_first span xs i k le m.1 (cases_lt i k) in
     let size : k + 1 - (i + 1) ≡ k - i = omega arith in
-    rw m.0 (subst (λ n. IsBest span xs n (k + 1) best) (sym size) (best-passes span xs (k - i) k i best up n (omega arith) some h m.1 t))
+    rw m.0 (subst (λ n. IsBest span xs n (k + 1) best) (sym size) (best_passes span xs (k - i) k i best up n (omega arith) some h m.1 t))
 
 -- the group of a window
 pub group_is_window : (xs : List ℤ) (w : Window) (v : ℤ) (k : ℕ) → IsWindow xs w → w.end ≡ k + 1 → v ≡ get_or xs k (pos 0) →

@@ -17,11 +17,11 @@ total_from a (x ∷ xs) =
     let q = total_from (pos 0 +ℤ x) xs in
     omega (arith, ints, p, q)
 
-pub total-append : (xs ys : List ℤ) → total (xs ++ ys) ≡ total xs +ℤ total ys
-total-append xs ys = fold-append ◌+ℤ◌ (pos 0) xs ys ∙ total_from (total xs) ys
+pub total_append : (xs ys : List ℤ) → total (xs ++ ys) ≡ total xs +ℤ total ys
+total_append xs ys = fold-append ◌+ℤ◌ (pos 0) xs ys ∙ total_from (total xs) ys
 
-pub total-cons : (x : ℤ) (xs : List ℤ) → total (x ∷ xs) ≡ x +ℤ total xs
-total-cons x xs = let p = total_from (pos 0 +ℤ x) xs in omega (arith, ints, p)
+pub total_cons : (x : ℤ) (xs : List ℤ) → total (x ∷ xs) ≡ x +ℤ total xs
+total_cons x xs = let p = total_from (pos 0 +ℤ x) xs in omega (arith, ints, p)
 
 mul_zero : (b : ℤ) → b *ℤ pos 0 ≡ pos 0
 mul_zero (pos b) = omega (arith, ints)
@@ -32,33 +32,33 @@ mul_suc (pos b) n = omega (arith, ints)
 mul_suc (negsuc b) n = omega (arith, ints)
 
 -- at most b for each value
-pub total-le : (b : ℤ) (xs : List ℤ) → All (λ x. x ≤ℤ b) xs → total xs ≤ℤ (b *ℤ pos (length xs))
-total-le b [] h = let e = mul_zero b in omega (arith, ints, e)
-total-le b (x ∷ xs) h =
+pub total_le : (b : ℤ) (xs : List ℤ) → All (λ x. x ≤ℤ b) xs → total xs ≤ℤ (b *ℤ pos (length xs))
+total_le b [] h = let e = mul_zero b in omega (arith, ints, e)
+total_le b (x ∷ xs) h =
     let here : x ≤ℤ b = All-head (λ x. x ≤ℤ b) x xs h in
-    let rest = total-le b xs (All-tail (λ x. x ≤ℤ b) x xs h) in
-    omega (arith, ints, here, rest, total-cons x xs, mul_suc b (length xs))
+    let rest = total_le b xs (All-tail (λ x. x ≤ℤ b) x xs h) in
+    omega (arith, ints, here, rest, total_cons x xs, mul_suc b (length xs))
 
 -- at least a for each value
-pub le-total : (a : ℤ) (xs : List ℤ) → All (λ x. a ≤ℤ x) xs → (a *ℤ pos (length xs)) ≤ℤ total xs
-le-total a [] h = let e = mul_zero a in omega (arith, ints, e)
-le-total a (x ∷ xs) h =
+pub le_total : (a : ℤ) (xs : List ℤ) → All (λ x. a ≤ℤ x) xs → (a *ℤ pos (length xs)) ≤ℤ total xs
+le_total a [] h = let e = mul_zero a in omega (arith, ints, e)
+le_total a (x ∷ xs) h =
     let here : a ≤ℤ x = All-head (λ x. a ≤ℤ x) x xs h in
-    let rest = le-total a xs (All-tail (λ x. a ≤ℤ x) x xs h) in
-    omega (arith, ints, here, rest, total-cons x xs, mul_suc a (length xs))
+    let rest = le_total a xs (All-tail (λ x. a ≤ℤ x) x xs h) in
+    omega (arith, ints, here, rest, total_cons x xs, mul_suc a (length xs))
 
-pub near_total-low : (xs : List ℤ) → All IsNear xs → (negsuc 1073741823999998 *ℤ pos (length xs)) ≤ℤ total xs
-near_total-low xs near = le-total (negsuc 1073741823999998) xs (All-weaker IsNear (λ x. negsuc 1073741823999998 ≤ℤ x) (λ x h. h.low) xs near)
+pub near_total_low : (xs : List ℤ) → All IsNear xs → (negsuc 1073741823999998 *ℤ pos (length xs)) ≤ℤ total xs
+near_total_low xs near = le_total (negsuc 1073741823999998) xs (All-weaker IsNear (λ x. negsuc 1073741823999998 ≤ℤ x) (λ x h. h.low) xs near)
 
-pub near_total-high : (xs : List ℤ) → All IsNear xs → total xs ≤ℤ (pos 1073741823999999 *ℤ pos (length xs))
-near_total-high xs near = total-le (pos 1073741823999999) xs (All-weaker IsNear (λ x. x ≤ℤ pos 1073741823999999) (λ x h. h.high) xs near)
+pub near_total_high : (xs : List ℤ) → All IsNear xs → total xs ≤ℤ (pos 1073741823999999 *ℤ pos (length xs))
+near_total_high xs near = total_le (pos 1073741823999999) xs (All-weaker IsNear (λ x. x ≤ℤ pos 1073741823999999) (λ x h. h.high) xs near)
 
 pub small_total : (xs : List ℤ) (i j : ℕ) → All IsNear xs → length xs < 2 ^ 32 → IsSmallSum (total (take j xs) -ℤ total (take i xs))
 small_total xs i j near small =
     let n : length (take i xs) ≤ length xs = omega (arith, length-take {A = ℤ}) in
     let m : length (take j xs) ≤ length xs = omega (arith, length-take {A = ℤ}) in
-    let a = near_total-low (take i xs) (All-take IsNear i xs near) in
-    let b = near_total-high (take i xs) (All-take IsNear i xs near) in
-    let c = near_total-low (take j xs) (All-take IsNear j xs near) in
-    let d = near_total-high (take j xs) (All-take IsNear j xs near) in
+    let a = near_total_low (take i xs) (All-take IsNear i xs near) in
+    let b = near_total_high (take i xs) (All-take IsNear i xs near) in
+    let c = near_total_low (take j xs) (All-take IsNear j xs near) in
+    let d = near_total_high (take j xs) (All-take IsNear j xs near) in
     record { low = omega (arith, ints, a, b, c, d); high = omega (arith, ints, a, b, c, d) }

@@ -4,7 +4,7 @@ use Rattle.std.proofs.Common.{length, get_or, arith, ◌⊎◌, inl, inr}
 use Rattle.std.proofs.lemmas.{Bool.cases_lt, Bool.Decides.nat_tests, Int.ints}
 use Rattle.tsp_group.specs.{Groups.goes_before, Groups.better, Values.IsAscending, Windows.window_of, Windows.Spans, Windows.IsBest}
 use Rattle.tsp_group.specs.declared.group.Group.{Group}
-use Rattle.tsp_group.proofs.Precedence.{goes_before_order, goes_before-same, better-left, better-right, better-stays, better-takes}
+use Rattle.tsp_group.proofs.Precedence.{goes_before_order, goes_before_same, better_left, better_right, better_stays, better_takes}
 
 count_first : (a b : ℕ) (p : Bool) → b < a → cond (a == b) p (nat_lt b a) ≡ true
 count_first a b p h = grind (arith, nat_tests)
@@ -58,18 +58,18 @@ only_grown span xs m k best up n le h a bound s (inl less) = absurd (let w = h.m
 only_grown span xs m k best up n le h a bound s (inr more) = omega arith
 
 -- the window grows by one more value
-pub best-grows : (span : ℕ) (xs : List ℤ) (m k i : ℕ) (best : Group) → IsAscending xs → k < length xs → i + m ≡ k → IsBest span xs m k best →
+pub best_grows : (span : ℕ) (xs : List ℤ) (m k i : ℕ) (best : Group) → IsAscending xs → k < length xs → i + m ≡ k → IsBest span xs m k best →
     Spans span xs i (k + 1) → IsBest span xs (m + 1) (k + 1) (better best (window_of xs i (k + 1)))
-best-grows span xs m k i best up n at h s =
+best_grows span xs m k i best up n at h s =
     let count = best_count span xs m k best h in
     let size : (window_of xs i (k + 1)).count ≡ m + 1 = omega arith in
-    let takes = better-takes best (window_of xs i (k + 1)) (more_first (window_of xs i (k + 1)) best (omega (arith, count, size))) in
+    let takes = better_takes best (window_of xs i (k + 1)) (more_first (window_of xs i (k + 1)) best (omega (arith, count, size))) in
     let end : k + 1 ≡ i + (m + 1) = omega arith in
     rw takes (record {
       most = λ a b lt bound t. most_grown span xs m k best up n h a b lt bound t (cases_lt b (k + 1));
       first = λ a some bound t.
           let e : a ≡ i = only_grown span xs m k best up n (omega arith) h a bound t (cases_lt (a + (m + 1)) (k + 1)) ∙ (omega arith) in
-          rw (e, end) (goes_before-same (window_of xs i (i + (m + 1))));
+          rw (e, end) (goes_before_same (window_of xs i (i + (m + 1))));
       found = inr (i, omega arith, omega arith, subst (λ j. Spans span xs i j) end s, ap (window_of xs i) end);
     })
 
@@ -116,29 +116,29 @@ better_found : (span : ℕ) (xs : List ℤ) (m k i : ℕ) (best : Group) → i +
     (better best (window_of xs (i + 1) (k + 1)) ≡ window_of xs a (a + m)))
 better_found span xs m k i best at some s w true e =
     let end : k + 1 ≡ i + 1 + m = omega arith in
-    (i + 1, some, omega arith, subst (λ j. Spans span xs (i + 1) j) end s, better-takes best (window_of xs (i + 1) (k + 1)) e ∙ ap (window_of xs (i + 1)) end)
-better_found span xs m k i best at some s w false e = (w.0, w.1, w.2, w.3, better-stays best (window_of xs (i + 1) (k + 1)) e ∙ w.4)
+    (i + 1, some, omega arith, subst (λ j. Spans span xs (i + 1) j) end s, better_takes best (window_of xs (i + 1) (k + 1)) e ∙ ap (window_of xs (i + 1)) end)
+better_found span xs m k i best at some s w false e = (w.0, w.1, w.2, w.3, better_stays best (window_of xs (i + 1) (k + 1)) e ∙ w.4)
 
 -- the window moves on, and doesn't lie within the span
-pub best-passes : (span : ℕ) (xs : List ℤ) (m k i : ℕ) (best : Group) → IsAscending xs → k < length xs → i + m ≡ k → 0 < m → IsBest span xs m k best →
+pub best_passes : (span : ℕ) (xs : List ℤ) (m k i : ℕ) (best : Group) → IsAscending xs → k < length xs → i + m ≡ k → 0 < m → IsBest span xs m k best →
     (get_or xs i (pos 0) +ℤ pos span) <ℤ get_or xs k (pos 0) → (get_or xs (i + 1) (pos 0) +ℤ pos span) <ℤ get_or xs k (pos 0) → IsBest span xs m (k + 1) best
-best-passes span xs m k i best up n at some h out beyond =
+best_passes span xs m k i best up n at some h out beyond =
     record {
       most = λ a b lt bound t. most_kept span xs m k i best up n at h out a b lt bound t (cases_lt b (k + 1)) (cases_lt i a);
-      first = λ a s bound t. first_by span xs m k best best h (goes_before-same best) (λ u. absurd (not_spanned span xs m k i at beyond u)) a s bound t
+      first = λ a s bound t. first_by span xs m k best best h (goes_before_same best) (λ u. absurd (not_spanned span xs m k i at beyond u)) a s bound t
           (cases_lt (a + m) (k + 1));
       found = inr (found_kept span xs m k best some h);
     }
 
 -- the window moves on, and lies within the span
-pub best-moves : (span : ℕ) (xs : List ℤ) (m k i : ℕ) (best : Group) → IsAscending xs → k < length xs → i + m ≡ k → 0 < m → IsBest span xs m k best →
+pub best_moves : (span : ℕ) (xs : List ℤ) (m k i : ℕ) (best : Group) → IsAscending xs → k < length xs → i + m ≡ k → 0 < m → IsBest span xs m k best →
     (get_or xs i (pos 0) +ℤ pos span) <ℤ get_or xs k (pos 0) → Spans span xs (i + 1) (k + 1) →
     IsBest span xs m (k + 1) (better best (window_of xs (i + 1) (k + 1)))
-best-moves span xs m k i best up n at some h out s =
+best_moves span xs m k i best up n at some h out s =
     let w : Group = window_of xs (i + 1) (k + 1) in
     record {
       most = λ a b lt bound t. most_kept span xs m k i best up n at h out a b lt bound t (cases_lt b (k + 1)) (cases_lt i a);
-      first = λ a s bound t. first_by span xs m k best (better best (window_of xs (i + 1) (k + 1))) h (better-left best (window_of xs (i + 1) (k + 1)))
-          (λ u. let e : k + 1 - m ≡ i + 1 = omega arith in rw e (better-right best (window_of xs (i + 1) (k + 1)))) a s bound t (cases_lt (a + m) (k + 1));
+      first = λ a s bound t. first_by span xs m k best (better best (window_of xs (i + 1) (k + 1))) h (better_left best (window_of xs (i + 1) (k + 1)))
+          (λ u. let e : k + 1 - m ≡ i + 1 = omega arith in rw e (better_right best (window_of xs (i + 1) (k + 1)))) a s bound t (cases_lt (a + m) (k + 1));
       found = inr (better_found span xs m k i best at some s (found_kept span xs m k best some h) (goes_before (window_of xs (i + 1) (k + 1)) best) refl);
     }

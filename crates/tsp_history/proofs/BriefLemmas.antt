@@ -34,10 +34,10 @@ brief_of (Some acts.Abandon) = briefs.Abandon
 brief_of (Some (acts.Trace on)) = briefs.Trace on
 
 -- it is read back from an act that is held by it
-brief-back : (b : Brief) (name : List ℕ) → brief_of (act_of b name) ≡ b
-brief-back briefs.Mark name = refl
-brief-back _ name = refl
+brief_back : (b : Brief) (name : List ℕ) → brief_of (act_of b name) ≡ b
+brief_back briefs.Mark name = refl
+brief_back _ name = refl
 
 -- different briefs are of different acts
-pub one-brief : (a b : Brief) (n m : List ℕ) → act_of a n ≡ act_of b m → a ≡ b
-one-brief a b n m same = sym (brief-back a n) ∙ ap brief_of same ∙ brief-back b m
+pub one_brief_holds : (a b : Brief) (n m : List ℕ) → act_of a n ≡ act_of b m → a ≡ b
+one_brief_holds a b n m same = sym (brief_back a n) ∙ ap brief_of same ∙ brief_back b m

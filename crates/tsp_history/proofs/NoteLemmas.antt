@@ -4,29 +4,29 @@ use Rattle.std.proofs.Common.{get_or, take, min}
 use Rattle.std.proofs.lemmas.List.{get_or_default, get_or-take, length-append, length-take, length-take-le, take_all, take_at, take-append-le, take-take}
 use Rattle.std.proofs.{Math.ListN.get_or-append, Math.Seq.get_or-append_seam, lemmas.Bool.cases_lt, lemmas.Int.ints}
 use Rattle.tsp_base.specs.Words.{Line, of, dids, posted, all_corrects, boot_tick, lives, moved, wall}
-use Rattle.tsp_base.{proofs.ViewPlaces.port-same, specs.declared.place.Port.Port}
+use Rattle.tsp_base.{proofs.ViewPlaces.port_same, specs.declared.place.Port.Port}
 use Rattle.tsp_history.specs.{Changes.BeginsOn, Clocks.IsSumOf, Histories.line_of, Histories.noted_after, Histories.history_of}
 use Rattle.tsp_history.specs.Notes.{LastAt, NodeKnown, NoteIs, PortKnown, Quiet, Told}
 use Rattle.tsp_history.specs.{Spacing.SpacedBy, declared.line.HistoryLine.HistoryLine, declared.notes.NodeNote.NodeNote}
-use Rattle.tsp_history.{proofs.HistoryLemmas.history-more, proofs.SpacingLemmas.spaced-other, specs.declared.notes.PortNote.PortNote}
-use Rattle.tsp_promises.proofs.shared.HistoryPlaces.{of-other}
+use Rattle.tsp_history.{proofs.HistoryLemmas.history_more, proofs.SpacingLemmas.spaced_other, specs.declared.notes.PortNote.PortNote}
+use Rattle.tsp_promises.proofs.shared.HistoryPlaces.{of_other}
 
 -- a history is longer by its lines
-pub length-noted : (h : List Line) (ns : List HistoryLine) → length (noted_after h ns) ≡ length h + length ns
-length-noted h [] = omega arith
-length-noted h (n ∷ rest) = omega (arith, length-noted (line_of n ∷ h) rest)
+pub length_noted : (h : List Line) (ns : List HistoryLine) → length (noted_after h ns) ≡ length h + length ns
+length_noted h [] = omega arith
+length_noted h (n ∷ rest) = omega (arith, length_noted (line_of n ∷ h) rest)
 
 -- a history has as many lines
-pub length-history : (ns : List HistoryLine) → length (history_of ns) ≡ length ns
-length-history ns = omega (arith, length-noted [] ns)
+pub length_history : (ns : List HistoryLine) → length (history_of ns) ≡ length ns
+length_history ns = omega (arith, length_noted [] ns)
 
 -- what holds of all lines is said of the first ones, and of the newest one of these
 pub newest-is : {A : Type 0} (F : List Line → A) (ns : List HistoryLine) (k j : ℕ) (n : HistoryLine) → k ≡ j + 1 → j < length ns → get_or ns j n ≡ n →
     F (history_of ns) ≡ F (history_of (take k ns)) → F (history_of ns) ≡ F (line_of n ∷ history_of (take j ns))
-newest-is F ns k j n next below is so = so ∙ ap (λ i. F (history_of (take i ns))) next ∙ ap F (history-more ns j n below is)
+newest-is F ns k j n next below is so = so ∙ ap (λ i. F (history_of (take i ns))) next ∙ ap F (history_more ns j n below is)
 
-pub all-lines : {A : Type 0} (F : List Line → A) (ns : List HistoryLine) (k : ℕ) → length ns ≤ k → F (history_of ns) ≡ F (history_of (take k ns))
-all-lines F ns k le = ap (λ ms. F (history_of ms)) (sym (take_all k ns le))
+pub all_lines : {A : Type 0} (F : List Line → A) (ns : List HistoryLine) (k : ℕ) → length ns ≤ k → F (history_of ns) ≡ F (history_of (take k ns))
+all_lines F ns k le = ap (λ ms. F (history_of ms)) (sym (take_all k ns le))
 
 -- the first of lines that tell tell
 pub told_take : (ns : List HistoryLine) (k : ℕ) → Told ns → Told (take k ns)
@@ -52,41 +52,41 @@ told_push ns n told note = record { at = at } where
         (subst (λ (k : HistoryLine). NoteIs (line_of k) (history_of ns) k.note) same note)
 
 -- a history after itself has nothing more
-pub quiet-all : (n : ℕ) (ns : List HistoryLine) (k : ℕ) → length ns ≤ k → Quiet n (history_of (take k ns)) (history_of ns)
-quiet-all n ns k le = subst (λ ms. Quiet n (history_of (take k ns)) (history_of ms)) (take_all k ns le) (record {
+pub quiet_all : (n : ℕ) (ns : List HistoryLine) (k : ℕ) → length ns ≤ k → Quiet n (history_of (take k ns)) (history_of ns)
+quiet_all n ns k le = subst (λ ms. Quiet n (history_of (take k ns)) (history_of ms)) (take_all k ns le) (record {
   same = refl;
   short = omega arith;
   spaced = λ o s. s;
 })
 
 -- another node's line is nothing more
-pub quiet-back : (n : ℕ) (ns : List HistoryLine) (k j : ℕ) (l : HistoryLine) → k ≡ j + 1 → j < length ns → get_or ns j l ≡ l → (l.node == n) ≡ false →
+pub quiet_back : (n : ℕ) (ns : List HistoryLine) (k j : ℕ) (l : HistoryLine) → k ≡ j + 1 → j < length ns → get_or ns j l ≡ l → (l.node == n) ≡ false →
     Quiet n (history_of (take k ns)) (history_of ns) → Quiet n (history_of (take j ns)) (history_of ns)
-quiet-back n ns k j l next below is other q = record {
-  same = q.same ∙ ap (λ h. of n h) more ∙ of-other n (line_of l) before other;
+quiet_back n ns k j l next below is other q = record {
+  same = q.same ∙ ap (λ h. of n h) more ∙ of_other n (line_of l) before other;
   short = omega (arith, q.short, ap (λ (h : List Line). length h) more);
-  spaced = λ o s. q.spaced o (subst (λ h. SpacedBy n h o) (sym more) (λ x b far. spaced-other b n x (line_of l) before other (s x b far)));
+  spaced = λ o s. q.spaced o (subst (λ h. SpacedBy n h o) (sym more) (λ x b far. spaced_other b n x (line_of l) before other (s x b far)));
 }
   where
     before : List Line
     before = history_of (take j ns)
 
     more : history_of (take k ns) ≡ (line_of l ∷ before)
-    more = ap (λ i. history_of (take i ns)) next ∙ history-more ns j l below is
+    more = ap (λ i. history_of (take i ns)) next ∙ history_more ns j l below is
 
 -- as many amounts or more come to no more
-pub more-small : (a b : ℕ) (z : ℤ) → a ≤ b → IsSumOf a z → IsSumOf b z
-more-small a b z le small = (omega (arith, ints, le, small.0), omega (arith, ints, le, small.1))
+pub more_small : (a b : ℕ) (z : ℤ) → a ≤ b → IsSumOf a z → IsSumOf b z
+more_small a b z le small = (omega (arith, ints, le, small.0), omega (arith, ints, le, small.1))
 
 -- what is known of a node stays where there is nothing more of it
-pub known-quiet : (n : ℕ) (s h : List Line) (m : NodeNote) → Quiet n s h → NodeKnown n s m → NodeKnown n h m
-known-quiet n s h m q known = record {
+pub known_quiet : (n : ℕ) (s h : List Line) (m : NodeNote) → Quiet n s h → NodeKnown n s m → NodeKnown n h m
+known_quiet n s h m q known = record {
   clock = record {
     wall_is = known.clock.wall_is ∙ ap (λ o. wall (dids o)) (sym q.same);
     boot_is = known.clock.boot_is ∙ ap (λ o. boot_tick (dids o)) (sym q.same);
     moved_is = known.clock.moved_is ∙ ap (λ o. moved (dids o)) (sym q.same);
   };
-  small = more-small (length s) (length h) m.clock.moved q.short known.small;
+  small = more_small (length s) (length h) m.clock.moved q.short known.small;
   counts = record {
     lives_is = known.counts.lives_is ∙ ap (λ o. lives (dids o)) (sym q.same);
     corrects_is = known.counts.corrects_is ∙ ap (λ o. all_corrects (dids o)) (sym q.same);
@@ -97,54 +97,54 @@ known-quiet n s h m q known = record {
 }
 
 -- behind this line the node has nothing more
-pub quiet-here : (n : ℕ) (ns : List HistoryLine) (k j : ℕ) (l : HistoryLine) → k ≡ j + 1 → j < length ns → get_or ns j l ≡ l →
+pub quiet_here : (n : ℕ) (ns : List HistoryLine) (k j : ℕ) (l : HistoryLine) → k ≡ j + 1 → j < length ns → get_or ns j l ≡ l →
     Quiet n (history_of (take k ns)) (history_of ns) → Quiet n (line_of l ∷ history_of (take j ns)) (history_of ns)
-quiet-here n ns k j l next below is q = subst (λ s. Quiet n s (history_of ns)) (ap (λ i. history_of (take i ns)) next ∙ history-more ns j l below is) q
+quiet_here n ns k j l next below is q = subst (λ s. Quiet n s (history_of ns)) (ap (λ i. history_of (take i ns)) next ∙ history_more ns j l below is) q
 
 -- what is known at a node's last line is known of it
-pub known-last : (ns : List HistoryLine) (n i : ℕ) (l : HistoryLine) → Told ns → LastAt ns n i → get_or ns i l ≡ l → NodeKnown n (history_of ns) l.note.node
-known-last ns n i l told last is =
+pub known_last : (ns : List HistoryLine) (n i : ℕ) (l : HistoryLine) → Told ns → LastAt ns n i → get_or ns i l ≡ l → NodeKnown n (history_of ns) l.note.node
+known_last ns n i l told last is =
     let same : last.noted ≡ l = sym last.noted_is ∙ get_or_default ns i last.noted l last.below ∙ is in
     let known : NodeKnown last.noted.node (line_of last.noted ∷ history_of (take i ns)) last.noted.note.node =
     (told.at i last.noted last.below last.noted_is).node in
     let own : NodeKnown n (line_of last.noted ∷ history_of (take i ns)) last.noted.note.node =
     subst (λ m. NodeKnown m (line_of last.noted ∷ history_of (take i ns)) last.noted.note.node) last.node known in
-    subst (λ (k : HistoryLine). NodeKnown n (history_of ns) k.note.node) same (known-quiet n (line_of last.noted ∷ history_of (take i ns)) (history_of ns)
+    subst (λ (k : HistoryLine). NodeKnown n (history_of ns) k.note.node) same (known_quiet n (line_of last.noted ∷ history_of (take i ns)) (history_of ns)
     last.noted.note.node last.quiet own)
 
 -- what is known behind a line is known of the first lines with it
-pub first-lines : (ns : List HistoryLine) (k j : ℕ) (l : HistoryLine) → k ≡ j + 1 → j < length ns → get_or ns j l ≡ l → history_of (take k ns) ≡
+pub first_lines : (ns : List HistoryLine) (k j : ℕ) (l : HistoryLine) → k ≡ j + 1 → j < length ns → get_or ns j l ≡ l → history_of (take k ns) ≡
     (line_of l ∷ history_of (take j ns))
-first-lines ns k j l next below is = ap (λ i. history_of (take i ns)) next ∙ history-more ns j l below is
+first_lines ns k j l next below is = ap (λ i. history_of (take i ns)) next ∙ history_more ns j l below is
 
-pub port-more : (n : ℕ) (q : Port) (ns : List HistoryLine) (k j : ℕ) (l : HistoryLine) → k ≡ j + 1 → j < length ns → get_or ns j l ≡ l → (m : PortNote) →
+pub port_more : (n : ℕ) (q : Port) (ns : List HistoryLine) (k j : ℕ) (l : HistoryLine) → k ≡ j + 1 → j < length ns → get_or ns j l ≡ l → (m : PortNote) →
     PortKnown n q (line_of l ∷ history_of (take j ns)) m → PortKnown n q (history_of (take k ns)) m
-port-more n q ns k j l next below is m known = subst (λ h. PortKnown n q h m) (sym (first-lines ns k j l next below is)) known
+port_more n q ns k j l next below is m known = subst (λ h. PortKnown n q h m) (sym (first_lines ns k j l next below is)) known
 
-pub posted-more : (ns : List HistoryLine) (k j : ℕ) (l : HistoryLine) → k ≡ j + 1 → j < length ns → get_or ns j l ≡ l → posted (dids (history_of (take k ns))) ≡
+pub posted_more : (ns : List HistoryLine) (k j : ℕ) (l : HistoryLine) → k ≡ j + 1 → j < length ns → get_or ns j l ≡ l → posted (dids (history_of (take k ns))) ≡
     posted (dids (line_of l ∷ history_of (take j ns)))
-posted-more ns k j l next below is = ap (λ h. posted (dids h)) (first-lines ns k j l next below is)
+posted_more ns k j l next below is = ap (λ h. posted (dids h)) (first_lines ns k j l next below is)
 
 -- the last line tells how many datagrams were posted
-pub posted-last : (ns : List HistoryLine) (j : ℕ) (l : HistoryLine) → length ns ≡ j + 1 → get_or ns j l ≡ l → Told ns → l.note.posted ≡
+pub posted_last : (ns : List HistoryLine) (j : ℕ) (l : HistoryLine) → length ns ≡ j + 1 → get_or ns j l ≡ l → Told ns → l.note.posted ≡
     posted (dids (history_of ns))
-posted-last ns j l last is told =
+posted_last ns j l last is told =
     let below : j < length ns = omega arith in
     let F : List Line → ℕ = λ h. posted (dids h) in
-    (told.at j l below is).posted_is ∙ sym (newest-is F ns (length ns) j l last below is (all-lines F ns (length ns) (omega arith)))
+    (told.at j l below is).posted_is ∙ sym (newest-is F ns (length ns) j l last below is (all_lines F ns (length ns) (omega arith)))
 
-pub posted-few : (ns : List HistoryLine) (j : ℕ) (l : HistoryLine) → length ns ≡ j + 1 → get_or ns j l ≡ l → Told ns → l.note.posted ≤ length ns
-posted-few ns j l last is told =
+pub posted_few : (ns : List HistoryLine) (j : ℕ) (l : HistoryLine) → length ns ≡ j + 1 → get_or ns j l ≡ l → Told ns → l.note.posted ≤ length ns
+posted_few ns j l last is told =
     let below : j < length ns = omega arith in
-    omega (arith, (told.at j l below is).few, length-history (take j ns), length-take-le j ns (omega arith))
+    omega (arith, (told.at j l below is).few, length_history (take j ns), length-take-le j ns (omega arith))
 
 -- what is known of a line's node is small
-pub moved-small : (ns : List HistoryLine) (j : ℕ) (l : HistoryLine) → j < length ns → get_or ns j l ≡ l → length ns < 2 ^ 32 → Told ns →
+pub moved_small : (ns : List HistoryLine) (j : ℕ) (l : HistoryLine) → j < length ns → get_or ns j l ≡ l → length ns < 2 ^ 32 → Told ns →
     IsSumOf 4294967295 l.note.node.clock.moved
-moved-small ns j l below is few told =
-    more-small (length (line_of l ∷ history_of (take j ns))) 4294967295 l.note.node.clock.moved
-    (omega (arith, few, length-history (take j ns), length-take-le j ns (omega arith))) (told.at j l below is).node.small
+moved_small ns j l below is few told =
+    more_small (length (line_of l ∷ history_of (take j ns))) 4294967295 l.note.node.clock.moved
+    (omega (arith, few, length_history (take j ns), length-take-le j ns (omega arith))) (told.at j l below is).node.small
 
 -- a line of a port, by the whole port
-pub begins-port : (l : HistoryLine) (n : ℕ) (q : Port) → BeginsOn l n q → l.port ≡ q
-begins-port l n q on = port-same l.port q (eq-eqb l.port.0 q.0 on.port)
+pub begins_port : (l : HistoryLine) (n : ℕ) (q : Port) → BeginsOn l n q → l.port ≡ q
+begins_port l n q on = port_same l.port q (eq-eqb l.port.0 q.0 on.port)

@@ -6,45 +6,45 @@ use Rattle.std.proofs.lemmas.Fmt.{decimal_nonempty, decimal_injective}
 use Rattle.tsp_script.specs.{Words.first_word, Words.after_word, Schedules.IsHost}
 use Rattle.hex.{proofs.HexLemmas.decode_of-ok, proofs.HexLemmas.decode_of-same, specs.Hex.decode_of, specs.Hex.is_hex_digit}
 use Rattle.tsp_icmp.specs.declared.timestamp.{IcmpFault.IcmpFault, Timestamp.Timestamp}
-use Rattle.tsp_icmp.proofs.Octets.{icmp_octets-injective, icmp_octets-no_fault, IsIcmpFault-one}
-use Rattle.tsp_script.proofs.{Outcomes.true_or_false, HeadLines.no_space-host, Cuts.cut_front, Cuts.line_of_marks}
+use Rattle.tsp_icmp.proofs.Octets.{icmp_octets_injective, icmp_octets_no_fault, IsIcmpFault_one}
+use Rattle.tsp_script.proofs.{Outcomes.true_or_false, HeadLines.no_space_host, Cuts.cut_front, Cuts.line_of_marks}
 use Rattle.tsp_icmp_command.specs.Records.{SaysRecord, SaysInHex, IsRecord, expected, IsExchange, icmp_fault_word, RefusesRecord}
 use Rattle.tsp_icmp_command.specs.declared.{record.Record.Record, exchange.Exchange.Exchange}
 
-front-case : (b : Bool) (c : ℕ) (cs : List ℕ) → length (first_word cs) ≤ length cs → length (if b then [] else c ∷ first_word cs) ≤ length (c ∷ cs)
-front-case true c cs h = omega arith
-front-case false c cs h = omega arith
+front_case : (b : Bool) (c : ℕ) (cs : List ℕ) → length (first_word cs) ≤ length cs → length (if b then [] else c ∷ first_word cs) ≤ length (c ∷ cs)
+front_case true c cs h = omega arith
+front_case false c cs h = omega arith
 
-pub length-first_word : (line : List ℕ) → length (first_word line) ≤ length line
-length-first_word [] = omega arith
-length-first_word (c ∷ cs) = front-case (c == 32) c cs (length-first_word cs)
+pub length_first_word : (line : List ℕ) → length (first_word line) ≤ length line
+length_first_word [] = omega arith
+length_first_word (c ∷ cs) = front_case (c == 32) c cs (length_first_word cs)
 
-back-case : (b : Bool) (c : ℕ) (cs : List ℕ) → length (after_word cs) ≤ length cs → length (if b then cs else after_word cs) ≤ length (c ∷ cs)
-back-case true c cs h = omega arith
-back-case false c cs h = omega arith
+back_case : (b : Bool) (c : ℕ) (cs : List ℕ) → length (after_word cs) ≤ length cs → length (if b then cs else after_word cs) ≤ length (c ∷ cs)
+back_case true c cs h = omega arith
+back_case false c cs h = omega arith
 
-pub length-after_word : (line : List ℕ) → length (after_word line) ≤ length line
-length-after_word [] = omega arith
-length-after_word (c ∷ cs) = back-case (c == 32) c cs (length-after_word cs)
+pub length_after_word : (line : List ℕ) → length (after_word line) ≤ length line
+length_after_word [] = omega arith
+length_after_word (c ∷ cs) = back_case (c == 32) c cs (length_after_word cs)
 
 -- a word of hexadecimal has no space
-pub no_space-hex : (word octets : List ℕ) → decode_of word ≡ Ok octets → ¬ Contains word 32
-no_space-hex word octets e (k, h, space) =
+pub no_space_hex : (word octets : List ℕ) → decode_of word ≡ Ok octets → ¬ Contains word 32
+no_space_hex word octets e (k, h, space) =
     let digit = (decode_of-ok word octets e).1 k 32 h in
     true_or_false (is_hex_digit 32) (rw space at digit) refl
 
-pub no_space-message : (word : List ℕ) (message : Result Timestamp IcmpFault) → SaysInHex word message → ¬ Contains word 32
-no_space-message word message s = no_space-hex word s.0 s.2
+pub no_space_message : (word : List ℕ) (message : Result Timestamp IcmpFault) → SaysInHex word message → ¬ Contains word 32
+no_space_message word message s = no_space_hex word s.0 s.2
 
 -- octets are one thing
-Says-one : (octets : List ℕ) (a b : Result Timestamp IcmpFault) → SaysRecord octets a → SaysRecord octets b → a ≡ b
-Says-one octets (Ok t) (Ok u) p q = ap Ok (icmp_octets-injective t u p.0 q.0 (sym p.1 ∙ q.1))
-Says-one octets (Ok t) (Err f) p q = absurd (icmp_octets-no_fault t f (rw p.1 at q))
-Says-one octets (Err f) (Ok t) p q = absurd (icmp_octets-no_fault t f (rw q.1 at p))
-Says-one octets (Err f) (Err g) p q = ap Err (IsIcmpFault-one octets f g p q)
+Says_one : (octets : List ℕ) (a b : Result Timestamp IcmpFault) → SaysRecord octets a → SaysRecord octets b → a ≡ b
+Says_one octets (Ok t) (Ok u) p q = ap Ok (icmp_octets_injective t u p.0 q.0 (sym p.1 ∙ q.1))
+Says_one octets (Ok t) (Err f) p q = absurd (icmp_octets_no_fault t f (rw p.1 at q))
+Says_one octets (Err f) (Ok t) p q = absurd (icmp_octets_no_fault t f (rw q.1 at p))
+Says_one octets (Err f) (Err g) p q = ap Err (IsIcmpFault_one octets f g p q)
 
-pub SaysInHex-one : (word : List ℕ) (a b : Result Timestamp IcmpFault) → SaysInHex word a → SaysInHex word b → a ≡ b
-SaysInHex-one word a b p q = Says-one q.0 a b (rw (decode_of-same word p.0 q.0 p.2 q.2) at p.3) q.3
+pub SaysInHex_one : (word : List ℕ) (a b : Result Timestamp IcmpFault) → SaysInHex word a → SaysInHex word b → a ≡ b
+SaysInHex_one word a b p q = Says_one q.0 a b (rw (decode_of-same word p.0 q.0 p.2 q.2) at p.3) q.3
 
 -- what the words of a record's line are
 pub record HasWords (line : List ℕ) (r : Record) : Type 0 where
@@ -53,12 +53,12 @@ pub record HasWords (line : List ℕ) (r : Record) : Type 0 where
   pub reply : SaysInHex (first_word (after_word (after_word line))) r.reply
   pub arrival : after_word (after_word (after_word line)) ≡ decimal r.arrival
 
-pub HasWords-IsRecord : (line : List ℕ) (r : Record) → IsRecord line r → HasWords line r
-HasWords-IsRecord line r h =
+pub HasWords_IsRecord : (line : List ℕ) (r : Record) → IsRecord line r → HasWords line r
+HasWords_IsRecord line r h =
     let w = h.words in
-    let a = cut_front line r.name (w.0 ++ 32 ∷ (w.1 ++ 32 ∷ decimal r.arrival)) (no_space-host r.name h.name) w.4 in
-    let b = cut_front (after_word line) w.0 (w.1 ++ 32 ∷ decimal r.arrival) (no_space-message w.0 r.request w.2) a.1 in
-    let c = cut_front (after_word (after_word line)) w.1 (decimal r.arrival) (no_space-message w.1 r.reply w.3) b.1 in
+    let a = cut_front line r.name (w.0 ++ 32 ∷ (w.1 ++ 32 ∷ decimal r.arrival)) (no_space_host r.name h.name) w.4 in
+    let b = cut_front (after_word line) w.0 (w.1 ++ 32 ∷ decimal r.arrival) (no_space_message w.0 r.request w.2) a.1 in
+    let c = cut_front (after_word (after_word line)) w.1 (decimal r.arrival) (no_space_message w.1 r.reply w.3) b.1 in
     record {
       name = a.0;
       request = subst (λ x. SaysInHex x r.request) (sym b.0) w.2;
@@ -67,9 +67,9 @@ HasWords-IsRecord line r h =
     }
 
 -- an answer that is none
-pub MatchOption-none : {A : Type 0} (r : Option A) (P : Type 0) (Q : A → Type 0) → r ≡ None → P → MatchOption r P Q
-MatchOption-none None P Q e p = p
-MatchOption-none (Some x) P Q e p = cc
+pub MatchOption_none : {A : Type 0} (r : Option A) (P : Type 0) (Q : A → Type 0) → r ≡ None → P → MatchOption r P Q
+MatchOption_none None P Q e p = p
+MatchOption_none (Some x) P Q e p = cc
 
 joined : (line rest last a b c d e f : List ℕ) → line ≡ a ++ 32 ∷ rest → rest ≡ c ++ 32 ∷ last → last ≡ d ++ 32 ∷ e → a ≡ b → e ≡ f → line ≡ b ++ 32 ∷
     (c ++ 32 ∷ (d ++ 32 ∷ f))
@@ -80,8 +80,8 @@ cut_back : (line : List ℕ) → 0 < length (after_word line) → line ≡ first
 cut_back = line_of_marks 32
 
 -- words that are a name, two messages and a time are a record
-pub IsRecord-words : (line : List ℕ) (r : Record) → length line ≤ 1024 → IsHost r.name → r.arrival < 86400000 → HasWords line r → IsRecord line r
-IsRecord-words line r short host arrival w =
+pub IsRecord_words : (line : List ℕ) (r : Record) → length line ≤ 1024 → IsHost r.name → r.arrival < 86400000 → HasWords line r → IsRecord line r
+IsRecord_words line r short host arrival w =
     let some : 0 < length (after_word (after_word (after_word line))) = omega (arith, ap length w.arrival, decimal_nonempty r.arrival (omega (arith, arrival)))
     in
     let third = cut_back (after_word (after_word line)) some in
@@ -110,11 +110,11 @@ record_of_parts : (a b : Record) → a.name ≡ b.name → a.request ≡ b.reque
 record_of_parts a b n q r d = rw (n, q, r, d) refl
 
 -- a line is one record
-pub IsRecord-one : (line : List ℕ) (a b : Record) → IsRecord line a → IsRecord line b → a ≡ b
-IsRecord-one line a b g h =
-    let v = HasWords-IsRecord line a g in
-    let w = HasWords-IsRecord line b h in
-    record_of_parts a b (sym v.name ∙ w.name) (SaysInHex-one _ a.request b.request v.request w.request) (SaysInHex-one _ a.reply b.reply v.reply w.reply)
+pub IsRecord_one : (line : List ℕ) (a b : Record) → IsRecord line a → IsRecord line b → a ≡ b
+IsRecord_one line a b g h =
+    let v = HasWords_IsRecord line a g in
+    let w = HasWords_IsRecord line b h in
+    record_of_parts a b (sym v.name ∙ w.name) (SaysInHex_one _ a.request b.request v.request w.request) (SaysInHex_one _ a.reply b.reply v.reply w.reply)
     (decimal_injective a.arrival b.arrival (omega (arith, g.arrival)) (omega (arith, h.arrival)) (sym v.arrival ∙ w.arrival))
 
 ok_injective : (t u : Timestamp) (r : Result Timestamp IcmpFault) → r ≡ Ok t → r ≡ Ok u → t ≡ u
@@ -130,60 +130,60 @@ exchange_of_parts : (a b : Exchange) → a.name ≡ b.name → a.request ≡ b.r
 exchange_of_parts a b n q r d = rw (n, q, r, d) refl
 
 -- a line is one exchange
-pub IsExchange-one : (line : List ℕ) (a b : Exchange) → IsExchange line a → IsExchange line b → a ≡ b
-IsExchange-one line a b g h =
+pub IsExchange_one : (line : List ℕ) (a b : Exchange) → IsExchange line a → IsExchange line b → a ≡ b
+IsExchange_one line a b g h =
     let p = g.messages in
     let q = h.messages in
-    let same = IsRecord-one line _ _ p.2 q.2 in
+    let same = IsRecord_one line _ _ p.2 q.2 in
     exchange_of_parts a b (ap (λ (r : Record). r.name) same)
     (ok_injective a.request b.request (expected false q.0) (ap (λ (r : Record). expected false r.request) (sym same) ∙ p.3) q.3)
     (ok_injective a.reply b.reply (expected true q.1) (ap (λ (r : Record). expected true r.reply) (sym same) ∙ p.4) q.4)
     (ap (λ (r : Record). r.arrival) same)
 
 -- an exchange's line isn't refused
-pub IsExchange-not_refused : (line cause : List ℕ) (e : Exchange) → IsExchange line e → RefusesRecord line cause → ⊥
-IsExchange-not_refused line cause e h (inl r) = r.0 _ h.messages.2
-IsExchange-not_refused line cause e h (inr (inl r)) =
+pub IsExchange_not_refused : (line cause : List ℕ) (e : Exchange) → IsExchange line e → RefusesRecord line cause → ⊥
+IsExchange_not_refused line cause e h (inl r) = r.0 _ h.messages.2
+IsExchange_not_refused line cause e h (inr (inl r)) =
     let p = h.messages in
-    ok_or_err e.request r.1 (expected false p.0) p.3 (ap (λ (x : Record). expected false x.request) (IsRecord-one line _ r.0 p.2 r.2) ∙ r.3)
-IsExchange-not_refused line cause e h (inr (inr r)) =
+    ok_or_err e.request r.1 (expected false p.0) p.3 (ap (λ (x : Record). expected false x.request) (IsRecord_one line _ r.0 p.2 r.2) ∙ r.3)
+IsExchange_not_refused line cause e h (inr (inr r)) =
     let p = h.messages in
-    ok_or_err e.reply r.2 (expected true p.1) p.4 (ap (λ (x : Record). expected true x.reply) (IsRecord-one line _ r.0 p.2 r.3) ∙ r.5)
+    ok_or_err e.reply r.2 (expected true p.1) p.4 (ap (λ (x : Record). expected true x.reply) (IsRecord_one line _ r.0 p.2 r.3) ∙ r.5)
 
 -- a line is refused for one cause
-pub RefusesRecord-one : (line cause other : List ℕ) → RefusesRecord line cause → RefusesRecord line other → cause ≡ other
-RefusesRecord-one line cause other (inl r) (inl s) = r.1 ∙ sym s.1
-RefusesRecord-one line cause other (inl r) (inr (inl s)) = absurd (r.0 s.0 s.2)
-RefusesRecord-one line cause other (inl r) (inr (inr s)) = absurd (r.0 s.0 s.3)
-RefusesRecord-one line cause other (inr (inl r)) (inl s) = absurd (s.0 r.0 r.2)
-RefusesRecord-one line cause other (inr (inr r)) (inl s) = absurd (s.0 r.0 r.3)
-RefusesRecord-one line cause other (inr (inl r)) (inr (inl s)) =
-    let same = ap (λ (x : Record). expected false x.request) (IsRecord-one line r.0 s.0 r.2 s.2) in
+pub RefusesRecord_one : (line cause other : List ℕ) → RefusesRecord line cause → RefusesRecord line other → cause ≡ other
+RefusesRecord_one line cause other (inl r) (inl s) = r.1 ∙ sym s.1
+RefusesRecord_one line cause other (inl r) (inr (inl s)) = absurd (r.0 s.0 s.2)
+RefusesRecord_one line cause other (inl r) (inr (inr s)) = absurd (r.0 s.0 s.3)
+RefusesRecord_one line cause other (inr (inl r)) (inl s) = absurd (s.0 r.0 r.2)
+RefusesRecord_one line cause other (inr (inr r)) (inl s) = absurd (s.0 r.0 r.3)
+RefusesRecord_one line cause other (inr (inl r)) (inr (inl s)) =
+    let same = ap (λ (x : Record). expected false x.request) (IsRecord_one line r.0 s.0 r.2 s.2) in
     r.4 ∙ ap (λ f. codes "request " ++ icmp_fault_word f) (err_injective r.1 s.1 (expected false s.0.request) (sym same ∙ r.3) s.3) ∙ sym s.4
-RefusesRecord-one line cause other (inr (inl r)) (inr (inr s)) =
-    let same = ap (λ (x : Record). expected false x.request) (IsRecord-one line r.0 s.0 r.2 s.3) in
+RefusesRecord_one line cause other (inr (inl r)) (inr (inr s)) =
+    let same = ap (λ (x : Record). expected false x.request) (IsRecord_one line r.0 s.0 r.2 s.3) in
     absurd (ok_or_err s.1 r.1 (expected false s.0.request) s.4 (sym same ∙ r.3))
-RefusesRecord-one line cause other (inr (inr r)) (inr (inl s)) =
-    let same = ap (λ (x : Record). expected false x.request) (IsRecord-one line r.0 s.0 r.3 s.2) in
+RefusesRecord_one line cause other (inr (inr r)) (inr (inl s)) =
+    let same = ap (λ (x : Record). expected false x.request) (IsRecord_one line r.0 s.0 r.3 s.2) in
     absurd (ok_or_err r.1 s.1 (expected false s.0.request) (sym same ∙ r.4) s.3)
-RefusesRecord-one line cause other (inr (inr r)) (inr (inr s)) =
-    let same = ap (λ (x : Record). expected true x.reply) (IsRecord-one line r.0 s.0 r.3 s.3) in
+RefusesRecord_one line cause other (inr (inr r)) (inr (inr s)) =
+    let same = ap (λ (x : Record). expected true x.reply) (IsRecord_one line r.0 s.0 r.3 s.3) in
     r.6 ∙ ap (λ f. codes "reply " ++ icmp_fault_word f) (err_injective r.2 s.2 (expected true s.0.reply) (sym same ∙ r.5) s.5) ∙ sym s.6
 
 -- lines are the same exchanges
-pub exchanges-one : (lines : List (List ℕ)) (es fs : List Exchange) → AllZip IsExchange lines es → AllZip IsExchange lines fs → es ≡ fs
-exchanges-one [] [] [] y z = refl
-exchanges-one [] [] (f ∷ fs) y z = absurd z
-exchanges-one [] (e ∷ es) fs y z = absurd y
-exchanges-one (l ∷ lines) [] fs y z = absurd y
-exchanges-one (l ∷ lines) (e ∷ es) [] y z = absurd z
-exchanges-one (l ∷ lines) (e ∷ es) (f ∷ fs) y z = rw (IsExchange-one l e f y.0 z.0, exchanges-one lines es fs y.1 z.1) refl
+pub exchanges_one : (lines : List (List ℕ)) (es fs : List Exchange) → AllZip IsExchange lines es → AllZip IsExchange lines fs → es ≡ fs
+exchanges_one [] [] [] y z = refl
+exchanges_one [] [] (f ∷ fs) y z = absurd z
+exchanges_one [] (e ∷ es) fs y z = absurd y
+exchanges_one (l ∷ lines) [] fs y z = absurd y
+exchanges_one (l ∷ lines) (e ∷ es) [] y z = absurd z
+exchanges_one (l ∷ lines) (e ∷ es) (f ∷ fs) y z = rw (IsExchange_one l e f y.0 z.0, exchanges_one lines es fs y.1 z.1) refl
 
 -- the last line's exchange stands last
-pub exchanges-before : (lines : List (List ℕ)) (line : List ℕ) (es : List Exchange) → AllZip IsExchange (lines ++ line ∷ []) es
+pub exchanges_before : (lines : List (List ℕ)) (line : List ℕ) (es : List Exchange) → AllZip IsExchange (lines ++ line ∷ []) es
     → (front : List Exchange) × (e : Exchange) × (es ≡ front ++ e ∷ []) × AllZip IsExchange lines front × IsExchange line e
-exchanges-before [] line [] z = absurd z
-exchanges-before [] line (e ∷ []) z = ([], e, refl, tt, z.0)
-exchanges-before [] line (e ∷ f ∷ es) z = absurd z.1
-exchanges-before (l ∷ lines) line [] z = absurd z
-exchanges-before (l ∷ lines) line (e ∷ es) z = let r = exchanges-before lines line es z.1 in (e ∷ r.0, r.1, ap (λ l. e ∷ l) r.2, (z.0, r.3), r.4)
+exchanges_before [] line [] z = absurd z
+exchanges_before [] line (e ∷ []) z = ([], e, refl, tt, z.0)
+exchanges_before [] line (e ∷ f ∷ es) z = absurd z.1
+exchanges_before (l ∷ lines) line [] z = absurd z
+exchanges_before (l ∷ lines) line (e ∷ es) z = let r = exchanges_before lines line es z.1 in (e ∷ r.0, r.1, ap (λ l. e ∷ l) r.2, (z.0, r.3), r.4)

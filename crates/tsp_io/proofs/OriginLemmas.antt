@@ -75,20 +75,20 @@ retuned_some tick rate b o e = by (can_retune tick rate b) e where
   by true e = cc
   by false e = absurd (cc)
 
-same-rate : (a b : ℤ) (speed : ℕ) → pos 1000000000 +ℤ a ≡ pos speed → pos 1000000000 +ℤ b ≡ pos speed → a ≡ b
-same-rate a b speed e f = omega (arith, ints, e, f)
+same_rate : (a b : ℤ) (speed : ℕ) → pos 1000000000 +ℤ a ≡ pos speed → pos 1000000000 +ℤ b ≡ pos speed → a ≡ b
+same_rate a b speed e f = omega (arith, ints, e, f)
 
-same-nanos : (a b : ℤ) (from : Option ℤ) → from ≡ Some a → from ≡ Some b → a ≡ b
-same-nanos a b from e f = cc
+same_nanos : (a b : ℤ) (from : Option ℤ) → from ≡ Some a → from ≡ Some b → a ≡ b
+same_nanos a b from e f = cc
 
 -- a counter's ticks are counted from one place
 pub same_origin : (counter : Counter) (start : Option ℕ) (base speed : ℕ) (a b : Origin) → IsOrigin counter start base speed a →
     IsOrigin counter start base speed b → a ≡ b
 same_origin counter start base speed a b h k =
     let c : a.counter ≡ b.counter = h.counter_is ∙ sym k.counter_is in
-    let n : a.nanos ≡ b.nanos = same-nanos a.nanos b.nanos _ h.nanos_are k.nanos_are in
+    let n : a.nanos ≡ b.nanos = same_nanos a.nanos b.nanos _ h.nanos_are k.nanos_are in
     let t : a.tick ≡ b.tick = h.tick_is ∙ sym k.tick_is in
-    let r : a.rate ≡ b.rate = same-rate a.rate b.rate speed h.rate_is k.rate_is in
+    let r : a.rate ≡ b.rate = same_rate a.rate b.rate speed h.rate_is k.rate_is in
     let e : record { counter = a.counter; nanos = a.nanos; tick = a.tick; rate = a.rate } ≡ record {
       counter = b.counter;
       nanos = b.nanos;

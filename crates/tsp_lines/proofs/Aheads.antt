@@ -5,7 +5,7 @@ use Rattle.std.{proofs.lemmas.Grind.common_steps, specs.declared.option.Option.O
 use Rattle.tsp_io.specs.Streams.{Gives}
 use Rattle.tsp_lines.specs.Lines.{NoFeed, close, closed, Begins, IsInput, IsOver, HasLines, HasNext, HasMore, IsPast}
 use Rattle.tsp_lines.specs.{Readings.ReaderValue, Readings.IsNext, declared.next.Next.TheVariants.Limit}
-use Rattle.tsp_lines.proofs.Outputs.{Gives-trans}
+use Rattle.tsp_lines.proofs.Outputs.{Gives_trans}
 
 -- an input that gave octets begins with the first of them
 pub begins : (a b : Option (List ℕ)) (octets front rest : List ℕ) → Gives a b octets → octets ≡ front ++ rest →
@@ -27,60 +27,60 @@ pub record Ahead (input left : Option (List ℕ)) (lines : List (List ℕ)) (r :
   pub are : octets ≡ closed lines ++ ahead
   pub count : r.got ≡ length octets
 
-pub Ahead-next : (input left rest : Option (List ℕ)) (lines : List (List ℕ)) (old new : ReaderValue) (octets more : List ℕ)
+pub Ahead_next : (input left rest : Option (List ℕ)) (lines : List (List ℕ)) (old new : ReaderValue) (octets more : List ℕ)
     → Gives input left octets → octets ≡ closed lines ++ old.held → old.got ≡ length octets → Gives left rest more → new.got ≡ old.got + length more →
     Ahead input rest lines new (old.held ++ more)
-Ahead-next input left rest lines old new octets more g e c h f = record {
+Ahead_next input left rest lines old new octets more g e c h f = record {
   octets = octets ++ more;
-  given = Gives-trans input left rest octets more g h;
+  given = Gives_trans input left rest octets more g h;
   are = ap (λ l. l ++ more) e ∙ append_assoc (closed lines) old.held more;
   count = omega (arith, c, f, length-append octets more);
 }
 
 -- the first octets that were got, and those behind them
 module _ (input left : Option (List ℕ)) (lines : List (List ℕ)) (r : ReaderValue) (ahead : List ℕ) (a : Ahead input left lines r ahead) where
-  pub Begins-got : (limit : ℕ) (front rest : List ℕ) → a.octets ≡ front ++ rest → r.got ≤ limit + length rest → Begins limit input front
-  Begins-got limit front rest e w = let n : length a.octets ≡ length (front ++ rest) = ap length e in (
+  pub Begins_got : (limit : ℕ) (front rest : List ℕ) → a.octets ≡ front ++ rest → r.got ≤ limit + length rest → Begins limit input front
+  Begins_got limit front rest e w = let n : length a.octets ≡ length (front ++ rest) = ap length e in (
     omega (arith, n, length-append front rest, a.count, w),
     begins input left a.octets front rest a.given e,
   )
 
-  pub HasLines-got : (limit : ℕ) → r.got ≤ limit + length ahead → HasLines limit input lines
-  HasLines-got limit w = inl (Begins-got limit (closed lines) ahead a.are w)
+  pub HasLines_got : (limit : ℕ) → r.got ≤ limit + length ahead → HasLines limit input lines
+  HasLines_got limit w = inl (Begins_got limit (closed lines) ahead a.are w)
 
-  pub HasNext-line : (line rest : List ℕ) → NoFeed line → ahead ≡ close line ++ rest → r.got ≤ r.limit + length rest → HasNext r.limit input lines line
-  HasNext-line line rest n e w = (
+  pub HasNext_line : (line rest : List ℕ) → NoFeed line → ahead ≡ close line ++ rest → r.got ≤ r.limit + length rest → HasNext r.limit input lines line
+  HasNext_line line rest n e w = (
     n,
-    inl (Begins-got r.limit (closed lines ++ close line) rest (a.are ∙ ap (λ l. closed lines ++ l) e ∙
+    inl (Begins_got r.limit (closed lines ++ close line) rest (a.are ∙ ap (λ l. closed lines ++ l) e ∙
         sym (append_assoc (closed lines) (close line) rest)) w),
   )
 
-  pub IsInput-got : (limit : ℕ) (octets : List ℕ) → a.octets ≡ octets → r.got ≤ limit → IsOver left → IsInput limit input octets
-  IsInput-got limit octets e w o = let n : length a.octets ≡ length octets = ap length e in
+  pub IsInput_got : (limit : ℕ) (octets : List ℕ) → a.octets ≡ octets → r.got ≤ limit → IsOver left → IsInput limit input octets
+  IsInput_got limit octets e w o = let n : length a.octets ≡ length octets = ap length e in
       (omega (arith, n, a.count, w), subst (λ l. IfSome input (λ xs. xs ≡ l)) e (is_input input left a.octets a.given o))
 
-  pub HasNext-last : NoFeed ahead → 0 < length ahead → r.got ≤ r.limit → IsOver left → HasNext r.limit input lines ahead
-  HasNext-last n p w o = (n, inr (p, IsInput-got r.limit (closed lines ++ ahead) a.are w o))
+  pub HasNext_last : NoFeed ahead → 0 < length ahead → r.got ≤ r.limit → IsOver left → HasNext r.limit input lines ahead
+  HasNext_last n p w o = (n, inr (p, IsInput_got r.limit (closed lines ++ ahead) a.are w o))
 
-  pub HasMore-got : (limit : ℕ) → r.got ≤ limit + length ahead → 0 < length ahead → HasMore limit input lines
-  HasMore-got limit w some = first ahead refl some where
+  pub HasMore_got : (limit : ℕ) → r.got ≤ limit + length ahead → 0 < length ahead → HasMore limit input lines
+  HasMore_got limit w some = first ahead refl some where
     first : (octets : List ℕ) → ahead ≡ octets → 0 < length octets → HasMore limit input lines
     first [] e s = absurd (omega (arith, s))
     first (x ∷ rest) e s =
         let n : length ahead ≡ length (x ∷ rest) = ap length e in (
           x,
-          Begins-got (limit + 1) (closed lines ++ x ∷ []) rest (a.are ∙ ap (λ l. closed lines ++ l) e ∙ sym (append_assoc (closed lines) (x ∷ []) rest))
+          Begins_got (limit + 1) (closed lines ++ x ∷ []) rest (a.are ∙ ap (λ l. closed lines ++ l) e ∙ sym (append_assoc (closed lines) (x ∷ []) rest))
               (omega (arith, w, n)),
         )
 
-  pub IsPast-limit : IsNext r ahead Limit → IsPast r.limit input lines
-  IsPast-limit p =
+  pub IsPast_limit : IsNext r ahead Limit → IsPast r.limit input lines
+  IsPast_limit p =
       let e : a.octets ≡ closed lines ++ (p.1.0 ++ p.1.1 ∷ []) = a.are ∙ ap (λ l. closed lines ++ l) p.1.3 in
       let n : length a.octets ≡ length (closed lines) + (length p.1.0 + 1) = ap length e ∙ grind (arith, common_steps) in (
         p.1.0,
         p.1.1,
         p.1.2,
         omega (arith, length-append (closed lines) p.1.0, n, p.0, a.count),
-        Begins-got (r.limit + 1) (closed lines ++ (p.1.0 ++ p.1.1 ∷ [])) [] (e ∙ sym (append-nil (closed lines ++ (p.1.0 ++ p.1.1 ∷ []))))
+        Begins_got (r.limit + 1) (closed lines ++ (p.1.0 ++ p.1.1 ∷ [])) [] (e ∙ sym (append-nil (closed lines ++ (p.1.0 ++ p.1.1 ∷ []))))
             (omega (arith, p.0)),
       )

@@ -8,11 +8,11 @@ use Rattle.tsp_lines.specs.{Meanings.Meaning, Meanings.Breaks, Outputs.Hands, de
 use Rattle.tsp_lines.specs.Outcomes.{bad_line, limit_line, IsBad, IsLimited, IsDone, Follows, WritesPart, Comes}
 use Rattle.tsp_lines.specs.Turns.{Sayings, IsSaying, only_limited, line_sayings, end_sayings, Ends}
 use Rattle.tsp_lines.specs.declared.treat.Outcome.TheVariants.{Ok as Done, Bad, ReadFault, WriteFault, Limit, OutOfMemory}
-use Rattle.tsp_lines.proofs.Outputs.{Hands-trans}
+use Rattle.tsp_lines.proofs.Outputs.{Hands_trans}
 
 -- where nothing is held, what was handed over is what was written
-pub Grows-handed : (a c : Option (List ℕ)) (text : List ℕ) → Hands a [] c [] text → Grows a c text
-Grows-handed a c text h = subst (Grows a c) (sym (h.2 ∙ append-nil h.0)) h.1
+pub Grows_handed : (a c : Option (List ℕ)) (text : List ℕ) → Hands a [] c [] text → Grows a c text
+Grows_handed a c text h = subst (Grows a c) (sym (h.2 ∙ append-nil h.0)) h.1
 
 -- a saying at a place of the input is what follows some lines' output
 pub record Place (m : Meaning) (limit : ℕ) (input : Option (List ℕ)) (lines : List (List ℕ)) (text : List ℕ) (s : Sayings) : Type 0 where
@@ -39,12 +39,12 @@ whole m limit input lines text s p w q = elim q [
 ]
 
 -- a part of a saying was written
-pub WritesPart-Breaks : (m : Meaning) (limit : ℕ) (input : Option (List ℕ)) (lines : List (List ℕ)) (text : List ℕ) (s : Sayings) (a b c : Option (List ℕ))
+pub WritesPart_Breaks : (m : Meaning) (limit : ℕ) (input : Option (List ℕ)) (lines : List (List ℕ)) (text : List ℕ) (s : Sayings) (a b c : Option (List ℕ))
     (held keeps : List ℕ)
     → Place m limit input lines text s → Hands a [] b held text → Breaks (IsSaying s) b held c keeps
     → (rest : List ℕ) × (length keeps < length rest + 1) × WritesPart m limit input a c rest
-WritesPart-Breaks m limit input lines text s a b c held keeps p h k =
-    let t = Hands-trans a b c [] held keeps text k.0 h k.1 in
+WritesPart_Breaks m limit input lines text s a b c held keeps p h k =
+    let t = Hands_trans a b c [] held keeps text k.0 h k.1 in
     elim k.2 [
       | inl e ↦ (keeps, omega arith, (lines, text, [], t.0, p.feedless, p.accepted, inl (p.on, refl), ap (λ x. text ++ x) (sym e) ∙ t.2, t.1))
       | inr r ↦
@@ -54,10 +54,10 @@ WritesPart-Breaks m limit input lines text s a b c held keeps p h k =
     ]
 
 -- what it comes to where it ends so
-pub Comes-Ends : (m : Meaning) (limit : ℕ) (input left : Option (List ℕ)) (lines : List (List ℕ)) (text : List ℕ) (s : Sayings) (a b c : Option (List ℕ))
+pub Comes_Ends : (m : Meaning) (limit : ℕ) (input left : Option (List ℕ)) (lines : List (List ℕ)) (text : List ℕ) (s : Sayings) (a b c : Option (List ℕ))
     (held : List ℕ) (o : Outcome)
     → Place m limit input lines text s → Hands a [] b held text → ((w : List ℕ) → s.done w → IsOver left) → Ends s b held c o → Comes m limit input left a c o
-Comes-Ends m limit input left lines text s a b c held Done p h over e = (
+Comes_Ends m limit input left lines text s a b c held Done p h over e = (
   (
     lines,
     text,
@@ -65,65 +65,65 @@ Comes-Ends m limit input left lines text s a b c held Done p h over e = (
     p.feedless,
     p.accepted,
     p.done e.0 e.1,
-    Grows-handed a c (text ++ e.0) (Hands-trans a b c [] held [] text e.0 h e.2),
+    Grows_handed a c (text ++ e.0) (Hands_trans a b c [] held [] text e.0 h e.2),
   ),
   over e.0 e.1,
 )
-Comes-Ends m limit input left lines text s a b c held Bad p h over e = (
+Comes_Ends m limit input left lines text s a b c held Bad p h over e = (
   lines,
   text,
   e.0,
   p.feedless,
   p.accepted,
   p.bad e.0 e.1,
-  Grows-handed a c (text ++ e.0) (Hands-trans a b c [] held [] text e.0 h e.2),
+  Grows_handed a c (text ++ e.0) (Hands_trans a b c [] held [] text e.0 h e.2),
 )
-Comes-Ends m limit input left lines text s a b c held ReadFault p h over e = absurd e
-Comes-Ends m limit input left lines text s a b c held WriteFault p h over e = let r = WritesPart-Breaks m limit input lines text s a b c held e.0 p h e.2 in
+Comes_Ends m limit input left lines text s a b c held ReadFault p h over e = absurd e
+Comes_Ends m limit input left lines text s a b c held WriteFault p h over e = let r = WritesPart_Breaks m limit input lines text s a b c held e.0 p h e.2 in
     (r.0, omega (arith, e.1, r.1), r.2)
-Comes-Ends m limit input left lines text s a b c held Limit p h over e = (
+Comes_Ends m limit input left lines text s a b c held Limit p h over e = (
   lines,
   text,
   e.0,
   p.feedless,
   p.accepted,
   p.limited e.0 e.1,
-  Grows-handed a c (text ++ e.0) (Hands-trans a b c [] held [] text e.0 h e.2),
+  Grows_handed a c (text ++ e.0) (Hands_trans a b c [] held [] text e.0 h e.2),
 )
-Comes-Ends m limit input left lines text s a b c held OutOfMemory p h over e = let r = WritesPart-Breaks m limit input lines text s a b c held e.0 p h e.1 in
+Comes_Ends m limit input left lines text s a b c held OutOfMemory p h over e = let r = WritesPart_Breaks m limit input lines text s a b c held e.0 p h e.1 in
     (r.0, r.2)
 
-pub closed-push : (lines : List (List ℕ)) (line : List ℕ) → closed (lines ++ line ∷ []) ≡ closed lines ++ close line
-closed-push [] line = append-nil (close line)
-closed-push (x ∷ xs) line = ap (λ l. close x ++ l) (closed-push xs line) ∙ sym (append_assoc (close x) (closed xs) (close line))
+pub closed_push : (lines : List (List ℕ)) (line : List ℕ) → closed (lines ++ line ∷ []) ≡ closed lines ++ close line
+closed_push [] line = append-nil (close line)
+closed_push (x ∷ xs) line = ap (λ l. close x ++ l) (closed_push xs line) ∙ sym (append_assoc (close x) (closed xs) (close line))
 
 -- the input has a line more where that line is next
-pub HasLines-next : (limit : ℕ) (input : Option (List ℕ)) (lines : List (List ℕ)) (line : List ℕ) → HasNext limit input lines line →
+pub HasLines_next : (limit : ℕ) (input : Option (List ℕ)) (lines : List (List ℕ)) (line : List ℕ) → HasNext limit input lines line →
     HasLines limit input (lines ++ line ∷ [])
-HasLines-next limit input lines line h = elim h.1 [
-  | inl b ↦ inl (subst (Begins limit input) (sym (closed-push lines line)) b)
+HasLines_next limit input lines line h = elim h.1 [
+  | inl b ↦ inl (subst (Begins limit input) (sym (closed_push lines line)) b)
   | inr l ↦ inr (closed lines ++ line, inr (lines, line, refl, l.0, refl), l.1)
 ]
 
 -- the place of a line
-pub Place-line : (m : Meaning) (limit : ℕ) (input : Option (List ℕ)) (lines : List (List ℕ)) (text line : List ℕ) (number : ℕ)
+pub Place_line : (m : Meaning) (limit : ℕ) (input : Option (List ℕ)) (lines : List (List ℕ)) (text line : List ℕ) (number : ℕ)
     → All NoFeed lines → m.accepts lines text → ¬ m.full lines → HasLines limit input lines → HasNext limit input lines line → number ≡ length lines + 1 →
     Place m limit input lines text (line_sayings m lines text number line)
-Place-line m limit input lines text line number f a room on h e = record {
+Place_line m limit input lines text line number f a room on h e = record {
   feedless = f;
   accepted = a;
   on = on;
   done = λ w d. absurd d;
   bad = λ w b. inl (line, b.0, h, room, b.1, b.2 ∙ ap (λ n. bad_line n b.0) e);
   limited = λ w l. (inl (line, h, l.0), l.1 ∙ ap limit_line e);
-  more = λ w o. (lines ++ line ∷ [], All-push NoFeed lines line f h.0, o, HasLines-next limit input lines line h);
+  more = λ w o. (lines ++ line ∷ [], All-push NoFeed lines line f h.0, o, HasLines_next limit input lines line h);
 }
 
 -- the place of the input's end
-pub Place-end : (m : Meaning) (limit : ℕ) (input : Option (List ℕ)) (lines : List (List ℕ)) (text : List ℕ) (number : ℕ)
+pub Place_end : (m : Meaning) (limit : ℕ) (input : Option (List ℕ)) (lines : List (List ℕ)) (text : List ℕ) (number : ℕ)
     → All NoFeed lines → m.accepts lines text → IsWhole limit input lines → number ≡ length lines + 1 →
     Place m limit input lines text (end_sayings m lines number)
-Place-end m limit input lines text number f a whole e = record {
+Place_end m limit input lines text number f a whole e = record {
   feedless = f;
   accepted = a;
   on = inr whole;
@@ -134,10 +134,10 @@ Place-end m limit input lines text number f a whole e = record {
 }
 
 -- the place of a limit
-pub Place-limit : (m : Meaning) (limit : ℕ) (input : Option (List ℕ)) (lines : List (List ℕ)) (text : List ℕ) (number : ℕ)
+pub Place_limit : (m : Meaning) (limit : ℕ) (input : Option (List ℕ)) (lines : List (List ℕ)) (text : List ℕ) (number : ℕ)
     → All NoFeed lines → m.accepts lines text → HasLines limit input lines → IsPast limit input lines ⊎ (m.full lines × HasMore limit input lines) → number ≡
     length lines + 1 → Place m limit input lines text (only_limited (limit_line number))
-Place-limit m limit input lines text number f a on p e = record {
+Place_limit m limit input lines text number f a on p e = record {
   feedless = f;
   accepted = a;
   on = on;
@@ -152,9 +152,9 @@ abbrev pub no_sayings : Sayings
 no_sayings = record { done = λ w. ⊥; bad = λ w. ⊥; limited = λ w. ⊥; more = λ w. ⊥ }
 
 -- any place of the input
-pub Place-any : (m : Meaning) (limit : ℕ) (input : Option (List ℕ)) (lines : List (List ℕ)) (text : List ℕ) → All NoFeed lines → m.accepts lines text →
+pub Place_any : (m : Meaning) (limit : ℕ) (input : Option (List ℕ)) (lines : List (List ℕ)) (text : List ℕ) → All NoFeed lines → m.accepts lines text →
     HasLines limit input lines → Place m limit input lines text no_sayings
-Place-any m limit input lines text f a on = record {
+Place_any m limit input lines text f a on = record {
   feedless = f;
   accepted = a;
   on = on;

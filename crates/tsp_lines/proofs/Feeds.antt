@@ -12,8 +12,8 @@ use Rattle.memchr.specs.Find.{IsFirstByte, is_byte, Nowhere, Passes}
 use Rattle.tsp_io.specs.Streams.{Gives}
 use Rattle.tsp_lines.specs.{Lines.NoFeed, Lines.close, Lines.IsFront, Readings.ReaderValue}
 
-NoFeed-take : (hay : List ℕ) (n : ℕ) → n ≤ length hay → Nowhere (Passes (is_byte 10) hay) 0 n → NoFeed (take n hay)
-NoFeed-take hay n h p = λ c.
+NoFeed_take : (hay : List ℕ) (n : ℕ) → n ≤ length hay → Nowhere (Passes (is_byte 10) hay) 0 n → NoFeed (take n hay)
+NoFeed_take hay n h p = λ c.
     let l : length (take n hay) ≡ n = length-take-le n hay h in
     let lt : c.0 < n = omega (arith, l, c.1) in
     let e : get_or hay c.0 0 ≡ 10 = grind (arith, common_steps, c.2, get_or_default_zero (take n hay) c.0 10 c.1, lt) in
@@ -28,8 +28,8 @@ split_feed hay k h e =
 -- the first line feed ends a line
 pub first_feed : (hay : List ℕ) (r : Option ℕ) → IsFirstByte (is_byte 10) hay r → MatchOption r (NoFeed hay) (λ k. NoFeed (take k hay) ×
     (hay ≡ close (take k hay) ++ drop (k + 1) hay))
-first_feed hay None p = rw (take-length hay) at (NoFeed-take hay (length hay) (omega arith) p)
-first_feed hay (Some k) p = (NoFeed-take hay k (omega (arith, p.0.high)) p.0.before, split_feed hay k p.0.high (eqb-true _ _ p.1))
+first_feed hay None p = rw (take-length hay) at (NoFeed_take hay (length hay) (omega arith) p)
+first_feed hay (Some k) p = (NoFeed_take hay k (omega (arith, p.0.high)) p.0.before, split_feed hay k p.0.high (eqb-true _ _ p.1))
 
 -- the first line feed is all that is left
 pub last_feed : (held : List ℕ) (place : ℕ) → length held ≤ place + 1 → held ≡ close (take place held) ++ drop (place + 1) held → held ≡ take place held ++ 10 ∷
@@ -135,8 +135,8 @@ split_end (x ∷ []) h = ([], x, refl)
 split_end (x ∷ y ∷ ys) h = let r = split_end (y ∷ ys) (omega arith) in (x ∷ r.0, r.1, ap (λ l. x ∷ l) r.2)
 
 -- octets without a line feed, but for the last
-pub NoFeed-end : (xs : List ℕ) → 0 < length xs → NoFeed xs → (part : List ℕ) × (x : ℕ) × NoFeed part × (xs ≡ part ++ x ∷ [])
-NoFeed-end xs h n = let r = split_end xs h in (r.0, r.1, λ c. n (rw r.2 (Contains-append_left r.0 (r.1 ∷ []) 10 c)), r.2)
+pub NoFeed_end : (xs : List ℕ) → 0 < length xs → NoFeed xs → (part : List ℕ) × (x : ℕ) × NoFeed part × (xs ≡ part ++ x ∷ [])
+NoFeed_end xs h n = let r = split_end xs h in (r.0, r.1, λ c. n (rw r.2 (Contains-append_left r.0 (r.1 ∷ []) 10 c)), r.2)
 
 pub some_held : (buf : List ℕ) (at end : ℕ) → at < end → end ≤ length buf → 0 < length (slice_range buf at end)
 some_held buf at end h k = grind (arith, common_steps)
@@ -176,11 +176,11 @@ near_feed hay mask room is some =
     )
 
 -- octets behind those that are held
-pub take-held : (buf : List ℕ) (held n : ℕ) → take (held + n) buf ≡ take held buf ++ slice_range buf held (held + n)
-take-held buf held n = let e : held + n - held ≡ n = omega arith in take-add held n buf ∙ ap (λ k. take held buf ++ take k (drop held buf)) (sym e)
+pub take_held : (buf : List ℕ) (held n : ℕ) → take (held + n) buf ≡ take held buf ++ slice_range buf held (held + n)
+take_held buf held n = let e : held + n - held ≡ n = omega arith in take-add held n buf ∙ ap (λ k. take held buf ++ take k (drop held buf)) (sym e)
 
-pub length-slice : (buf : List ℕ) (held n : ℕ) → held + n ≤ length buf → length (slice_range buf held (held + n)) ≡ n
-length-slice buf held n h = grind (arith, common_steps)
+pub length_slice : (buf : List ℕ) (held n : ℕ) → held + n ≤ length buf → length (slice_range buf held (held + n)) ≡ n
+length_slice buf held n h = grind (arith, common_steps)
 
 -- what was read stands behind what is held
 pub read_behind_held : (left rest : Option (List ℕ)) (new old front : List ℕ) (held count : ℕ)
@@ -189,8 +189,8 @@ pub read_behind_held : (left rest : Option (List ℕ)) (new old front : List ℕ
 read_behind_held left rest new old front held count g h e f = (
   slice_range new held (held + count),
   g,
-  length-slice new held count h,
-  take-held new held count ∙ ap (λ l. l ++ slice_range new held (held + count)) (e ∙ f),
+  length_slice new held count h,
+  take_held new held count ∙ ap (λ l. l ++ slice_range new held (held + count)) (e ∙ f),
 )
 
 -- a buffer that was written back whole

@@ -4,14 +4,14 @@ use Rattle.std.proofs.Math.Seq.{take-append_seam}
 use Rattle.tsp_lines.specs.Lines.{IsAhead, IsFront, line_ahead}
 
 -- a line at the front is the first
-pub line_ahead-front : (octets line : List ℕ) (count : ℕ) → IsFront octets count line → line ≡ line_ahead octets count
-line_ahead-front octets line count f =
+pub line_ahead_front : (octets line : List ℕ) (count : ℕ) → IsFront octets count line → line ≡ line_ahead octets count
+line_ahead_front octets line count f =
     let n : count - 1 ≡ length line = omega (arith, f.1) in
     let e : octets ≡ line ++ (10 ∷ drop count octets) = f.2 ∙ append_assoc line (10 ∷ []) (drop count octets) in
     sym (take-append_seam line (10 ∷ drop count octets)) ∙ (ap (λ l. take (length line) l) (sym e) ∙ ap (λ k. take k octets) (sym n))
 
-pub IsAhead-front : (octets line : List ℕ) (count : ℕ) → IsFront octets count line → IsAhead octets count
-IsAhead-front octets line count f = subst (λ l. IsFront octets count l) (line_ahead-front octets line count f) f
+pub IsAhead_front : (octets line : List ℕ) (count : ℕ) → IsFront octets count line → IsAhead octets count
+IsAhead_front octets line count f = subst (λ l. IsFront octets count l) (line_ahead_front octets line count f) f
 
 -- it has at least its line feed, and is within the octets
 pub ahead_within : (octets : List ℕ) (count : ℕ) → IsAhead octets count → (0 < count) × (count ≤ length octets)

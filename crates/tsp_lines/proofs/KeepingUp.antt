@@ -8,16 +8,16 @@ use Rattle.tsp_lines.specs.{Readings.ReaderValue, Readings.IsNext, Turns.Sayings
 use Rattle.tsp_lines.specs.declared.next.Next.TheVariants.{Line, Last, Long, End, Limit}
 use Rattle.tsp_lines.specs.declared.treat.Outcome.{Outcome}
 use Rattle.tsp_lines.specs.declared.treat.Outcome.TheVariants.{ReadFault, WriteFault, OutOfMemory}
-use Rattle.tsp_lines.proofs.{Comes.Grows-handed, Outputs.Grows-nil, Outputs.Grows-trans, Outputs.said, Outputs.Gives-nil, Outputs.Gives-trans}
+use Rattle.tsp_lines.proofs.{Comes.Grows_handed, Outputs.Grows_nil, Outputs.Grows_trans, Outputs.said, Outputs.Gives_nil, Outputs.Gives_trans}
 
 -- some octets more were written
 abbrev pub Grew : Option (List ℕ) → Option (List ℕ) → Type 0
 Grew now later = (octets : List ℕ) × Grows now later octets
 
 -- output that keeps up keeps up where more is written
-pub KeepsUp-grew : (m : Meaning) (limit : ℕ) (input left written now later : Option (List ℕ)) → KeepsUp m limit input left written now → Grew now later →
+pub KeepsUp_grew : (m : Meaning) (limit : ℕ) (input left written now later : Option (List ℕ)) → KeepsUp m limit input left written now → Grew now later →
     KeepsUp m limit input left written later
-KeepsUp-grew m limit input left written now later (lines, text, part, last, more, n, a, f, l, w, g, r) (octets, h) = (
+KeepsUp_grew m limit input left written now later (lines, text, part, last, more, n, a, f, l, w, g, r) (octets, h) = (
   lines,
   text,
   part,
@@ -30,7 +30,7 @@ KeepsUp-grew m limit input left written now later (lines, text, part, last, more
   w,
   g,
   subst (Grows written later) (append_assoc text more octets)
-      (Grows-trans written now later (text ++ more) octets r h),
+      (Grows_trans written now later (text ++ more) octets r h),
 )
 
 -- what is ahead is a line's beginning and at most 64 KiB more
@@ -49,15 +49,15 @@ near r ahead Limit p = (p.1.0, p.1.1 ∷ [], p.1.2, omega arith, p.1.3)
 near r ahead _ p = (ahead, [], p.0, omega arith, sym (append-nil ahead))
 
 -- all that was handed over was written, and then octets were read
-KeepsUp-read : (m : Meaning) (Stands : List (List ℕ) → Type 0) (input left rest written now later : Option (List ℕ)) (old : ReaderValue) (held keeps : List ℕ)
+KeepsUp_read : (m : Meaning) (Stands : List (List ℕ) → Type 0) (input left rest written now later : Option (List ℕ)) (old : ReaderValue) (held keeps : List ℕ)
     (number : ℕ) (lines : List (List ℕ)) (text more : List ℕ)
     → IsAt m Stands input left written now old held number lines text → Gives left rest more → old.got + length more ≤ old.limit + 1 →
     Hands now held later keeps [] → keeps ≡ [] → IsNear (old.held ++ more) → KeepsUp m old.limit input rest written later
-KeepsUp-read m Stands input left rest written now later old held keeps number lines text more a g w h e (part, last, n, l, s) =
+KeepsUp_read m Stands input left rest written now later old held keeps number lines text more a g w h e (part, last, n, l, s) =
     let all : a.got.0 ++ more ≡ (closed lines ++ part) ++ last = ap (λ o. o ++ more) a.got.2 ∙ append_assoc (closed lines) old.held more ∙
     ap (λ o. closed lines ++ o) s ∙ sym (append_assoc (closed lines) part last) in
     let c : length (a.got.0 ++ more) ≡ length ((closed lines ++ part) ++ last) = ap length all in
-    let t = Grows-handed written later text (subst (λ k. Hands written [] later k text) e (said written now later [] held keeps text a.handed h)) in (
+    let t = Grows_handed written later text (subst (λ k. Hands written [] later k text) e (said written now later [] held keeps text a.handed h)) in (
       lines,
       text,
       part,
@@ -68,30 +68,30 @@ KeepsUp-read m Stands input left rest written now later old held keeps number li
       n,
       l,
       omega (arith, c, length-append a.got.0 more, w, a.got.3),
-      subst (Gives input rest) all (Gives-trans input left rest a.got.0 more a.got.1 g),
+      subst (Gives input rest) all (Gives_trans input left rest a.got.0 more a.got.1 g),
       subst (Grows written later) (sym (append-nil text)) t,
     )
 
 -- nothing was read, or all that was handed over was written before
-pub KeepsUp-next : (m : Meaning) (Stands : List (List ℕ) → Type 0) (input left rest written now later : Option (List ℕ)) (old new : ReaderValue)
+pub KeepsUp_next : (m : Meaning) (Stands : List (List ℕ) → Type 0) (input left rest written now later : Option (List ℕ)) (old new : ReaderValue)
     (held keeps : List ℕ) (number : ℕ) (lines : List (List ℕ)) (text more : List ℕ) (n : Next)
     → IsAt m Stands input left written now old held number lines text → KeepsUp m old.limit input left written now → Gives left rest more → new.got ≡
     old.got + length more → Hands now held later keeps []
     → IsNext new (old.held ++ more) n → new.got ≤ old.limit + 1 → (rest ≡ left) ⊎ (keeps ≡ []) → KeepsUp m old.limit input rest written later
-KeepsUp-next m Stands input left rest written now later old new held keeps number lines text more n a k g c h p w (inl e) =
-    rw e (KeepsUp-grew m old.limit input left written now later k (h.0, h.1))
-KeepsUp-next m Stands input left rest written now later old new held keeps number lines text more n a k g c h p w (inr e) =
-    KeepsUp-read m Stands input left rest written now later old held keeps number lines text more a g (omega (arith, c, w)) h e (near new (old.held ++
+KeepsUp_next m Stands input left rest written now later old new held keeps number lines text more n a k g c h p w (inl e) =
+    rw e (KeepsUp_grew m old.limit input left written now later k (h.0, h.1))
+KeepsUp_next m Stands input left rest written now later old new held keeps number lines text more n a k g c h p w (inr e) =
+    KeepsUp_read m Stands input left rest written now later old held keeps number lines text more a g (omega (arith, c, w)) h e (near new (old.held ++
     more) n p)
 
 -- an octet was looked for
-pub KeepsUp-peek : (m : Meaning) (Stands : List (List ℕ) → Type 0) (input left rest written now later : Option (List ℕ)) (old new : ReaderValue)
+pub KeepsUp_peek : (m : Meaning) (Stands : List (List ℕ) → Type 0) (input left rest written now later : Option (List ℕ)) (old new : ReaderValue)
     (held keeps : List ℕ) (number : ℕ) (lines : List (List ℕ)) (text more : List ℕ)
     → IsAt m Stands input left written now old held number lines text → Gives left rest more → new.held ≡ old.held ++ more → new.got ≡ old.got + length more →
     Hands now held later keeps [] → new.got ≤ old.limit + 1 → length new.held ≤ 65536 → keeps ≡ []
     → KeepsUp m old.limit input rest written later
-KeepsUp-peek m Stands input left rest written now later old new held keeps number lines text more a g p c h w l e =
-    KeepsUp-read m Stands input left rest written now later old held keeps number lines text more a g (omega (arith, c, w)) h e (
+KeepsUp_peek m Stands input left rest written now later old new held keeps number lines text more a g p c h w l e =
+    KeepsUp_read m Stands input left rest written now later old held keeps number lines text more a g (omega (arith, c, w)) h e (
       [],
       new.held,
       λ k. omega (arith, k.1),
@@ -100,24 +100,24 @@ KeepsUp-peek m Stands input left rest written now later old new held keeps numbe
     )
 
 -- however it ends, some octets more were written
-pub Ends-grew : (s : Sayings) (a c : Option (List ℕ)) (held : List ℕ) (o : Outcome) → Ends s a held c o → Grew a c
-Ends-grew s a c held ReadFault e = absurd e
-Ends-grew s a c held WriteFault e = (e.2.1.0, e.2.1.1)
-Ends-grew s a c held OutOfMemory e = (e.1.1.0, e.1.1.1)
-Ends-grew s a c held _ e = (e.2.0, e.2.1)
+pub Ends_grew : (s : Sayings) (a c : Option (List ℕ)) (held : List ℕ) (o : Outcome) → Ends s a held c o → Grew a c
+Ends_grew s a c held ReadFault e = absurd e
+Ends_grew s a c held WriteFault e = (e.2.1.0, e.2.1.1)
+Ends_grew s a c held OutOfMemory e = (e.1.1.0, e.1.1.1)
+Ends_grew s a c held _ e = (e.2.0, e.2.1)
 
-pub Treats-grew : (m : Meaning) (Stands : List (List ℕ) → Type 0) (s : Sayings) (lines : List (List ℕ)) (text line held keeps : List ℕ) (a c : Option (List ℕ))
+pub Treats_grew : (m : Meaning) (Stands : List (List ℕ) → Type 0) (s : Sayings) (lines : List (List ℕ)) (text line held keeps : List ℕ) (a c : Option (List ℕ))
     (o : Option Outcome)
     → MatchOption o (Goes m Stands lines text line a held c keeps) (λ outcome. Ends s a held c outcome) → Grew a c
-Treats-grew m Stands s lines text line held keeps a c None t = (t.1.0, t.1.1)
-Treats-grew m Stands s lines text line held keeps a c (Some o) t = Ends-grew s a c held o t
+Treats_grew m Stands s lines text line held keeps a c None t = (t.1.0, t.1.1)
+Treats_grew m Stands s lines text line held keeps a c (Some o) t = Ends_grew s a c held o t
 
-pub Grew-trans : (a b c : Option (List ℕ)) → Grew a b → Grew b c → Grew a c
-Grew-trans a b c g h = (g.0 ++ h.0, Grows-trans a b c g.0 h.0 g.1 h.1)
+pub Grew_trans : (a b c : Option (List ℕ)) → Grew a b → Grew b c → Grew a c
+Grew_trans a b c g h = (g.0 ++ h.0, Grows_trans a b c g.0 h.0 g.1 h.1)
 
 -- nothing was read or written yet
-pub KeepsUp-nothing : (m : Meaning) (limit : ℕ) (input written : Option (List ℕ)) → m.accepts [] [] → KeepsUp m limit input input written written
-KeepsUp-nothing m limit input written a = (
+pub KeepsUp_nothing : (m : Meaning) (limit : ℕ) (input written : Option (List ℕ)) → m.accepts [] [] → KeepsUp m limit input input written written
+KeepsUp_nothing m limit input written a = (
   [],
   [],
   [],
@@ -128,6 +128,6 @@ KeepsUp-nothing m limit input written a = (
   λ c. omega (arith, c.1),
   omega arith,
   omega arith,
-  Gives-nil input,
-  Grows-nil written,
+  Gives_nil input,
+  Grows_nil written,
 )

@@ -5,48 +5,48 @@ use Rattle.std.specs.declared.option.Option.{Option}
 use Rattle.std.proofs.lemmas.{Grind.flat_map-append, List.append_cancel_left, List.Elements.All-push}
 use Rattle.tsp_io.specs.Streams.{Grows}
 use Rattle.tsp_lines.specs.Lines.{NoFeed, close, closed, Begins, IsInput, AreLines, IsWhole, HasLines, HasNext, HasMore, IsPast}
-use Rattle.tsp_lines.proofs.{OneCut.AreLines-none, OneCut.AreLines-one, OneCut.cut, OneCut.front_of, OneCut.feed_within, Aheads.begins}
+use Rattle.tsp_lines.proofs.{OneCut.AreLines_none, OneCut.AreLines_one, OneCut.cut, OneCut.front_of, OneCut.feed_within, Aheads.begins}
 use Rattle.tsp_lines.specs.Outcomes.{bad_line, IsBad, IsLimited, IsDone, Follows, Comes}
 use Rattle.tsp_lines.specs.{Answers.IsEnding, Answers.IsAnswer, Answers.IsPart, Answers.Agrees, Answers.Answers, Definite.IsDefinite}
-use Rattle.tsp_lines.{specs.declared.treat.Outcome.Outcome, proofs.Comes.HasLines-next, specs.Meanings.Meaning}
+use Rattle.tsp_lines.{specs.declared.treat.Outcome.Outcome, proofs.Comes.HasLines_next, specs.Meanings.Meaning}
 use Rattle.tsp_lines.specs.declared.treat.Outcome.TheVariants.{Ok as Done, Bad, ReadFault, WriteFault, Limit, OutOfMemory}
 
 -- of octets that an input begins with, the first lie within a limit
-Begins-front : (n limit : ℕ) (input : Option (List ℕ)) (octets front more : List ℕ) → octets ≡ front ++ more → Begins n input octets → length front ≤ limit →
+Begins_front : (n limit : ℕ) (input : Option (List ℕ)) (octets front more : List ℕ) → octets ≡ front ++ more → Begins n input octets → length front ≤ limit →
     Begins limit input front
-Begins-front n limit None octets front more e b l = (l, tt)
-Begins-front n limit (Some xs) octets front more e (h, (rest, o)) l = (l, (more ++ rest, o ∙ ap (λ x. x ++ rest) e ∙ append_assoc front more rest))
+Begins_front n limit None octets front more e b l = (l, tt)
+Begins_front n limit (Some xs) octets front more e (h, (rest, o)) l = (l, (more ++ rest, o ∙ ap (λ x. x ++ rest) e ∙ append_assoc front more rest))
 
 module _ (limit : ℕ) (input : Option (List ℕ)) (lines : List (List ℕ)) where
-  HasNext-lines : (line : List ℕ) → HasNext limit input lines line → HasLines limit input lines
-  HasNext-lines line (n, inl b) = inl (Begins-front limit limit input (closed lines ++ close line) (closed lines) (close line) refl b (omega (
+  HasNext_lines : (line : List ℕ) → HasNext limit input lines line → HasLines limit input lines
+  HasNext_lines line (n, inl b) = inl (Begins_front limit limit input (closed lines ++ close line) (closed lines) (close line) refl b (omega (
     arith,
     b.0,
     length-append (closed lines) (close line),
   )))
-  HasNext-lines line (n, inr (s, i)) = inl (Begins-front limit limit input (closed lines ++ line) (closed lines) line refl (is_begin input (closed lines ++
+  HasNext_lines line (n, inr (s, i)) = inl (Begins_front limit limit input (closed lines ++ line) (closed lines) line refl (is_begin input (closed lines ++
       line) i) (omega (arith, i.0, length-append (closed lines) line))) where
         is_begin : (told : Option (List ℕ)) (octets : List ℕ) → IsInput limit told octets → Begins limit told octets
         is_begin None octets (l, t) = (l, tt)
         is_begin (Some xs) octets (l, e) = (l, ([], e ∙ sym (append-nil octets)))
 
-  IsPast-lines : IsPast limit input lines → HasLines limit input lines
-  IsPast-lines (part, x, n, e, b) = inl (Begins-front (limit + 1) limit input (closed lines ++ (part ++ x ∷ [])) (closed lines) (part ++ x ∷
+  IsPast_lines : IsPast limit input lines → HasLines limit input lines
+  IsPast_lines (part, x, n, e, b) = inl (Begins_front (limit + 1) limit input (closed lines ++ (part ++ x ∷ [])) (closed lines) (part ++ x ∷
       []) refl b (omega (arith, e, length-append (closed lines) part)))
 
-  HasMore-lines : HasMore limit input lines → HasLines limit input lines
-  HasMore-lines (x, b) = inl (Begins-front (limit + 1) limit input (closed lines ++ x ∷ []) (closed lines) (x ∷
+  HasMore_lines : HasMore limit input lines → HasLines limit input lines
+  HasMore_lines (x, b) = inl (Begins_front (limit + 1) limit input (closed lines ++ x ∷ []) (closed lines) (x ∷
       []) refl b (omega (arith, b.0, length-append (closed lines) (x ∷ []))))
 
   -- where the treatment ends, the input has the lines before
-  IsEnding-lines : (m : Meaning) (o : Outcome) (said : List ℕ) → IsEnding m limit input lines o said → HasLines limit input lines
-  IsEnding-lines m Done said e = inr e.0
-  IsEnding-lines m Bad said (inl e) = HasNext-lines e.0 e.2
-  IsEnding-lines m Bad said (inr e) = inr e.1
-  IsEnding-lines m Limit said (inl e, w) = HasNext-lines e.0 e.1
-  IsEnding-lines m Limit said (inr (inl e), w) = IsPast-lines e
-  IsEnding-lines m Limit said (inr (inr e), w) = HasMore-lines e.1
-  IsEnding-lines m _ said e = absurd e
+  IsEnding_lines : (m : Meaning) (o : Outcome) (said : List ℕ) → IsEnding m limit input lines o said → HasLines limit input lines
+  IsEnding_lines m Done said e = inr e.0
+  IsEnding_lines m Bad said (inl e) = HasNext_lines e.0 e.2
+  IsEnding_lines m Bad said (inr e) = inr e.1
+  IsEnding_lines m Limit said (inl e, w) = HasNext_lines e.0 e.1
+  IsEnding_lines m Limit said (inr (inl e), w) = IsPast_lines e
+  IsEnding_lines m Limit said (inr (inr e), w) = HasMore_lines e.1
+  IsEnding_lines m _ said e = absurd e
 
 -- of two beginnings of a list one is the other's
 compare : (all front other more rest : List (List ℕ)) → all ≡ front ++ more → all ≡ other ++ rest → ((r : List (List ℕ)) × (front ≡ other ++ r)) ⊎
@@ -74,14 +74,14 @@ same_line front a b r s e = let t = append_cancel_left front (a ∷ r) (b ∷ s)
 module _ (limit : ℕ) (octets : List ℕ) (all : List (List ℕ)) (feeds : All NoFeed all) (are : AreLines octets all) where
   lines_first : (front : List (List ℕ)) → All NoFeed front → HasLines limit (Some octets) front → (rest : List (List ℕ)) × (all ≡ front ++ rest)
   lines_first front n (inl (l, (rest, e))) = let r = front_of octets rest front all n feeds e are in (r.0, r.1)
-  lines_first front n (inr (xs, a, i)) = ([], AreLines-one octets all front feeds n are (rw i.1 a) ∙ sym (append-nil front))
+  lines_first front n (inr (xs, a, i)) = ([], AreLines_one octets all front feeds n are (rw i.1 a) ∙ sym (append-nil front))
 
   whole_all : (front : List (List ℕ)) → All NoFeed front → IsWhole limit (Some octets) front → all ≡ front
-  whole_all front n (xs, a, i) = AreLines-one octets all front feeds n are (rw i.1 a)
+  whole_all front n (xs, a, i) = AreLines_one octets all front feeds n are (rw i.1 a)
 
   next_line : (front : List (List ℕ)) (line : List ℕ) → All NoFeed front → HasNext limit (Some octets) front line → (rest : List (List ℕ)) ×
       (all ≡ front ++ line ∷ rest)
-  next_line front line n h = let r = lines_first (front ++ line ∷ []) (All-push NoFeed front line n h.0) (HasLines-next limit (Some octets) front line h) in
+  next_line front line n h = let r = lines_first (front ++ line ∷ []) (All-push NoFeed front line n h.0) (HasLines_next limit (Some octets) front line h) in
       (r.0, r.1 ∙ append_assoc front (line ∷ []) r.0)
 
   more_line : (front : List (List ℕ)) → All NoFeed front → HasMore limit (Some octets) front → (line : List ℕ) × (rest : List (List ℕ)) ×
@@ -91,7 +91,7 @@ module _ (limit : ℕ) (octets : List ℕ) (all : List (List ℕ)) (feeds : All 
       some r.0 r.1 r.2 where
         some : (more : List (List ℕ)) → all ≡ front ++ more → AreLines (x ∷ rest) more → (line : List ℕ) × (rest' : List (List ℕ)) ×
             (all ≡ front ++ line ∷ rest')
-        some [] i a = absurd (let f : x ∷ rest ≡ [] = AreLines-none (x ∷ rest) a in cc)
+        some [] i a = absurd (let f : x ∷ rest ≡ [] = AreLines_none (x ∷ rest) a in cc)
         some (line ∷ more) i a = (line, more, i)
 
   -- the limit isn't passed in an input that lies within it
@@ -135,7 +135,7 @@ module _ (limit : ℕ) (octets : List ℕ) (all : List (List ℕ)) (feeds : All 
       ))
 
   past_next : (front : List (List ℕ)) (line : List ℕ) → IsPast limit (Some octets) front → HasNext limit (Some octets) front line → ⊥
-  past_next front line p h = past_longer front line [] p (HasLines-next limit (Some octets) front line h)
+  past_next front line p h = past_longer front line [] p (HasLines_next limit (Some octets) front line h)
 
   -- where the input ends behind lines, no line follows them
   whole_next : (front : List (List ℕ)) (line : List ℕ) → All NoFeed front → IsWhole limit (Some octets) front → HasNext limit (Some octets) front line → ⊥
@@ -196,7 +196,7 @@ module _ (limit : ℕ) (octets : List ℕ) (all : List (List ℕ)) (feeds : All 
     first_of : (front other : List (List ℕ)) (o : Outcome) (said text : List ℕ) → All NoFeed front → IsEnding m limit (Some octets) front o said →
         All NoFeed other → HasLines limit (Some octets) other → m.accepts other text → (rest : List (List ℕ)) × (front ≡ other ++ rest)
     first_of front other o said text n e f h a =
-        let r = lines_first front n (IsEnding-lines limit (Some octets) front m o said e) in
+        let r = lines_first front n (IsEnding_lines limit (Some octets) front m o said e) in
         let s = lines_first other f h in
         elim (compare all front other r.0 s.0 r.1 s.1) [
           | inl t ↦ t
@@ -262,9 +262,9 @@ module _ (limit : ℕ) (octets : List ℕ) (all : List (List ℕ)) (feeds : All 
 
     one_answer : (o p : Outcome) (output other : List ℕ) → IsAnswer m limit octets o output → IsAnswer m limit octets p other → (o ≡ p) × (output ≡ other)
     one_answer o p output other a b =
-        let r = first_of a.lines b.lines o a.said b.text a.feedless a.ending b.feedless (IsEnding-lines limit (Some octets) b.lines m p b.said b.ending)
+        let r = first_of a.lines b.lines o a.said b.text a.feedless a.ending b.feedless (IsEnding_lines limit (Some octets) b.lines m p b.said b.ending)
         b.accepted in
-        let s = first_of b.lines a.lines p b.said a.text b.feedless b.ending a.feedless (IsEnding-lines limit (Some octets) a.lines m o a.said a.ending)
+        let s = first_of b.lines a.lines p b.said a.text b.feedless b.ending a.feedless (IsEnding_lines limit (Some octets) a.lines m o a.said a.ending)
         a.accepted in
         let same = one_place a.lines b.lines r.0 s.0 r.1 s.1 in
         let e = one_ending b.lines a.said b.said o p b.feedless (subst (λ l. IsEnding m limit (Some octets) l o a.said) same a.ending) b.ending in
@@ -341,21 +341,21 @@ module _ (limit : ℕ) (octets : List ℕ) (all : List (List ℕ)) (feeds : All 
         (r.0, r.2)
 
 -- an input has one answer
-pub IsAnswer-one : (m : Meaning) → IsDefinite m → (limit : ℕ) (octets : List ℕ) (o p : Outcome) (output other : List ℕ) → IsAnswer m limit octets o output →
+pub IsAnswer_one : (m : Meaning) → IsDefinite m → (limit : ℕ) (octets : List ℕ) (o p : Outcome) (output other : List ℕ) → IsAnswer m limit octets o output →
     IsAnswer m limit octets p other → (o ≡ p) × (output ≡ other)
-IsAnswer-one m d limit octets o p output other a b = let c = cut octets in one_answer limit octets c.0 c.1 c.2 m d o p output other a b
+IsAnswer_one m d limit octets o p output other a b = let c = cut octets in one_answer limit octets c.0 c.1 c.2 m d o p output other a b
 
 -- what the treatment comes to agrees with the answer to the input
-pub Comes-answers : (m : Meaning) → IsDefinite m → (limit : ℕ) (input left written now : Option (List ℕ)) (result : Outcome) →
+pub Comes_answers : (m : Meaning) → IsDefinite m → (limit : ℕ) (input left written now : Option (List ℕ)) (result : Outcome) →
     Comes m limit input left written now result → Answers m limit input written now result
-Comes-answers m d limit input left written now result comes = λ octets o output told a.
+Comes_answers m d limit input left written now result comes = λ octets o output told a.
     let c = cut octets in
     agrees limit octets c.0 c.1 c.2 m d o result output left written now a (subst (λ i. Comes m limit i left written now result) told comes)
 
 -- where no read and no write failed, an outcome that agrees with an answer is that answer's, or there was no memory
-pub Agrees-outcome : (o result : Outcome) (output : List ℕ) (written now : Option (List ℕ)) → Agrees o output written now result → (result ≡ ReadFault → ⊥) →
+pub Agrees_outcome : (o result : Outcome) (output : List ℕ) (written now : Option (List ℕ)) → Agrees o output written now result → (result ≡ ReadFault → ⊥) →
     (result ≡ WriteFault → ⊥) → (result ≡ o) ⊎ (result ≡ OutOfMemory)
-Agrees-outcome o ReadFault output written now a r w = absurd (r refl)
-Agrees-outcome o WriteFault output written now a r w = absurd (w refl)
-Agrees-outcome o OutOfMemory output written now a r w = inr refl
-Agrees-outcome o _ output written now a r w = inl (sym a.0)
+Agrees_outcome o ReadFault output written now a r w = absurd (r refl)
+Agrees_outcome o WriteFault output written now a r w = absurd (w refl)
+Agrees_outcome o OutOfMemory output written now a r w = inr refl
+Agrees_outcome o _ output written now a r w = inl (sym a.0)

@@ -75,35 +75,35 @@ over_on n input left ended octets lines (g, inl o) w = (o.1, o.2)
 over_on n input left ended octets lines (g, inr o) w = let e : length octets ≡ length w.0 = ap length w.2.1 in absurd (omega (arith, o.0, w.2.0, e))
 
 -- what comes of the octets that were gathered, in which no read fails, comes of the input
-pub Comes-gathered : (m : Meaning) (n : ℕ) (input left rest written now : Option (List ℕ)) (ended : Bool) (octets : List ℕ) (outcome : Outcome) →
+pub Comes_gathered : (m : Meaning) (n : ℕ) (input left rest written now : Option (List ℕ)) (ended : Bool) (octets : List ℕ) (outcome : Outcome) →
     Gathers n input left ended octets → (outcome ≡ ReadFault → ⊥)
     → Comes m n (Some octets) rest written now outcome → Comes m n input left written now outcome
-Comes-gathered m n input left rest written now ended octets Done g f c =
+Comes_gathered m n input left rest written now ended octets Done g f c =
     let w = c.0 in
     ((w.0, w.1, w.2, w.3, w.4, (whole_on n input left ended octets w.0 g w.5.0, w.5.1), w.6), (over_on n input left ended octets w.0 g w.5.0).0)
-Comes-gathered m n input left rest written now ended octets Bad g f c = (c.0, c.1, c.2, c.3, c.4, bad_on m n input left ended octets c.0 c.2 g c.5, c.6)
-Comes-gathered m n input left rest written now ended octets ReadFault g f c = absurd (f refl)
-Comes-gathered m n input left rest written now ended octets WriteFault g f c = (c.0, c.1, part_on m n input left written now ended octets c.0 g c.2)
-Comes-gathered m n input left rest written now ended octets Limit g f c = (c.0, c.1, c.2, c.3, c.4, limited_on m n input left ended octets c.0 c.2 g c.5, c.6)
-Comes-gathered m n input left rest written now ended octets OutOfMemory g f c = (c.0, part_on m n input left written now ended octets c.0 g c.1)
+Comes_gathered m n input left rest written now ended octets Bad g f c = (c.0, c.1, c.2, c.3, c.4, bad_on m n input left ended octets c.0 c.2 g c.5, c.6)
+Comes_gathered m n input left rest written now ended octets ReadFault g f c = absurd (f refl)
+Comes_gathered m n input left rest written now ended octets WriteFault g f c = (c.0, c.1, part_on m n input left written now ended octets c.0 g c.2)
+Comes_gathered m n input left rest written now ended octets Limit g f c = (c.0, c.1, c.2, c.3, c.4, limited_on m n input left ended octets c.0 c.2 g c.5, c.6)
+Comes_gathered m n input left rest written now ended octets OutOfMemory g f c = (c.0, part_on m n input left written now ended octets c.0 g c.1)
 
 -- where all lines were accepted, the source gave its end
-pub ended-given : (m : Meaning) (n : ℕ) (input left rest written now : Option (List ℕ)) (ended : Bool) (octets : List ℕ) (at : ℕ) (outcome : Outcome) →
+pub ended_given : (m : Meaning) (n : ℕ) (input left rest written now : Option (List ℕ)) (ended : Bool) (octets : List ℕ) (at : ℕ) (outcome : Outcome) →
     Gathers n input left ended octets → at ≡ 0 → Comes m n (Some (drop at octets)) rest written now outcome → outcome ≡ Done → ended ≡ true
-ended-given m n input left rest written now ended octets at outcome g e c d =
+ended_given m n input left rest written now ended octets at outcome g e c d =
     let done : Comes m n (Some octets) rest written now Done = subst (λ o. Comes m n (Some octets) rest written now o) d
     (subst (λ (k : ℕ). Comes m n (Some (drop k octets)) rest written now outcome) e c) in
     (over_on n input left ended octets done.0.0 g done.0.5.0).1
 
 -- where no read failed, the two say the same
-pub ComesGathered-comes : (m : Meaning) (n : ℕ) (input left written now : Option (List ℕ)) (outcome : Outcome) → (outcome ≡ ReadFault → ⊥) →
+pub ComesGathered_comes : (m : Meaning) (n : ℕ) (input left written now : Option (List ℕ)) (outcome : Outcome) → (outcome ≡ ReadFault → ⊥) →
     Comes m n input left written now outcome → ComesGathered m n input left written now outcome
-ComesGathered-comes m n input left written now ReadFault f c = absurd (f refl)
-ComesGathered-comes m n input left written now _ f c = c
+ComesGathered_comes m n input left written now ReadFault f c = absurd (f refl)
+ComesGathered_comes m n input left written now _ f c = c
 
 -- the same, of octets of which none was given yet
-pub Comes-given : (m : Meaning) (n : ℕ) (input left rest written now : Option (List ℕ)) (ended : Bool) (octets : List ℕ) (at : ℕ) (outcome : Outcome) →
+pub Comes_given : (m : Meaning) (n : ℕ) (input left rest written now : Option (List ℕ)) (ended : Bool) (octets : List ℕ) (at : ℕ) (outcome : Outcome) →
     Gathers n input left ended octets → at ≡ 0 → (outcome ≡ ReadFault → ⊥)
     → Comes m n (Some (drop at octets)) rest written now outcome → Comes m n input left written now outcome
-Comes-given m n input left rest written now ended octets at outcome g e f c =
-    Comes-gathered m n input left rest written now ended octets outcome g f (subst (λ (k : ℕ). Comes m n (Some (drop k octets)) rest written now outcome) e c)
+Comes_given m n input left rest written now ended octets at outcome g e f c =
+    Comes_gathered m n input left rest written now ended octets outcome g f (subst (λ (k : ℕ). Comes m n (Some (drop k octets)) rest written now outcome) e c)

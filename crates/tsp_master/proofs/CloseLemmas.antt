@@ -13,18 +13,18 @@ use Rattle.tsp_rules.specs.RoundRows.{Standing, abandons, closes_with, corrects,
 use Rattle.tsp_rules.specs.RoundRows.{round_at, standing}
 use Rattle.tsp_measure.specs.{Slaves.Changes, Slaves.entry_of, Slaves.leaves, Slaves.peers_of, declared.sample.TimedSample.TimedSample}
 use Rattle.tsp_measure.specs.{Rounds.RoundsValue, Rounds.estimate_in, Rounds.timed_of, declared.entry.Entry.Entry}
-use Rattle.tsp_base.proofs.AscendingLemmas.{Rise-peers}
+use Rattle.tsp_base.proofs.AscendingLemmas.{Rise_peers}
 use Rattle.tsp_master.specs.Closing.{estimate_with, measured_of, round_of, standing_with, standings_of}
 use Rattle.tsp_master.specs.{MasterStands.LeadStands, MasterStands.MasterStands, declared.master.Master.Master}
-use Rattle.tsp_master.proofs.{AskLemmas.filter-more, AskLemmas.filter-past, AskLemmas.measured-is, MasterLemmas.MasterStands_aside}
-use Rattle.tsp_master.proofs.{PhaseLemmas.over-low, PhaseLemmas.over-some, TableLemmas.MasterStands_changed, TableLemmas.leaves-after}
-use Rattle.tsp_rules.proofs.{BuiltRounds.built_corrects_by, Emits.Emits, Emits.Emits_each, EmitsStill.corrects-none, EmitsStill.still_sorts}
+use Rattle.tsp_master.proofs.{AskLemmas.filter_more, AskLemmas.filter_past, AskLemmas.measured_is, MasterLemmas.MasterStands_aside}
+use Rattle.tsp_master.proofs.{PhaseLemmas.over_low, PhaseLemmas.over_some, TableLemmas.MasterStands_changed, TableLemmas.leaves_after}
+use Rattle.tsp_rules.proofs.{BuiltRounds.built_corrects_by, Emits.Emits, Emits.Emits_each, EmitsStill.corrects_none, EmitsStill.still_sorts}
 use Rattle.tsp_rules.proofs.EmitsBuilt.{emits_built, nothing_measured}
 
 -- one estimate more
-near_diffs-more : (rs : List Standing) (s : Standing) → near_diffs (rs ++ s ∷ []) ≡ near_diffs rs ++ diff_before s.best []
-near_diffs-more [] s = refl
-near_diffs-more (r ∷ rs) s = by_best r.best (near_diffs-more rs s) where
+near_diffs_more : (rs : List Standing) (s : Standing) → near_diffs (rs ++ s ∷ []) ≡ near_diffs rs ++ diff_before s.best []
+near_diffs_more [] s = refl
+near_diffs_more (r ∷ rs) s = by_best r.best (near_diffs_more rs s) where
   by_near : (b : Bool) (z : ℤ) → near_diffs (rs ++ s ∷ []) ≡ near_diffs rs ++ diff_before s.best [] →
       (if b then z ∷ near_diffs (rs ++ s ∷ []) else near_diffs (rs ++ s ∷ [])) ≡ (if b then z ∷ near_diffs rs else near_diffs rs) ++ diff_before s.best []
   by_near true z e = ap (λ zs. z ∷ zs) e
@@ -35,18 +35,18 @@ near_diffs-more (r ∷ rs) s = by_best r.best (near_diffs-more rs s) where
   by_best None e = e
   by_best (Some b) e = by_near (is_near b.diff) b.diff e
 
-pub standings-more : (es : List Entry) (v : RoundsValue) (ps : List PeerId) (p : PeerId) → (entry_of es p).measured ≡ true → standings_of es v (ps ++ p ∷ []) ≡
+pub standings_more : (es : List Entry) (v : RoundsValue) (ps : List PeerId) (p : PeerId) → (entry_of es p).measured ≡ true → standings_of es v (ps ++ p ∷ []) ≡
     standings_of es v ps ++ standing_with v p ∷ []
-standings-more es v ps p m = ap (map (standing_with v)) (filter-more (λ (q : PeerId). (entry_of es q).measured) ps p m) ∙
+standings_more es v ps p m = ap (map (standing_with v)) (filter_more (λ (q : PeerId). (entry_of es q).measured) ps p m) ∙
     map-append (standing_with v) (measured_of es ps) (p ∷ [])
 
-pub standings-past : (es : List Entry) (v : RoundsValue) (ps : List PeerId) (p : PeerId) → (entry_of es p).measured ≡ false → standings_of es v (ps ++ p ∷ []) ≡
+pub standings_past : (es : List Entry) (v : RoundsValue) (ps : List PeerId) (p : PeerId) → (entry_of es p).measured ≡ false → standings_of es v (ps ++ p ∷ []) ≡
     standings_of es v ps
-standings-past es v ps p m = ap (map (standing_with v)) (filter-past (λ (q : PeerId). (entry_of es q).measured) ps p m)
+standings_past es v ps p m = ap (map (standing_with v)) (filter_past (λ (q : PeerId). (entry_of es q).measured) ps p m)
 
-pub estimates-more : (es : List Entry) (v : RoundsValue) (ps : List PeerId) (p : PeerId) → (entry_of es p).measured ≡ true →
+pub estimates_more : (es : List Entry) (v : RoundsValue) (ps : List PeerId) (p : PeerId) → (entry_of es p).measured ≡ true →
     estimates (standings_of es v (ps ++ p ∷ [])) ≡ estimates (standings_of es v ps) ++ diff_before (estimate_with v p) []
-estimates-more es v ps p m = ap estimates (standings-more es v ps p m) ∙ ap (λ zs. pos 0 ∷ zs) (near_diffs-more (standings_of es v ps) (standing_with v p))
+estimates_more es v ps p m = ap estimates (standings_more es v ps p m) ∙ ap (λ zs. pos 0 ∷ zs) (near_diffs_more (standings_of es v ps) (standing_with v p))
 
 pub one-estimate : (o : Option Estimate) → length (diff_before o []) ≤ 1
 one-estimate None = omega arith
@@ -56,25 +56,25 @@ one-estimate (Some b) = by_test (is_near b.diff) where
   by_test false = omega arith
 
 -- what a best sample says, as the past and the exchanges have it
-estimate-timed : (o : Option Sampled) → estimate_of o ≡ option_map (λ (t : TimedSample). estimate_in t.sample) (option_map timed_of o)
-estimate-timed None = refl
-estimate-timed (Some s) = refl
+estimate_timed : (o : Option Sampled) → estimate_of o ≡ option_map (λ (t : TimedSample). estimate_in t.sample) (option_map timed_of o)
+estimate_timed None = refl
+estimate_timed (Some s) = refl
 
 pub estimate-sample : (o : Option TimedSample) → option_map (λ (t : TimedSample). estimate_in t.sample) o ≡
     option_map estimate_in (option_map (λ (t : TimedSample). t.sample) o)
 estimate-sample None = refl
 estimate-sample (Some t) = refl
 
-map-same : (f g : PeerId → Standing) → ((p : PeerId) → f p ≡ g p) → (ps : List PeerId) → map f ps ≡ map g ps
-map-same f g same [] = refl
-map-same f g same (p ∷ ps) = ap (λ s. s ∷ map f ps) (same p) ∙ ap (λ ss. g p ∷ ss) (map-same f g same ps)
+map_same : (f g : PeerId → Standing) → ((p : PeerId) → f p ≡ g p) → (ps : List PeerId) → map f ps ≡ map g ps
+map_same f g same [] = refl
+map_same f g same (p ∷ ps) = ap (λ s. s ∷ map f ps) (same p) ∙ ap (λ ss. g p ∷ ss) (map_same f g same ps)
 
 -- what a round has come to, as the master has it
-pub round-is : (x : ℕ) (past : Past) (m : Master) → is_going past.seen ≡ true → MasterStands past m → round_at x past ≡ round_of m.slaves m.rounds
-round-is x past m goes h =
-    ap (map (standing past.seen)) (measured-is x past m h)
-    ∙ map-same (standing past.seen) (standing_with m.rounds)
-    (λ p. ap (λ o. record { peer = p; best = o }) (estimate-timed (best p past.seen) ∙
+pub round_is : (x : ℕ) (past : Past) (m : Master) → is_going past.seen ≡ true → MasterStands past m → round_at x past ≡ round_of m.slaves m.rounds
+round_is x past m goes h =
+    ap (map (standing past.seen)) (measured_is x past m h)
+    ∙ map_same (standing past.seen) (standing_with m.rounds)
+    (λ p. ap (λ o. record { peer = p; best = o }) (estimate_timed (best p past.seen) ∙
     ap (option_map (λ (t : TimedSample). estimate_in t.sample)) ((h.going goes).samples p)))
     (measured_of m.slaves (peers_of m.slaves))
 
@@ -82,15 +82,15 @@ round-is x past m goes h =
 pub MasterStands_leaves : (p : PeerId) (x : ℕ) (past : Past) (old new : Master) → Changes p leaves old.slaves new.slaves → peers_of new.slaves ≡
     peers_of old.slaves → new.rounds ≡ old.rounds → MasterStands past old → MasterStands (grown x past (Leave p ∷ [])) new
 MasterStands_leaves p x past old new change ps rs h = MasterStands_changed p leaves (Leave p) x past old new refl (λ e j m. (refl, refl))
-    (leaves-after p past x) change ps rs h
+    (leaves_after p past x) change ps rs h
 
 -- the entries of later peers stay
-pub later-same : (ps : List PeerId) (n : ℕ) (p : PeerId) (first old new : List Entry) → IsAscending ps → get_or ps n p ≡ p →
+pub later_same : (ps : List PeerId) (n : ℕ) (p : PeerId) (first old new : List Entry) → IsAscending ps → get_or ps n p ≡ p →
     ((q : PeerId) → (q.0 ≡ p.0 → ⊥) → entry_of new q ≡ entry_of old q) →
     ((k : ℕ) (d : PeerId) → n ≤ k → k < length ps → entry_of old (get_or ps k d) ≡ entry_of first (get_or ps k d)) → (k : ℕ) (d : PeerId) → n + 1 ≤ k →
     k < length ps → entry_of new (get_or ps k d) ≡ entry_of first (get_or ps k d)
-later-same ps n p first old new up here others same k d low high =
-    let apart : p.0 < (get_or ps k p).0 = omega (arith, (Rise-peers ps up).at n k p (omega arith) high, ap (λ (t : PeerId). t.0) here) in
+later_same ps n p first old new up here others same k d low high =
+    let apart : p.0 < (get_or ps k p).0 = omega (arith, (Rise_peers ps up).at n k p (omega arith) high, ap (λ (t : PeerId). t.0) here) in
     let is : get_or ps k d ≡ get_or ps k p = get_or_default ps k d p high in
     others (get_or ps k d) (λ e. omega (arith, apart, ap (λ (t : PeerId). t.0) is, e)) ∙ same k d (omega arith) high
 
@@ -137,10 +137,10 @@ pub no_probe : (x : ℕ) (past : Past) (m : Master) → is_over (armed past.seen
     (armed past.seen).probe ≡ None
 no_probe x past m off due h = by_probe (armed past.seen).probe refl off where
   close : (at : ℕ) × ((armed past.seen).close ≡ Some at)
-  close = over-some (armed past.seen).close x due
+  close = over_some (armed past.seen).close x due
 
   low : close.0 ≤ x
-  low = over-low (armed past.seen).close x close.0 due close.1
+  low = over_low (armed past.seen).close x close.0 due close.1
 
   by_probe : (o : Option ℕ) → (armed past.seen).probe ≡ o → is_over o x ≡ false → (armed past.seen).probe ≡ None
   by_probe None e f = e
@@ -151,20 +151,20 @@ no_probe x past m off due h = by_probe (armed past.seen).probe refl off where
       let bad : ⊥ = cc in
       absurd bad
 
-peer-still : (mean : ℤ) (s : Standing) → Emits still_sorts (corrects_peer mean s)
+peer_still : (mean : ℤ) (s : Standing) → Emits still_sorts (corrects_peer mean s)
 unfolding corrects_peer
-peer-still mean s = emits_built refl (built_corrects_by mean s.peer tt s.best (nothing_measured mean s.best))
+peer_still mean s = emits_built refl (built_corrects_by mean s.peer tt s.best (nothing_measured mean s.best))
 
 -- a close corrects where the clock can be moved and the port leads it
-pub corrects-closes : (own : Bool) (g : Group) (round : List Standing) (x : ℕ) (past : Past) (can : Bool) → can_adjust (mean_by own g) x past ≡ can →
+pub corrects_closes : (own : Bool) (g : Group) (round : List Standing) (x : ℕ) (past : Past) (can : Bool) → can_adjust (mean_by own g) x past ≡ can →
     corrects (closes_with own g round x past) ≡ (can && own)
 unfolding closes_with either_by puts ◌followed_by◌ abandons moves adjusts nothing
-corrects-closes true g round x past true e = rw e refl
-corrects-closes false g round x past true e =
-    rw e (corrects-none (for_each (corrects_peer (pos 0)) round x _) ((Emits_each {sorts = still_sorts} (corrects_peer (pos 0)) round (peer-still (pos 0))).only
+corrects_closes true g round x past true e = rw e refl
+corrects_closes false g round x past true e =
+    rw e (corrects_none (for_each (corrects_peer (pos 0)) round x _) ((Emits_each {sorts = still_sorts} (corrects_peer (pos 0)) round (peer_still (pos 0))).only
     x _))
-corrects-closes own g round x past false e = rw e refl
+corrects_closes own g round x past false e = rw e refl
 
 -- a round goes on whose close is due
 pub goes_where : (x : ℕ) (past : Past) → is_over (armed past.seen).close x ≡ true → is_going past.seen ≡ true
-goes_where x past due = let close = over-some (armed past.seen).close x due in rw close.1 refl
+goes_where x past due = let close = over_some (armed past.seen).close x due in rw close.1 refl

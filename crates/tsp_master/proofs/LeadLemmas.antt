@@ -20,9 +20,9 @@ unfolding puts
 Performs_idle a i {x = x} {station = station} put = Performs_acting (record { acts = λ past s. put; stands = λ past s. Stands_idle a i x past station s })
 
 -- whether an alarm is in time, as the station has it
-pub in_time-is : (alarm : Alarm) (x : ℕ) (past : Past) (st : Station) {b : Bool} → StationStands past st → is_met (deadline st.alarms alarm) x ≡ b →
+pub in_time_is : (alarm : Alarm) (x : ℕ) (past : Past) (st : Station) {b : Bool} → StationStands past st → is_met (deadline st.alarms alarm) x ≡ b →
     is_in_time alarm x past ≡ b
-in_time-is alarm x past st h e = ap (λ d. is_met (deadline d alarm) x) (sym h.alarms) ∙ e
+in_time_is alarm x past st h e = ap (λ d. is_met (deadline d alarm) x) (sym h.alarms) ∙ e
 
 pub ClockStands_still : (a : Act) → is_in (sort_of a) still_sorts ≡ true → Keeps ClockStands (puts a)
 unfolding puts

@@ -45,17 +45,17 @@ MasterStands_arms_probe x past m goes more early h = record {
 }
 
 -- an alarm that is due is armed, and one that is in time is met soon enough
-pub over-some : (o : Option ℕ) (x : ℕ) → is_over o x ≡ true → (at : ℕ) × (o ≡ Some at)
-over-some None x e = absurd (false≢true e)
-over-some (Some at) x e = (at, refl)
+pub over_some : (o : Option ℕ) (x : ℕ) → is_over o x ≡ true → (at : ℕ) × (o ≡ Some at)
+over_some None x e = absurd (false≢true e)
+over_some (Some at) x e = (at, refl)
 
-pub over-low : (o : Option ℕ) (x at : ℕ) → is_over o x ≡ true → o ≡ Some at → at ≤ x
-over-low None x at e f = absurd (false≢true e)
-over-low (Some k) x at e f = let same : k ≡ at = cc in let low = leb-true k x e in omega (arith, same, low)
+pub over_low : (o : Option ℕ) (x at : ℕ) → is_over o x ≡ true → o ≡ Some at → at ≤ x
+over_low None x at e f = absurd (false≢true e)
+over_low (Some k) x at e f = let same : k ≡ at = cc in let low = leb-true k x e in omega (arith, same, low)
 
-pub met-some : (o : Option ℕ) (x at : ℕ) → is_met o x ≡ true → o ≡ Some at → x ≤ at + 1000000
-met-some None x at e f = absurd (false≢true e)
-met-some (Some k) x at e f = let same : k ≡ at = cc in let low = leb-true x (k + 1000000) e in omega (arith, same, low)
+pub met_some : (o : Option ℕ) (x at : ℕ) → is_met o x ≡ true → o ≡ Some at → x ≤ at + 1000000
+met_some None x at e f = absurd (false≢true e)
+met_some (Some k) x at e f = let same : k ≡ at = cc in let low = leb-true x (k + 1000000) e in omega (arith, same, low)
 
 -- a probe that rings in time comes well before the close
 pub rings_early : (x at : ℕ) (past : Past) → IsProbing at past.seen → x ≤ at + 1000000 → (close : ℕ) → (armed past.seen).close ≡ Some close →

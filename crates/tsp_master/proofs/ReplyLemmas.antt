@@ -9,10 +9,10 @@ use Rattle.tsp_acks.specs.declared.station.Station.{Station}
 use Rattle.tsp_clock.specs.Clocks.{ClockValue, target_of}
 use Rattle.tsp_measure.specs.{Measures.IsAnswered, Measures.asks, declared.exchange.Exchange.Exchange}
 use Rattle.tsp_measure.specs.Rounds.{RoundsValue, AreApart, measured_with, pending_at, request_of}
-use Rattle.tsp_measure.{proofs.Counters.asks-counter, proofs.Counters.pending_at-found, specs.declared.sample.Sample.Sample as SampleStruct}
+use Rattle.tsp_measure.{proofs.Counters.asks_counter, proofs.Counters.pending_at_found, specs.declared.sample.Sample.Sample as SampleStruct}
 use Rattle.tsp_master.specs.{MasterStands.GoingStands, MasterStands.LeadStands, MasterStands.LeadState, declared.master.Master.Master}
 use Rattle.tsp_master.proofs.{LeadLemmas.Performs_idle, LeadLemmas.Performs_lead_by, RoundLemmas.MasterStands_unasked}
-use Rattle.tsp_master.proofs.{SampleLemmas.MasterStands_samples, TableLemmas.target-is}
+use Rattle.tsp_master.proofs.{SampleLemmas.MasterStands_samples, TableLemmas.target_is}
 
 -- a reply that answers no open exchange
 missed : (p : PeerId) (r : ReplyValue) (es : List Exchange) → All (λ (e : Exchange). asks r.word r.counter e ≡ false) es →
@@ -67,16 +67,16 @@ unfolding samples samples_request puts
 Performs_sample p r d answer {x = x} {port = port} old new station clock {earlier = earlier} d_is apart i others asked_is probes_is ss put =
     let was : AreApart (i.before ++ i.exchange ∷ i.after) = rw i.was_pending at apart in
     let found : pending_at r.counter (measured_with old.rounds p).pending ≡ Some (request_of i.exchange) = ap (pending_at r.counter) i.was_pending ∙
-    ap (λ n. pending_at n (i.before ++ i.exchange ∷ i.after)) (sym (asks-counter r.word r.counter i.exchange i.asked)) ∙
-    pending_at-found i.before i.exchange i.after was in
+    ap (λ n. pending_at n (i.before ++ i.exchange ∷ i.after)) (sym (asks_counter r.word r.counter i.exchange i.asked)) ∙
+    pending_at_found i.before i.exchange i.after was in
     let same : (i.exchange.word == r.word) ≡ true = (and_parts _ _ i.asked).0 in
     let act_is : Sample p answer.counter answer.diff answer.err answer.ticket ≡ sample_of p r i.exchange.a d =
     ap (λ (t : SampleStruct). Sample p t.counter t.diff t.err t.ticket) i.told in
     Performs_reading (request_at p r.counter) (samples_request p r) (Some (request_of i.exchange)) (λ past h. (h.stands.master.going h.goes).requests p
     r.counter ∙ found)
-    (rw same (Performs_reading target_at (λ t. puts (sample_of p r i.exchange.a t)) d (λ past h. target-is x past clock h.stands.clock ∙ sym d_is)
+    (rw same (Performs_reading target_at (λ t. puts (sample_of p r i.exchange.a t)) d (λ past h. target_is x past clock h.stands.clock ∙ sym d_is)
     (rw (← act_is) (Performs_lead_by old new clock (Emits_puts (Sample p answer.counter answer.diff answer.err answer.ticket) refl) (λ past h. h.stands)
-    (λ past h. MasterStands_samples p r.word r.counter r.ticket r.reading d answer x past old new h.goes (d_is ∙ sym (target-is x past clock h.stands.clock))
+    (λ past h. MasterStands_samples p r.word r.counter r.ticket r.reading d answer x past old new h.goes (d_is ∙ sym (target_is x past clock h.stands.clock))
     apart i others asked_is probes_is ss h.stands.master)
     (λ past h k. k) (Performs_idle (Sample p answer.counter answer.diff answer.err answer.ticket) refl put)))))
 

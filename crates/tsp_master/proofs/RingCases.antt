@@ -4,13 +4,13 @@ use Rattle.tsp_rules.specs.{Values.Alarm, Values.Round, Values.Probe, Values.Clo
 use Rattle.tsp_base.specs.Words.{Past, nothing}
 use Rattle.tsp_master.specs.MasterAlarms.{master_rings}
 
-pub master_rings-other : (own : Bool) (a : Alarm) → a ≢ Probe → a ≢ CloseAlarm → a ≢ Round → master_rings own a ≡ nothing
+pub master_rings_other : (own : Bool) (a : Alarm) → a ≢ Probe → a ≢ CloseAlarm → a ≢ Round → master_rings own a ≡ nothing
 unfolding master_rings
-master_rings-other own Probe p q r = absurd (p refl)
-master_rings-other own CloseAlarm p q r = absurd (q refl)
-master_rings-other own Round p q r = absurd (r refl)
-master_rings-other own _ p q r = refl
+master_rings_other own Probe p q r = absurd (p refl)
+master_rings_other own CloseAlarm p q r = absurd (q refl)
+master_rings_other own Round p q r = absurd (r refl)
+master_rings_other own _ p q r = refl
 
-pub nothing-corrects : (x : ℕ) (past : Past) → false ≡ corrects (nothing x past)
+pub nothing_corrects : (x : ℕ) (past : Past) → false ≡ corrects (nothing x past)
 unfolding nothing
-nothing-corrects x past = refl
+nothing_corrects x past = refl

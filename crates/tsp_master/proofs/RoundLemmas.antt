@@ -8,7 +8,7 @@ use Rattle.tsp_base.specs.Words.{request_open, started, started_after, grown}
 use Rattle.tsp_base.proofs.SendLemmas.{seen_act}
 use Rattle.tsp_measure.specs.{Measures.Measured, Measures.best_of, Slaves.entry_of, Slaves.peers_of, declared.exchange.Exchange.Exchange}
 use Rattle.tsp_measure.specs.Rounds.{RoundsValue, Starts, measured_with, pending_at, request_of}
-use Rattle.tsp_measure.proofs.Counters.{pending_at-push}
+use Rattle.tsp_measure.proofs.Counters.{pending_at_push}
 use Rattle.tsp_master.specs.{MasterStands.MasterStands, declared.master.Master.Master}
 use Rattle.tsp_master.proofs.MasterLemmas.{EmptyAfter, EntriesAfter}
 
@@ -79,37 +79,37 @@ MasterStands_ring_probe x past old new ss rs h = record {
 }
 
 -- an open request after one more
-request_open-asked : (p q : PeerId) (w k c : ℕ) (past : Past) (x : ℕ) →
+request_open_asked : (p q : PeerId) (w k c : ℕ) (past : Past) (x : ℕ) →
     request_open q c (seen_act past.step x (Post (Peer p) (Stamp (Request w k))) ∷ past.seen) ≡
     (if (p.0 == q.0) && (k == c) then Some (record { word = w; target = target (plain past.seen) x }) else request_open q c past.seen)
-request_open-asked p q w k c past x = by_test ((p.0 == q.0) && (k == c)) where
+request_open_asked p q w k c past x = by_test ((p.0 == q.0) && (k == c)) where
   by_test : (b : Bool) → request_at_place (if b then seen_act past.step x (Post (Peer p) (Stamp (Request w k))) ∷ past.seen else exchange q c past.seen)
       ≡ (if b then Some (record { word = w; target = target (plain past.seen) x }) else request_open q c past.seen)
   by_test true = refl
   by_test false = refl
 
-Within-nil : (seen : List Seen) → Within [] seen
-Within-nil [] = refl
-Within-nil (s ∷ before) = inr (Within-nil before)
+Within_nil : (seen : List Seen) → Within [] seen
+Within_nil [] = refl
+Within_nil (s ∷ before) = inr (Within_nil before)
 
 -- it stands after the start of the round, as all do
-Within-started : (seen : List Seen) → Within (started seen) seen
-Within-started [] = refl
-Within-started (Here d ∷ before) = by_deed d.deed (Within-started before) where
+Within_started : (seen : List Seen) → Within (started seen) seen
+Within_started [] = refl
+Within_started (Here d ∷ before) = by_deed d.deed (Within_started before) where
   by_deed : (deed : Deed) → Within (started before) before → Within (started_after deed (Here d ∷ before) (started before)) (Here d ∷ before)
-  by_deed (Acts Boot) w = Within-nil (Here d ∷ before)
+  by_deed (Acts Boot) w = Within_nil (Here d ∷ before)
   by_deed (Acts (Arm CloseAlarm at)) w = inl refl
   by_deed (Acts (Arm _ at)) w = inr w
   by_deed _ w = inr w
-Within-started (Elsewhere d ∷ before) = inr (Within-started before)
+Within_started (Elsewhere d ∷ before) = inr (Within_started before)
 
-opened-asked : (p q : PeerId) (w k c : ℕ) (past : Past) (x : ℕ) (post : Seen) (older : List Seen) → ((t : Seen) (rest : List Seen) → exchange q c past.seen ≡
+opened_asked : (p q : PeerId) (w k c : ℕ) (past : Past) (x : ℕ) (post : Seen) (older : List Seen) → ((t : Seen) (rest : List Seen) → exchange q c past.seen ≡
     t ∷ rest → Within (started past.seen) rest) →
     exchange q c (seen_act past.step x (Post (Peer p) (Stamp (Request w k))) ∷ past.seen) ≡ post ∷ older → Within (started past.seen) older
-opened-asked p q w k c past x post older opened e = by_test ((p.0 == q.0) && (k == c)) e where
+opened_asked p q w k c past x post older opened e = by_test ((p.0 == q.0) && (k == c)) e where
   by_test : (b : Bool) → (if b then seen_act past.step x (Post (Peer p) (Stamp (Request w k))) ∷ past.seen else exchange q c past.seen) ≡ post ∷ older →
       Within (started past.seen) older
-  by_test true f = let same : past.seen ≡ older = cc in subst (Within (started past.seen)) same (Within-started past.seen)
+  by_test true f = let same : past.seen ≡ older = cc in subst (Within (started past.seen)) same (Within_started past.seen)
   by_test false f = opened post older f
 
 -- a request is posted in a going round
@@ -123,10 +123,10 @@ MasterStands_asks p x past old new goes s ps es em h = record {
   entries = es;
   asked_is = s.asked ∙ ap (λ n. (n + 1) % 2 ^ 64) h.asked_is ∙ turn (asked past.seen);
   going = λ g. let r = h.going g in record {
-    requests = λ q c. request_open-asked p q (word (plain past.seen)) (asked past.seen % 2 ^ 64) c past x ∙ by_peer q c (p.0 == q.0) refl (r.requests q c);
+    requests = λ q c. request_open_asked p q (word (plain past.seen)) (asked past.seen % 2 ^ 64) c past x ∙ by_peer q c (p.0 == q.0) refl (r.requests q c);
     samples = λ q. r.samples q ∙ ap best_of (sym (same_samples q (p.0 == q.0) refl));
     probes_is = s.probes ∙ r.probes_is;
-    opened = λ q c post older e. opened-asked p q (word (plain past.seen)) (asked past.seen % 2 ^ 64) c past x post older (r.opened q c) e;
+    opened = λ q c post older e. opened_asked p q (word (plain past.seen)) (asked past.seen % 2 ^ 64) c past x post older (r.opened q c) e;
     recent = r.recent;
   };
   idle = λ g. let bad : ⊥ = cc in absurd bad;
@@ -158,7 +158,7 @@ MasterStands_asks p x past old new goes s ps es em h = record {
       ap (λ (t : PeerId). pending_at c (measured_with old.rounds t).pending) (sym it) in
       ap (λ k. if k == c then Some (request_of begun) else request_open q c past.seen) (sym h.asked_is)
       ∙ ap (λ o. if old.rounds.asked == c then Some (request_of begun) else o) r_p
-      ∙ sym (pending_at-push c (measured_with old.rounds p).pending begun s.fresh)
+      ∙ sym (pending_at_push c (measured_with old.rounds p).pending begun s.fresh)
       ∙ ap (pending_at c) (sym (ap (λ (m : Measured). m.pending) s.started)) ∙ ap (λ (t : PeerId). pending_at c (measured_with new.rounds t).pending) it
   by_peer q c false e r = r ∙ ap (λ (m : Measured). pending_at c m.pending) (sym (s.others q (other q e)))
 

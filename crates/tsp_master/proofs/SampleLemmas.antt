@@ -10,41 +10,41 @@ use Rattle.tsp_measure.specs.declared.sample.TimedSample.{TimedSample}
 use Rattle.tsp_measure.specs.Measures.{Measured, IsAnswered, best_of, timed_sample, better as better_timed}
 use Rattle.tsp_measure.specs.Rounds.{AreApart, measured_with, pending_at, request_of, timed_of}
 use Rattle.tsp_measure.specs.{Slaves.entry_of, Slaves.peers_of, declared.sample.Sample.Sample as SampleStruct}
-use Rattle.tsp_measure.proofs.Counters.{asks-counter, pending_at-found, pending_at-remove}
+use Rattle.tsp_measure.proofs.Counters.{asks_counter, pending_at_found, pending_at_remove}
 use Rattle.tsp_master.specs.{MasterStands.IsOfRound, MasterStands.MasterStands, declared.master.Master.Master}
 
 -- an open request is answered
-request_open-sampled : (p q : PeerId) (k c : ℕ) (diff err : ℤ) (ticket : ℕ) (past : Past) (x : ℕ) →
+request_open_sampled : (p q : PeerId) (k c : ℕ) (diff err : ℤ) (ticket : ℕ) (past : Past) (x : ℕ) →
     request_open q c (seen_act past.step x (Sample p k diff err ticket) ∷ past.seen) ≡ (if (p.0 == q.0) && (k == c) then None else request_open q c past.seen)
-request_open-sampled p q k c diff err ticket past x = by_test ((p.0 == q.0) && (k == c)) where
+request_open_sampled p q k c diff err ticket past x = by_test ((p.0 == q.0) && (k == c)) where
   by_test : (b : Bool) → request_at_place (if b then [] else exchange q c past.seen) ≡ (if b then None else request_open q c past.seen)
   by_test true = refl
   by_test false = refl
 
-target-of-place : (place : List Seen) (r : OpenRequest) → request_at_place place ≡ Some r → target_there place ≡ r.target
-target-of-place [] r e = let bad : ⊥ = cc in absurd bad
-target-of-place (s ∷ before) r e = let same : record { word = word_asked (s ∷ before); target = target_there (s ∷ before) } ≡ r = cc in
+target_of_place : (place : List Seen) (r : OpenRequest) → request_at_place place ≡ Some r → target_there place ≡ r.target
+target_of_place [] r e = let bad : ⊥ = cc in absurd bad
+target_of_place (s ∷ before) r e = let same : record { word = word_asked (s ∷ before); target = target_there (s ∷ before) } ≡ r = cc in
     ap (λ (t : OpenRequest). t.target) same
 
-fold-push : (f : Option TimedSample → TimedSample → Option TimedSample) (z : Option TimedSample) (samples : List TimedSample) (t : TimedSample) →
+fold_push : (f : Option TimedSample → TimedSample → Option TimedSample) (z : Option TimedSample) (samples : List TimedSample) (t : TimedSample) →
     fold f z (samples ++ t ∷ []) ≡ f (fold f z samples) t
-fold-push f z [] t = refl
-fold-push f z (u ∷ samples) t = fold-push f (f z u) samples t
+fold_push f z [] t = refl
+fold_push f z (u ∷ samples) t = fold_push f (f z u) samples t
 
-best_of-push : (samples : List TimedSample) (t : TimedSample) → best_of (samples ++ t ∷ []) ≡ better_timed (best_of samples) t
-best_of-push samples t = fold-push better_timed None samples t
+best_of_push : (samples : List TimedSample) (t : TimedSample) → best_of (samples ++ t ∷ []) ≡ better_timed (best_of samples) t
+best_of_push samples t = fold_push better_timed None samples t
 
-better-timed : (was : Option Sampled) (late : Sampled) → Some (timed_of (better was late)) ≡ better_timed (option_map timed_of was) (timed_of late)
-better-timed None late = refl
-better-timed (Some early) late = by_test (int_lt late.trip early.trip) where
+better_timed_holds : (was : Option Sampled) (late : Sampled) → Some (timed_of (better was late)) ≡ better_timed (option_map timed_of was) (timed_of late)
+better_timed_holds None late = refl
+better_timed_holds (Some early) late = by_test (int_lt late.trip early.trip) where
   by_test : (b : Bool) → Some (timed_of (if b then late else early)) ≡ (if b then Some (timed_of late) else Some (timed_of early))
   by_test true = refl
   by_test false = refl
 
-opened-sampled : (p q : PeerId) (k c : ℕ) (diff err : ℤ) (ticket : ℕ) (past : Past) (x : ℕ) (post : Seen) (older : List Seen) →
+opened_sampled : (p q : PeerId) (k c : ℕ) (diff err : ℤ) (ticket : ℕ) (past : Past) (x : ℕ) (post : Seen) (older : List Seen) →
     ((t : Seen) (rest : List Seen) → exchange q c past.seen ≡ t ∷ rest → Within (started past.seen) rest) →
     exchange q c (seen_act past.step x (Sample p k diff err ticket) ∷ past.seen) ≡ post ∷ older → Within (started past.seen) older
-opened-sampled p q k c diff err ticket past x post older opened e = by_test ((p.0 == q.0) && (k == c)) e where
+opened_sampled p q k c diff err ticket past x post older opened e = by_test ((p.0 == q.0) && (k == c)) e where
   by_test : (b : Bool) → (if b then [] else exchange q c past.seen) ≡ post ∷ older → Within (started past.seen) older
   by_test true f = let bad : ⊥ = cc in absurd bad
   by_test false f = opened post older f
@@ -74,10 +74,10 @@ MasterStands_samples p w c ticket s d answer x past old new goes d_is apart i ot
   entries = λ q. ap (λ es. entry_of es q) ss ∙ h.entries q;
   asked_is = asked_is ∙ h.asked_is;
   going = λ g. let r = h.going g in record {
-    requests = λ q k. request_open-sampled p q answer.counter k answer.diff answer.err answer.ticket past x ∙ by_peer q k (p.0 == q.0) refl (r.requests q k);
+    requests = λ q k. request_open_sampled p q answer.counter k answer.diff answer.err answer.ticket past x ∙ by_peer q k (p.0 == q.0) refl (r.requests q k);
     samples = λ q. by_sample q (p.0 == q.0) refl (r.samples q) (r.requests p c);
     probes_is = probes_is ∙ r.probes_is;
-    opened = λ q k post older e. opened-sampled p q answer.counter k answer.diff answer.err answer.ticket past x post older (r.opened q k) e;
+    opened = λ q k post older e. opened_sampled p q answer.counter k answer.diff answer.err answer.ticket past x post older (r.opened q k) e;
     recent = λ q t e. by_recent q t (p.0 == q.0) refl (r.recent q) (r.opened p c) (r.requests p c) e;
   };
   idle = λ g. let bad : ⊥ = cc in absurd bad;
@@ -105,9 +105,9 @@ MasterStands_samples p w c ticket s d answer x past old new goes d_is apart i ot
       let it : p ≡ q = ap (λ n. record { 0 = n }) (eqb-true p.0 q.0 e) in
       let r_p : request_open q k past.seen ≡ pending_at k (i.before ++ i.exchange ∷ i.after) = r ∙
       ap (λ (t : PeerId). pending_at k (measured_with old.rounds t).pending) (sym it) ∙ ap (pending_at k) i.was_pending in
-      ap (λ n. if n == k then None else request_open q k past.seen) (counter_is ∙ sym (asks-counter w c i.exchange i.asked))
+      ap (λ n. if n == k then None else request_open q k past.seen) (counter_is ∙ sym (asks_counter w c i.exchange i.asked))
       ∙ ap (λ o. if i.exchange.counter == k then None else o) r_p
-      ∙ sym (pending_at-remove k i.before i.exchange i.after was)
+      ∙ sym (pending_at_remove k i.before i.exchange i.after was)
       ∙ ap (pending_at k) (sym i.is_pending) ∙ ap (λ (t : PeerId). pending_at k (measured_with new.rounds t).pending) it
   by_peer q k false e r = r ∙ ap (λ (m : Measured). pending_at k m.pending) (sym (others q (other q e)))
 
@@ -143,8 +143,8 @@ MasterStands_samples p w c ticket s d answer x past old new goes d_is apart i ot
   by_recent q t true e known opened r f =
       let it : p ≡ q = ap (λ n. record { 0 = n }) (eqb-true p.0 q.0 e) in
       let found : request_open p c past.seen ≡ Some (request_of i.exchange) = r ∙ ap (pending_at c) i.was_pending ∙
-      ap (λ n. pending_at n (i.before ++ i.exchange ∷ i.after)) (sym (asks-counter w c i.exchange i.asked)) ∙
-      pending_at-found i.before i.exchange i.after was in
+      ap (λ n. pending_at n (i.before ++ i.exchange ∷ i.after)) (sym (asks_counter w c i.exchange i.asked)) ∙
+      pending_at_found i.before i.exchange i.after was in
       let there : exchange q answer.counter past.seen ≡ exchange p c past.seen = ap (λ (u : PeerId). exchange u answer.counter past.seen) (sym it) ∙
       ap (λ n. exchange p n past.seen) counter_is in
       let fresh : IsOfRound q (late q) (started past.seen) = by_place q (late q) (exchange q answer.counter past.seen) refl refl
@@ -160,18 +160,18 @@ MasterStands_samples p w c ticket s d answer x past old new goes d_is apart i ot
   by_sample q true e b r =
       let it : p ≡ q = ap (λ n. record { 0 = n }) (eqb-true p.0 q.0 e) in
       let found : request_open p c past.seen ≡ Some (request_of i.exchange) = r ∙ ap (pending_at c) i.was_pending ∙
-      ap (λ n. pending_at n (i.before ++ i.exchange ∷ i.after)) (sym (asks-counter w c i.exchange i.asked)) ∙
-      pending_at-found i.before i.exchange i.after was in
+      ap (λ n. pending_at n (i.before ++ i.exchange ∷ i.after)) (sym (asks_counter w c i.exchange i.asked)) ∙
+      pending_at_found i.before i.exchange i.after was in
       let there : target_there (exchange q answer.counter past.seen) ≡ i.exchange.a =
       ap (λ (t : PeerId). target_there (exchange t answer.counter past.seen)) (sym it) ∙ ap (λ n. target_there (exchange p n past.seen)) counter_is ∙
-      target-of-place (exchange p c past.seen) (request_of i.exchange) found in
+      target_of_place (exchange p c past.seen) (request_of i.exchange) found in
       let trip : target (plain past.seen) x -ℤ target_there (exchange q answer.counter past.seen) ≡ d -ℤ i.exchange.a =
       ap (λ z. z -ℤ target_there (exchange q answer.counter past.seen)) (sym d_is) ∙ ap (λ z. d -ℤ z) there in
       let by_trip : timed_of (late q) ≡ record { sample = answer; trip = d -ℤ i.exchange.a } = ap (λ z. record { sample = answer; trip = z }) trip in
       let timed : timed_of (late q) ≡ taken = by_trip ∙ ap (λ k. record { sample = k; trip = d -ℤ i.exchange.a }) told in
-      better-timed (best q past.seen) (late q)
+      better_timed_holds (best q past.seen) (late q)
       ∙ ap (λ t. better_timed (option_map timed_of (best q past.seen)) t) timed
       ∙ ap (λ o. better_timed o taken) (b ∙ ap (λ (t : PeerId). best_of (measured_with old.rounds t).samples) (sym it))
-      ∙ sym (best_of-push (measured_with old.rounds p).samples taken) ∙ ap best_of (sym i.samples) ∙
+      ∙ sym (best_of_push (measured_with old.rounds p).samples taken) ∙ ap best_of (sym i.samples) ∙
       ap (λ (t : PeerId). best_of (measured_with new.rounds t).samples) it
   by_sample q false e b r = b ∙ ap (λ (m : Measured). best_of m.samples) (sym (others q (other q e)))

@@ -7,15 +7,15 @@ use Rattle.tsp_rules.specs.Values.{Act, Boot, Post, Become, Arm, Ring, Late, Aba
 use Rattle.tsp_rules.specs.Values.{AdjTime, SetTime, PeerId, Place, Peer, Stranger, Follow, Master, Request, Reply}
 use Rattle.tsp_base.specs.Words.{Past, MessageValue, Keeps, acting, in_table, is_measured, grown, puts, corrects_in, is_correction, is_acknowledged}
 use Rattle.tsp_base.specs.Words.{last_number, last_post, open_send, IsPeers}
-use Rattle.tsp_base.proofs.SendLemmas.{seen_act, last_post-posts, last_post-other, last_number-begins, last_number-other, is_acknowledged-begins}
-use Rattle.tsp_base.proofs.SendLemmas.{is_acknowledged-other, is_acknowledged-acked}
+use Rattle.tsp_base.proofs.SendLemmas.{seen_act, last_post_posts, last_post_other, last_number_begins, last_number_other, is_acknowledged_begins}
+use Rattle.tsp_base.proofs.SendLemmas.{is_acknowledged_other, is_acknowledged_acked}
 use Rattle.tsp_rules.specs.{DateRows.all_settled, DateRows.are_settled, DateRows.is_settled, SendRows.may_correct, SendRows.may_set}
 use Rattle.tsp_rules.specs.Guards.{is_clock_value, is_in_range, target_at}
 use Rattle.tsp_rules.proofs.Emits.{Sort, Taking, Numbering, Passing, Posting, Backing, Counting, Alarming, Rivalling, Giving, Closing, Tracing, is_in, sort_of}
 use Rattle.tsp_rules.proofs.Emits.{sort_of_kind}
 use Rattle.tsp_clock.specs.{ClockStands.ClockStands, Clocks.ClockValue, Clocks.target_of}
 use Rattle.tsp_measure.specs.Slaves.{entry_of, peers_of, Changes, joins, leaves, begins_at, acks, acks_where, may_correct_by, is_settled_by, are_settled_by}
-use Rattle.tsp_measure.{proofs.Entries.Rising-peers, proofs.Entries.entry_of-at, specs.declared.entry.Entry.Entry}
+use Rattle.tsp_measure.{proofs.Entries.Rising_peers, proofs.Entries.entry_of_at, specs.declared.entry.Entry.Entry}
 use Rattle.tsp_master.specs.{MasterStands.MasterStands, MasterStands.entry_at, declared.master.Master.Master as MasterStruct}
 use Rattle.tsp_master.proofs.MasterLemmas.{EntriesAfter, MasterStands_aside, is_aside}
 
@@ -31,8 +31,8 @@ pub EntriesAfter_changed : (p : PeerId) (f : Entry → Entry) (past : Past) (x :
 EntriesAfter_changed p f past x a old new after change h q = change q ∙ ap (λ e. if p.0 == q.0 then f e else e) (h q) ∙ sym (after q)
 
 -- a peer joins, or leaves
-pub joins-after : (p : PeerId) (past : Past) (x : ℕ) → ChangesAt p joins past x (Join p)
-joins-after p past x q = by_test (p.0 == q.0) where
+pub joins_after : (p : PeerId) (past : Past) (x : ℕ) → ChangesAt p joins past x (Join p)
+joins_after p past x q = by_test (p.0 == q.0) where
   by_test : (b : Bool) → record {
     peer = q;
     joined = if b then true else in_table q past.seen;
@@ -45,8 +45,8 @@ joins-after p past x q = by_test (p.0 == q.0) where
   by_test true = refl
   by_test false = refl
 
-pub leaves-after : (p : PeerId) (past : Past) (x : ℕ) → ChangesAt p leaves past x (Leave p)
-leaves-after p past x q = by_test (p.0 == q.0) where
+pub leaves_after : (p : PeerId) (past : Past) (x : ℕ) → ChangesAt p leaves past x (Leave p)
+leaves_after p past x q = by_test (p.0 == q.0) where
   by_test : (b : Bool) → record {
     peer = q;
     joined = if b then false else in_table q past.seen;
@@ -63,16 +63,16 @@ leaves-after p past x q = by_test (p.0 == q.0) where
 abbrev entry_with : PeerId → Bool → Bool → Option ℕ → ℕ → Bool → Entry
 entry_with q j m posted number acked = record { peer = q; joined = j; measured = m; posted = posted; number = number; acked = acked }
 
-entry-is : (q : PeerId) (j m : Bool) {a b : Option ℕ} {c d : ℕ} {e f : Bool} → a ≡ b → c ≡ d → e ≡ f → entry_with q j m a c e ≡ entry_with q j m b d f
-entry-is q j m {a = a} {b = b} {c = c} {d = d} {e = e} s t u = ap (λ k. entry_with q j m k c e) s ∙ ap (λ k. entry_with q j m b k e) t ∙
+entry_is : (q : PeerId) (j m : Bool) {a b : Option ℕ} {c d : ℕ} {e f : Bool} → a ≡ b → c ≡ d → e ≡ f → entry_with q j m a c e ≡ entry_with q j m b d f
+entry_is q j m {a = a} {b = b} {c = c} {d = d} {e = e} s t u = ap (λ k. entry_with q j m k c e) s ∙ ap (λ k. entry_with q j m b k e) t ∙
     ap (λ k. entry_with q j m b d k) u
 
 -- a correction begins
-pub begins-after : (p : PeerId) (m : MessageValue) (past : Past) (x : ℕ) → is_correction m.kind ≡ true → acting past.seen ≡ true →
+pub begins_after : (p : PeerId) (m : MessageValue) (past : Past) (x : ℕ) → is_correction m.kind ≡ true → acting past.seen ≡ true →
     ChangesAt p (begins_at x m.number) past x (Post (Peer p) (Message m))
-begins-after p m past x corrects acts q =
-    entry-is q (in_table q past.seen) (is_measured q past.seen) (last_post-posts past.step x q p m past.seen corrects)
-    (last_number-begins past.step x q p m past.seen corrects acts) (is_acknowledged-begins past.step x q p m past.seen corrects acts)
+begins_after p m past x corrects acts q =
+    entry_is q (in_table q past.seen) (is_measured q past.seen) (last_post_posts past.step x q p m past.seen corrects)
+    (last_number_begins past.step x q p m past.seen corrects acts) (is_acknowledged_begins past.step x q p m past.seen corrects acts)
     ∙ by_test (p.0 == q.0) where
       by_test : (b : Bool) → entry_with q (in_table q past.seen) (is_measured q past.seen) (if b then Some x else last_post q past.seen)
           (if b then m.number else last_number q past.seen) (if b then false else is_acknowledged q past.seen)
@@ -81,20 +81,20 @@ begins-after p m past x corrects acts q =
       by_test false = refl
 
 -- another message is posted
-message-quiet : (to : Place) (m : MessageValue) (past : Past) (x : ℕ) (q : PeerId) → is_correction m.kind ≡ false →
+message_quiet : (to : Place) (m : MessageValue) (past : Past) (x : ℕ) (q : PeerId) → is_correction m.kind ≡ false →
     entry_at q (seen_act past.step x (Post to (Message m)) ∷ past.seen) ≡ entry_at q past.seen
-message-quiet (Peer p) m past x q other =
+message_quiet (Peer p) m past x q other =
     let none : (is_correction m.kind && acting past.seen) ≡ false = and_left (is_correction m.kind) (acting past.seen) other in
-    entry-is q (in_table q past.seen) (is_measured q past.seen) (last_post-other past.step x q (Peer p) m past.seen other)
-    (last_number-other past.step x q (Peer p) m past.seen none) (is_acknowledged-other past.step x q (Peer p) m past.seen none)
-message-quiet Stranger m past x q other =
+    entry_is q (in_table q past.seen) (is_measured q past.seen) (last_post_other past.step x q (Peer p) m past.seen other)
+    (last_number_other past.step x q (Peer p) m past.seen none) (is_acknowledged_other past.step x q (Peer p) m past.seen none)
+message_quiet Stranger m past x q other =
     let none : (is_correction m.kind && acting past.seen) ≡ false = and_left (is_correction m.kind) (acting past.seen) other in
-    entry-is q (in_table q past.seen) (is_measured q past.seen) (last_post-other past.step x q Stranger m past.seen other)
-    (last_number-other past.step x q Stranger m past.seen none) (is_acknowledged-other past.step x q Stranger m past.seen none)
+    entry_is q (in_table q past.seen) (is_measured q past.seen) (last_post_other past.step x q Stranger m past.seen other)
+    (last_number_other past.step x q Stranger m past.seen none) (is_acknowledged_other past.step x q Stranger m past.seen none)
 
-pub acked-after : (p : PeerId) (past : Past) (x : ℕ) → ChangesAt p (acks_where (corrects_in (open_send p past.seen))) past x (Acked p)
-acked-after p past x q =
-    entry-is q (in_table q past.seen) (is_measured q past.seen) refl refl (is_acknowledged-acked past.step x q p past.seen) ∙ by_test (p.0 == q.0) refl where
+pub acked_after : (p : PeerId) (past : Past) (x : ℕ) → ChangesAt p (acks_where (corrects_in (open_send p past.seen))) past x (Acked p)
+acked_after p past x q =
+    entry_is q (in_table q past.seen) (is_measured q past.seen) refl refl (is_acknowledged_acked past.step x q p past.seen) ∙ by_test (p.0 == q.0) refl where
       by_open : (c : Bool) → entry_with q (in_table q past.seen) (is_measured q past.seen) (last_post q past.seen) (last_number q past.seen)
           (if c then true else is_acknowledged q past.seen) ≡ (if c then acks (entry_at q past.seen) else entry_at q past.seen)
       by_open true = refl
@@ -112,57 +112,57 @@ acked-after p past x q =
 abbrev pub quiet_sorts : List Sort
 quiet_sorts = Taking ∷ Numbering ∷ Passing ∷ Posting ∷ Backing ∷ Counting ∷ Alarming ∷ Rivalling ∷ Giving ∷ Closing ∷ Tracing ∷ []
 
-kind-quiet : (k : Kind) → is_in (sort_of_kind k) quiet_sorts ≡ true → is_correction k ≡ false
-kind-quiet AdjTime e = absurd (false≢true e)
-kind-quiet SetTime e = absurd (false≢true e)
-kind-quiet _ e = refl
+kind_quiet : (k : Kind) → is_in (sort_of_kind k) quiet_sorts ≡ true → is_correction k ≡ false
+kind_quiet AdjTime e = absurd (false≢true e)
+kind_quiet SetTime e = absurd (false≢true e)
+kind_quiet _ e = refl
 
-aside-quiet : (a : Act) → is_in (sort_of a) quiet_sorts ≡ true → is_aside a ≡ true
-aside-quiet Boot e = absurd (false≢true e)
-aside-quiet (Become Master) e = absurd (false≢true e)
-aside-quiet (Become (Follow p)) e = absurd (false≢true e)
-aside-quiet (Become _) e = absurd (false≢true e)
-aside-quiet (Post to (Stamp (Request word counter))) e = absurd (false≢true e)
-aside-quiet (Post to (Stamp (Reply r))) e = refl
-aside-quiet (Post to (Message m)) e = refl
-aside-quiet (Arm Probe at) e = absurd (false≢true e)
-aside-quiet (Arm CloseAlarm at) e = absurd (false≢true e)
-aside-quiet (Arm _ at) e = refl
-aside-quiet (Ring Probe) e = absurd (false≢true e)
-aside-quiet (Ring CloseAlarm) e = absurd (false≢true e)
-aside-quiet (Ring _) e = refl
-aside-quiet (Late Probe) e = absurd (false≢true e)
-aside-quiet (Late CloseAlarm) e = absurd (false≢true e)
-aside-quiet (Late _) e = refl
-aside-quiet Abandon e = absurd (false≢true e)
-aside-quiet (Sample p counter diff err ticket) e = absurd (false≢true e)
-aside-quiet _ e = refl
+aside_quiet : (a : Act) → is_in (sort_of a) quiet_sorts ≡ true → is_aside a ≡ true
+aside_quiet Boot e = absurd (false≢true e)
+aside_quiet (Become Master) e = absurd (false≢true e)
+aside_quiet (Become (Follow p)) e = absurd (false≢true e)
+aside_quiet (Become _) e = absurd (false≢true e)
+aside_quiet (Post to (Stamp (Request word counter))) e = absurd (false≢true e)
+aside_quiet (Post to (Stamp (Reply r))) e = refl
+aside_quiet (Post to (Message m)) e = refl
+aside_quiet (Arm Probe at) e = absurd (false≢true e)
+aside_quiet (Arm CloseAlarm at) e = absurd (false≢true e)
+aside_quiet (Arm _ at) e = refl
+aside_quiet (Ring Probe) e = absurd (false≢true e)
+aside_quiet (Ring CloseAlarm) e = absurd (false≢true e)
+aside_quiet (Ring _) e = refl
+aside_quiet (Late Probe) e = absurd (false≢true e)
+aside_quiet (Late CloseAlarm) e = absurd (false≢true e)
+aside_quiet (Late _) e = refl
+aside_quiet Abandon e = absurd (false≢true e)
+aside_quiet (Sample p counter diff err ticket) e = absurd (false≢true e)
+aside_quiet _ e = refl
 
-entry-quiet : (a : Act) → is_in (sort_of a) quiet_sorts ≡ true → (past : Past) (x : ℕ) (q : PeerId) → entry_at q (seen_act past.step x a ∷ past.seen) ≡
+entry_quiet : (a : Act) → is_in (sort_of a) quiet_sorts ≡ true → (past : Past) (x : ℕ) (q : PeerId) → entry_at q (seen_act past.step x a ∷ past.seen) ≡
     entry_at q past.seen
-entry-quiet Boot e past x q = absurd (false≢true e)
-entry-quiet (Become Master) e past x q = absurd (false≢true e)
-entry-quiet (Become (Follow p)) e past x q = absurd (false≢true e)
-entry-quiet (Become _) e past x q = absurd (false≢true e)
-entry-quiet (Post (Peer p) (Stamp (Request word counter))) e past x q = absurd (false≢true e)
-entry-quiet (Post (Peer p) (Stamp (Reply r))) e past x q = refl
-entry-quiet (Post Stranger (Stamp (Request word counter))) e past x q = absurd (false≢true e)
-entry-quiet (Post Stranger (Stamp (Reply r))) e past x q = refl
-entry-quiet (Post to (Message m)) e past x q = message-quiet to m past x q (kind-quiet m.kind e)
-entry-quiet (Join p) e past x q = absurd (false≢true e)
-entry-quiet (Leave p) e past x q = absurd (false≢true e)
-entry-quiet (Acked p) e past x q = absurd (false≢true e)
-entry-quiet (Arm CloseAlarm at) e past x q = absurd (false≢true e)
-entry-quiet (Arm _ at) e past x q = refl
-entry-quiet _ e past x q = refl
+entry_quiet Boot e past x q = absurd (false≢true e)
+entry_quiet (Become Master) e past x q = absurd (false≢true e)
+entry_quiet (Become (Follow p)) e past x q = absurd (false≢true e)
+entry_quiet (Become _) e past x q = absurd (false≢true e)
+entry_quiet (Post (Peer p) (Stamp (Request word counter))) e past x q = absurd (false≢true e)
+entry_quiet (Post (Peer p) (Stamp (Reply r))) e past x q = refl
+entry_quiet (Post Stranger (Stamp (Request word counter))) e past x q = absurd (false≢true e)
+entry_quiet (Post Stranger (Stamp (Reply r))) e past x q = refl
+entry_quiet (Post to (Message m)) e past x q = message_quiet to m past x q (kind_quiet m.kind e)
+entry_quiet (Join p) e past x q = absurd (false≢true e)
+entry_quiet (Leave p) e past x q = absurd (false≢true e)
+entry_quiet (Acked p) e past x q = absurd (false≢true e)
+entry_quiet (Arm CloseAlarm at) e past x q = absurd (false≢true e)
+entry_quiet (Arm _ at) e past x q = refl
+entry_quiet _ e past x q = refl
 
 pub MasterStands_quiet : (a : Act) → is_in (sort_of a) quiet_sorts ≡ true → Keeps MasterStands (puts a)
 unfolding puts
 MasterStands_quiet a e x past m h =
-    MasterStands_aside a x past m m (aside-quiet a e) refl refl (λ q. h.entries q ∙ sym (entry-quiet a e past x q))
+    MasterStands_aside a x past m m (aside_quiet a e) refl refl (λ q. h.entries q ∙ sym (entry_quiet a e past x q))
     (λ other q. (
-      ap (λ (k : Entry). k.joined) (entry-quiet a e past x q) ∙ (h.empty other q).0,
-      ap (λ (k : Entry). k.measured) (entry-quiet a e past x q) ∙
+      ap (λ (k : Entry). k.joined) (entry_quiet a e past x q) ∙ (h.empty other q).0,
+      ap (λ (k : Entry). k.measured) (entry_quiet a e past x q) ∙
           (h.empty other q).1,
     )) h
 
@@ -191,35 +191,35 @@ pub MasterStands_begins : (p : PeerId) (m : MessageValue) (x : ℕ) (past : Past
     true → Changes p (begins_at x m.number) old.slaves new.slaves → peers_of new.slaves ≡ peers_of old.slaves → new.rounds ≡ old.rounds →
     MasterStands past old → MasterStands (grown x past (Post (Peer p) (Message m) ∷ [])) new
 MasterStands_begins p m x past old new corrects acts change ps rs h =
-    MasterStands_changed p (begins_at x m.number) (Post (Peer p) (Message m)) x past old new refl (λ e j k. (j, k)) (begins-after p m past x corrects acts)
+    MasterStands_changed p (begins_at x m.number) (Post (Peer p) (Message m)) x past old new refl (λ e j k. (j, k)) (begins_after p m past x corrects acts)
     change ps rs h
 
 -- whether a correction may begin, as the entry has it
-pub may_correct-is : (p : PeerId) (number x : ℕ) (past : Past) (m : MasterStruct) (e : Entry) → MasterStands past m → e ≡ entry_of m.slaves p →
+pub may_correct_is : (p : PeerId) (number x : ℕ) (past : Past) (m : MasterStruct) (e : Entry) → MasterStands past m → e ≡ entry_of m.slaves p →
     may_correct p number x past ≡ may_correct_by e number x
-may_correct-is p number x past m e h is = ap (λ k. may_correct_by k number x) (sym (is ∙ h.entries p))
+may_correct_is p number x past m e h is = ap (λ k. may_correct_by k number x) (sym (is ∙ h.entries p))
 
 -- the clock's target, as the clock has it
-pub target-is : (x : ℕ) (past : Past) (clock : ClockValue) → ClockStands past clock → target_at x past ≡ target_of clock x
-target-is x past clock h = ap (λ o. o +ℤ pos x) (sym h.offset_is)
+pub target_is : (x : ℕ) (past : Past) (clock : ClockValue) → ClockStands past clock → target_at x past ≡ target_of clock x
+target_is x past clock h = ap (λ o. o +ℤ pos x) (sym h.offset_is)
 
 -- whether the clock's target may be set
-pub may_set-is : (p : PeerId) (number x : ℕ) (past : Past) (m : MasterStruct) (e : Entry) (clock : ClockValue) (a b : Bool) → MasterStands past m →
+pub may_set_is : (p : PeerId) (number x : ℕ) (past : Past) (m : MasterStruct) (e : Entry) (clock : ClockValue) (a b : Bool) → MasterStands past m →
     ClockStands past clock → e ≡ entry_of m.slaves p →
     may_correct_by e number x ≡ a → is_clock_value (target_of clock x) ≡ b → may_set p number x past ≡ (a && b)
-may_set-is p number x past m e clock a b h k is f g =
-    ap (λ t. t && is_in_range x past) (may_correct-is p number x past m e h is ∙ f) ∙ ap (λ t. a && t) (ap is_clock_value (target-is x past clock k) ∙ g)
+may_set_is p number x past m e clock a b h k is f g =
+    ap (λ t. t && is_in_range x past) (may_correct_is p number x past m e h is ∙ f) ∙ ap (λ t. a && t) (ap is_clock_value (target_is x past clock k) ∙ g)
 
-pub may_set-none : (p : PeerId) (number x : ℕ) (past : Past) (clock : ClockValue) → ClockStands past clock → is_clock_value (target_of clock x) ≡ false →
+pub may_set_none : (p : PeerId) (number x : ℕ) (past : Past) (clock : ClockValue) → ClockStands past clock → is_clock_value (target_of clock x) ≡ false →
     may_set p number x past ≡ false
-may_set-none p number x past clock k g = and_right (may_correct p number x past) (is_in_range x past) (ap is_clock_value (target-is x past clock k) ∙ g)
+may_set_none p number x past clock k g = and_right (may_correct p number x past) (is_in_range x past) (ap is_clock_value (target_is x past clock k) ∙ g)
 
-settled-all : (x : ℕ) (past : Past) (es : List Entry) → All (λ (e : Entry). e ≡ entry_at e.peer past.seen) es →
+settled_all : (x : ℕ) (past : Past) (es : List Entry) → All (λ (e : Entry). e ≡ entry_at e.peer past.seen) es →
     are_settled (filter (λ (p : PeerId). in_table p past.seen) (peers_of es)) x past ≡ are_settled_by x es
-settled-all x past [] h = refl
-settled-all x past (e ∷ es) h =
+settled_all x past [] h = refl
+settled_all x past (e ∷ es) h =
     by_test (in_table e.peer past.seen) (ap (λ (k : Entry). k.joined) is) (ap (λ k. is_settled_by k x) (sym is))
-    (settled-all x past es (All-tail (λ (k : Entry). k ≡ entry_at k.peer past.seen) e es h)) where
+    (settled_all x past es (All-tail (λ (k : Entry). k ≡ entry_at k.peer past.seen) e es h)) where
       is : e ≡ entry_at e.peer past.seen
       is = All-head (λ (k : Entry). k ≡ entry_at k.peer past.seen) e es h
 
@@ -231,10 +231,10 @@ settled-all x past (e ∷ es) h =
       by_test false j k rest = rw (j, rest) refl
 
 -- whether all slaves are settled, as the table has it
-pub settled-is : (x : ℕ) (past : Past) (m : MasterStruct) → IsPeers (peers_of m.slaves) → MasterStands past m → all_settled x past ≡ are_settled_by x m.slaves
-settled-is x past m up h =
+pub settled_is : (x : ℕ) (past : Past) (m : MasterStruct) → IsPeers (peers_of m.slaves) → MasterStands past m → all_settled x past ≡ are_settled_by x m.slaves
+settled_is x past m up h =
     ap (λ ps. are_settled (filter (λ (p : PeerId). in_table p past.seen) ps) x past) (sym h.peers)
-    ∙ settled-all x past m.slaves (λ k d l. sym (entry_of-at m.slaves k d (get_or m.slaves k d).peer (Rising-peers m.slaves up) l refl) ∙
+    ∙ settled_all x past m.slaves (λ k d l. sym (entry_of_at m.slaves k d (get_or m.slaves k d).peer (Rising_peers m.slaves up) l refl) ∙
     h.entries (get_or m.slaves k d).peer)
 
 -- the same table and rounds stand for the same past

@@ -12,7 +12,7 @@ use Rattle.tsp_rules.{proofs.EmitsTables.changes, proofs.EmitsTables.is_change, 
 use Rattle.tsp_measure.specs.{Slaves.acks_where, Slaves.entry_of, Slaves.leaves, declared.entry.Entry.Entry}
 use Rattle.tsp_master.specs.{Clearing.Cleared, Clearing.Clears, MasterStands.MasterStands, MasterStands.entry_at}
 use Rattle.tsp_master.{proofs.MasterLemmas.MasterStands_aside, specs.declared.master.Master.Master as MasterStruct}
-use Rattle.tsp_master.proofs.TableLemmas.{quiet_sorts, MasterStands_changed, MasterStands_quiet, acked-after}
+use Rattle.tsp_master.proofs.TableLemmas.{quiet_sorts, MasterStands_changed, MasterStands_quiet, acked_after}
 
 -- acts of a port's other parts: none of a round, of a correction or of the table, and no answer to a send
 abbrev pub turning_sorts : List Sort
@@ -40,21 +40,21 @@ pub MasterStands_correct : (amount shown : ℤ) (stepped : Bool) (x : ℕ) (past
     MasterStands (grown x past (Correct amount stepped shown ∷ [])) m
 MasterStands_correct amount shown stepped x past m h = MasterStands_aside (Correct amount stepped shown) x past m m refl refl refl h.entries h.empty h
 
-quiet-kind : (k : Kind) → is_in (sort_of_kind k) turning_sorts ≡ true → is_in (sort_of_kind k) quiet_sorts ≡ true
-quiet-kind AdjTime e = absurd (false≢true e)
-quiet-kind SetTime e = absurd (false≢true e)
-quiet-kind Election e = refl
-quiet-kind Conflict e = refl
-quiet-kind QuitKind e = refl
-quiet-kind SetDateReq e = refl
-quiet-kind _ e = refl
+quiet_kind : (k : Kind) → is_in (sort_of_kind k) turning_sorts ≡ true → is_in (sort_of_kind k) quiet_sorts ≡ true
+quiet_kind AdjTime e = absurd (false≢true e)
+quiet_kind SetTime e = absurd (false≢true e)
+quiet_kind Election e = refl
+quiet_kind Conflict e = refl
+quiet_kind QuitKind e = refl
+quiet_kind SetDateReq e = refl
+quiet_kind _ e = refl
 
 MasterStands_act : (a : Act) → is_in (sort_of a) turning_sorts ≡ true → (x : ℕ) (past : Past) (m c : MasterStruct) → (is_change a ≡ true → Cleared m c) →
     MasterStands past m → MasterStands (grown x past (a ∷ [])) (if is_change a then c else m)
 unfolding puts
 MasterStands_act (Become r) e x past m c k h = MasterStands_become r x past m c (k refl) h
 MasterStands_act (Correct amount stepped shown) e x past m c k h = MasterStands_correct amount shown stepped x past m h
-MasterStands_act (Post to (Message t)) e x past m c k h = MasterStands_quiet (Post to (Message t)) (quiet-kind t.kind e) x past m h
+MasterStands_act (Post to (Message t)) e x past m c k h = MasterStands_quiet (Post to (Message t)) (quiet_kind t.kind e) x past m h
 MasterStands_act (Post to (Stamp (Request word counter))) e x past m c k h = absurd (false≢true e)
 MasterStands_act (Arm Probe at) e x past m c k h = absurd (false≢true e)
 MasterStands_act (Arm CloseAlarm at) e x past m c k h = absurd (false≢true e)
@@ -89,16 +89,16 @@ MasterStands_turns (a ∷ rest) e x past m c k h = by_change (is_change a) refl 
       next m (λ g. k (ap (λ t. t || changes rest) f ∙ g)) here
 
 -- an act that is no Become leaves the role
-role-same : (a : Act) → is_in (sort_of a) turning_sorts ≡ true → is_change a ≡ false → (step : Step) (x : ℕ) (seen : List Seen) →
+role_same : (a : Act) → is_in (sort_of a) turning_sorts ≡ true → is_change a ≡ false → (step : Step) (x : ℕ) (seen : List Seen) →
     role (Here (record { step = step; tick = x; deed = Acts a }) ∷ seen) ≡ role seen
-role-same Boot e k step x seen = absurd (false≢true e)
-role-same (Become r) e k step x seen = absurd (true≢false k)
-role-same _ e k step x seen = refl
+role_same Boot e k step x seen = absurd (false≢true e)
+role_same (Become r) e k step x seen = absurd (true≢false k)
+role_same _ e k step x seen = refl
 
-role-stays : (acts : List Act) → AllOf turning_sorts acts → changes acts ≡ false → (step : Step) (x : ℕ) (seen : List Seen) → role (added step x acts seen) ≡
+role_stays : (acts : List Act) → AllOf turning_sorts acts → changes acts ≡ false → (step : Step) (x : ℕ) (seen : List Seen) → role (added step x acts seen) ≡
     role seen
-role-stays [] e k step x seen = refl
-role-stays (a ∷ rest) e k step x seen = let n = or_parts (is_change a) (changes rest) k in role-stays rest e.1 n.1 step x _ ∙ role-same a e.0 n.0 step x seen
+role_stays [] e k step x seen = refl
+role_stays (a ∷ rest) e k step x seen = let n = or_parts (is_change a) (changes rest) k in role_stays rest e.1 n.1 step x _ ∙ role_same a e.0 n.0 step x seen
 
 -- by such acts no port becomes a master
 parting : (a : Act) → is_in (sort_of a) parting_sorts ≡ true → (step : Step) (x : ℕ) (seen : List Seen) → (is_change a ≡ true) ⊎ (role seen ≢ Master) →
@@ -123,12 +123,12 @@ more acts e = (Emits_more parting_sorts {all = turning_sorts} {row = λ x past. 
       seen = [];
     })
 
-role-parts : (acts : List Act) → AllOf parting_sorts acts → (step : Step) (x : ℕ) (seen : List Seen) → (changes acts ≡ true) ⊎ (role seen ≢ Master) →
+role_parts : (acts : List Act) → AllOf parting_sorts acts → (step : Step) (x : ℕ) (seen : List Seen) → (changes acts ≡ true) ⊎ (role seen ≢ Master) →
     role (added step x acts seen) ≢ Master
-role-parts [] e step x seen (inl k) = absurd (false≢true k)
-role-parts [] e step x seen (inr n) = n
-role-parts (a ∷ rest) e step x seen (inr n) = role-parts rest e.1 step x _ (inr (parting a e.0 step x seen (inr n)))
-role-parts (a ∷ rest) e step x seen (inl k) = by_one (or_cases (is_change a) (changes rest) k) (λ n. role-parts rest e.1 step x _ n) where
+role_parts [] e step x seen (inl k) = absurd (false≢true k)
+role_parts [] e step x seen (inr n) = n
+role_parts (a ∷ rest) e step x seen (inr n) = role_parts rest e.1 step x _ (inr (parting a e.0 step x seen (inr n)))
+role_parts (a ∷ rest) e step x seen (inl k) = by_one (or_cases (is_change a) (changes rest) k) (λ n. role_parts rest e.1 step x _ n) where
   after : List Seen
   after = Here (record { step = step; tick = x; deed = Acts a }) ∷ seen
 
@@ -138,15 +138,15 @@ role-parts (a ∷ rest) e step x seen (inl k) = by_one (or_cases (is_change a) (
   by_one (inr c) next = next (inl c)
 
 -- the role is no longer a master's where it changed
-is_master-true : (r : Role) → is_master r ≡ true → r ≡ Master
-is_master-true Master e = refl
-is_master-true Starting e = absurd (false≢true e)
-is_master-true _ e = absurd (false≢true e)
+is_master_true : (r : Role) → is_master r ≡ true → r ≡ Master
+is_master_true Master e = refl
+is_master_true Starting e = absurd (false≢true e)
+is_master_true _ e = absurd (false≢true e)
 
-is_master-false : (r : Role) → is_master r ≡ false → r ≢ Master
-is_master-false Master e = absurd (true≢false e)
-is_master-false Starting e = λ f. let bad : ⊥ = cc in bad
-is_master-false _ e = λ f. let bad : ⊥ = cc in bad
+is_master_false : (r : Role) → is_master r ≡ false → r ≢ Master
+is_master_false Master e = absurd (true≢false e)
+is_master_false Starting e = λ f. let bad : ⊥ = cc in bad
+is_master_false _ e = λ f. let bad : ⊥ = cc in bad
 
 -- by such acts the role of a master changes where it is another one afterwards
 pub changes_parted : (acts : List Act) → AllOf parting_sorts acts → (step : Step) (x : ℕ) (seen : List Seen) (before after : Role) → role seen ≡ before →
@@ -156,10 +156,10 @@ changes_parted acts e step x seen before after was is led = by_change (changes a
   all = more acts e
 
   by_change : (t a : Bool) → changes acts ≡ t → is_master after ≡ a → t ≡ not a
-  by_change true true t a = absurd (role-parts acts e step x seen (inl t) (is ∙ is_master-true after a))
+  by_change true true t a = absurd (role_parts acts e step x seen (inl t) (is ∙ is_master_true after a))
   by_change true false t a = refl
   by_change false true t a = refl
-  by_change false false t a = absurd (is_master-false after a (sym is ∙ role-stays acts all t step x seen ∙ was ∙ is_master-true before led))
+  by_change false false t a = absurd (is_master_false after a (sym is ∙ role_stays acts all t step x seen ∙ was ∙ is_master_true before led))
 
 -- a port that doesn't lead has no slaves to forget
 Cleared_idle : (past : Past) (m : MasterStruct) → role past.seen ≢ Master → MasterStands past m → Cleared m m
@@ -186,7 +186,7 @@ MasterStands_parted row e x past m k before after was is clears h = by_roles (is
   by_roles : (b a : Bool) → is_master before ≡ b → is_master after ≡ a → Clears (b && not a) m k → MasterStands (grown x past acts) k
   by_roles true true f g c = rw c (by_change (changes acts) refl (MasterStands_turns acts all x past m m (λ t. absurd (no t)) h)) where
     no : changes acts ≡ true → ⊥
-    no t = role-parts acts (e.only x past) past.step x past.seen (inl t) (is ∙ is_master-true after g)
+    no t = role_parts acts (e.only x past) past.step x past.seen (inl t) (is ∙ is_master_true after g)
 
     by_change : (t : Bool) → changes acts ≡ t → MasterStands (grown x past acts) (if changes acts then m else m) → MasterStands (grown x past acts) m
     by_change true t s = absurd (no t)
@@ -194,9 +194,9 @@ MasterStands_parted row e x past m k before after was is clears h = by_roles (is
   by_roles true false f g c = by_change (changes acts) refl (MasterStands_turns acts all x past m k (λ t. c) h) where
     by_change : (t : Bool) → changes acts ≡ t → MasterStands (grown x past acts) (if changes acts then k else m) → MasterStands (grown x past acts) k
     by_change true t s = rw t at s
-    by_change false t s = absurd (is_master-false after g (sym is ∙ role-stays acts all t past.step x past.seen ∙ was ∙ is_master-true before f))
+    by_change false t s = absurd (is_master_false after g (sym is ∙ role_stays acts all t past.step x past.seen ∙ was ∙ is_master_true before f))
   by_roles false a f g c = rw c (by_change (changes acts) (MasterStands_turns acts all x past m m
-      (λ t. Cleared_idle past m (λ r. is_master-false before f (sym was ∙ r)) h) h)) where
+      (λ t. Cleared_idle past m (λ r. is_master_false before f (sym was ∙ r)) h) h)) where
         by_change : (t : Bool) → MasterStands (grown x past acts) (if t then m else m) → MasterStands (grown x past acts) m
         by_change true s = s
         by_change false s = s
@@ -255,7 +255,7 @@ MasterStands_in_step step x past m h = record {
 pub MasterStands_unheld : (p : PeerId) (x : ℕ) (past : Past) (m : MasterStruct) → corrects_in (open_send p past.seen) ≡ false → MasterStands past m →
     MasterStands (grown x past (Acked p ∷ [])) m
 MasterStands_unheld p x past m none h =
-    MasterStands_changed p (acks_where (corrects_in (open_send p past.seen))) (Acked p) x past m m refl (rw none (λ e j k. (j, k))) (acked-after p past x)
+    MasterStands_changed p (acks_where (corrects_in (open_send p past.seen))) (Acked p) x past m m refl (rw none (λ e j k. (j, k))) (acked_after p past x)
     (rw none (λ q. either (p.0 == q.0) (entry_of m.slaves q))) refl refl h where
       either : (b : Bool) (e : Entry) → e ≡ (if b then e else e)
       either true e = refl

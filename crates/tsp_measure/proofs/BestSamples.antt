@@ -65,5 +65,5 @@ best_from [] xs r h = rw (append-nil xs) h
 best_from (y ∷ ys) xs r h = subst (λ (zs : List TimedSample). IsBestSample zs (fold better (better r y) ys)) (append_assoc xs (y ∷ []) ys) (best_from ys (xs ++
     y ∷ []) (better r y) (better_is_best xs y r h))
 
-pub best_of-IsBestOf : (xs : List TimedSample) → IsBestSample xs (best_of xs)
-best_of-IsBestOf xs = best_from xs [] None refl
+pub best_of_IsBestOf : (xs : List TimedSample) → IsBestSample xs (best_of xs)
+best_of_IsBestOf xs = best_from xs [] None refl

@@ -5,7 +5,7 @@ use Rattle.std.specs.{List.Contains, List.Sorted.IsBinarySearchResult, List.Sort
 use Rattle.std.proofs.{Math.Seq.take-suc, Math.Seq.take-append_seam, lemmas.Bool.ne_eqb}
 use Rattle.std.proofs.lemmas.List.{length-map, length-take-le, get_or-map, get_or_at, set_at, take_all, drop_more, map-append}
 use Rattle.tsp_base.specs.{Words.IsPeers, declared.place.PeerId.PeerId}
-use Rattle.tsp_base.proofs.AscendingLemmas.{Rise, Rise-of, Rise-rest, Parts-absent, Parts-searched, equal_means}
+use Rattle.tsp_base.proofs.AscendingLemmas.{Rise, Rise_of, Rise_rest, Parts_absent, Parts_searched, equal_means}
 use Rattle.tsp_measure.specs.declared.entry.{Change.Change, Entry.Entry}
 use Rattle.tsp_measure.specs.declared.entry.Change.TheVariants.{Join, Measure, Post, Begin, Acknowledge}
 use Rattle.tsp_measure.specs.Slaves.{idle_entry, peers_of, entry_of, changed_by, Changes, ChangesAll, IsEntryPlace}
@@ -14,37 +14,37 @@ use Rattle.tsp_measure.specs.Slaves.{idle_entry, peers_of, entry_of, changed_by,
 abbrev pub Rising : List Entry → Type 0
 Rising es = Rise (λ (e : Entry). e.peer.0) es
 
-pub Rising-peers : (es : List Entry) → IsPeers (peers_of es) → Rising es
-Rising-peers es up = Rise-of (λ (e : Entry). e.peer) es up.ascending
+pub Rising_peers : (es : List Entry) → IsPeers (peers_of es) → Rising es
+Rising_peers es up = Rise_of (λ (e : Entry). e.peer) es up.ascending
 
 -- the entry at a place is its peer's
-pub entry_of-at : (es : List Entry) (i : ℕ) (d : Entry) (p : PeerId) → Rising es → i < length es → (get_or es i d).peer.0 ≡ p.0 → entry_of es p ≡ get_or es i d
-entry_of-at [] i d p r h e = absurd (omega arith)
-entry_of-at (x ∷ es) zero d p r h e = rw (eq-eqb x.peer.0 p.0 e) refl
-entry_of-at (x ∷ es) (suc i) d p r h e =
+pub entry_of_at : (es : List Entry) (i : ℕ) (d : Entry) (p : PeerId) → Rising es → i < length es → (get_or es i d).peer.0 ≡ p.0 → entry_of es p ≡ get_or es i d
+entry_of_at [] i d p r h e = absurd (omega arith)
+entry_of_at (x ∷ es) zero d p r h e = rw (eq-eqb x.peer.0 p.0 e) refl
+entry_of_at (x ∷ es) (suc i) d p r h e =
     let before : x.peer.0 < (get_or es i d).peer.0 = r.at 0 (suc i) d (omega arith) h in
-    rw (ne_eqb x.peer.0 p.0 (λ same. omega arith)) (entry_of-at es i d p (Rise-rest x es r) (omega arith) e)
+    rw (ne_eqb x.peer.0 p.0 (λ same. omega arith)) (entry_of_at es i d p (Rise_rest x es r) (omega arith) e)
 
 -- nothing is known of a peer without an entry
-pub entry_of-absent : (es : List Entry) (p : PeerId) → ((k : ℕ) (d : Entry) → k < length es → (get_or es k d).peer.0 ≢ p.0) → entry_of es p ≡ idle_entry p
-entry_of-absent [] p h = refl
-entry_of-absent (x ∷ es) p h = rw (ne_eqb x.peer.0 p.0 (h 0 x (omega arith))) (entry_of-absent es p (λ k d l. h (suc k) d (omega arith)))
+pub entry_of_absent : (es : List Entry) (p : PeerId) → ((k : ℕ) (d : Entry) → k < length es → (get_or es k d).peer.0 ≢ p.0) → entry_of es p ≡ idle_entry p
+entry_of_absent [] p h = refl
+entry_of_absent (x ∷ es) p h = rw (ne_eqb x.peer.0 p.0 (h 0 x (omega arith))) (entry_of_absent es p (λ k d l. h (suc k) d (omega arith)))
 
 -- an entry is put in its peer's place
-entry_of-set : (es : List Entry) (i : ℕ) (d : Entry) (p : PeerId) (new : Entry) (q : PeerId) → Rising es → i < length es → (get_or es i d).peer.0 ≡ p.0 →
+entry_of_set : (es : List Entry) (i : ℕ) (d : Entry) (p : PeerId) (new : Entry) (q : PeerId) → Rising es → i < length es → (get_or es i d).peer.0 ≡ p.0 →
     new.peer.0 ≡ p.0
     → entry_of (set es i new) q ≡ (if p.0 == q.0 then new else entry_of es q)
-entry_of-set [] i d p new q r h e f = absurd (omega arith)
-entry_of-set (x ∷ es) zero d p new q r h e f =
+entry_of_set [] i d p new q r h e f = absurd (omega arith)
+entry_of_set (x ∷ es) zero d p new q r h e f =
     ap (λ n. if n == q.0 then new else entry_of es q) f ∙ by_test (p.0 == q.0) ∙ sym
     (ap (λ n. if p.0 == q.0 then new else (if n == q.0 then x else entry_of es q)) e) where
       by_test : (b : Bool) → (if b then new else entry_of es q) ≡ (if b then new else (if b then x else entry_of es q))
       by_test true = refl
       by_test false = refl
-entry_of-set (x ∷ es) (suc i) d p new q r h e f =
+entry_of_set (x ∷ es) (suc i) d p new q r h e f =
     let before : x.peer.0 < (get_or es i d).peer.0 = r.at 0 (suc i) d (omega arith) h in
     let other : x.peer.0 ≢ p.0 = λ same. omega arith in
-    rw (entry_of-set es i d p new q (Rise-rest x es r) (omega arith) e f) (by_test (x.peer.0 == q.0) refl other) where
+    rw (entry_of_set es i d p new q (Rise_rest x es r) (omega arith) e f) (by_test (x.peer.0 == q.0) refl other) where
       by_test : (b : Bool) → (x.peer.0 == q.0) ≡ b → x.peer.0 ≢ p.0 → (if b then x else (if p.0 == q.0 then new else entry_of es q)) ≡
           (if p.0 == q.0 then new else (if b then x else entry_of es q))
       by_test true g n = let o : (p.0 == q.0) ≡ false = ne_eqb p.0 q.0 (λ same. n (eqb-true x.peer.0 q.0 g ∙ sym same)) in rw o refl
@@ -54,40 +54,40 @@ entry_of-set (x ∷ es) (suc i) d p new q r h e f =
 pub Changes-put : (f : Entry → Entry) (es new : List Entry) (p : PeerId) (i : ℕ) (x : Entry) → IsPeers (peers_of es) → IsEntryPlace p es (Ok i) → x ≡
     get_or es i x → (f x).peer ≡ x.peer → new ≡ set es i (f x) → Changes p f es new
 Changes-put f es new p i x up place is same put q = rw put (
-    let r = Rising-peers es up in
+    let r = Rising_peers es up in
     let here : (get_or es i x).peer.0 ≡ p.0 = place.1 x in
     let own : x.peer.0 ≡ p.0 = ap (λ (e : Entry). e.peer.0) is ∙ here in
-    entry_of-set es i x p (f x) q r place.0 here (ap (λ (t : PeerId). t.0) same ∙ own)
-    ∙ by_test (p.0 == q.0) refl (λ e. is ∙ sym (entry_of-at es i x q r place.0 (here ∙ e)))) where
+    entry_of_set es i x p (f x) q r place.0 here (ap (λ (t : PeerId). t.0) same ∙ own)
+    ∙ by_test (p.0 == q.0) refl (λ e. is ∙ sym (entry_of_at es i x q r place.0 (here ∙ e)))) where
       by_test : (b : Bool) → (p.0 == q.0) ≡ b → (p.0 ≡ q.0 → x ≡ entry_of es q) → (if b then f x else entry_of es q) ≡
           (if b then f (entry_of es q) else entry_of es q)
       by_test true e k = ap f (k (eqb-true p.0 q.0 e))
       by_test false e k = refl
 
 -- a change that leaves a peer without an entry alone
-pub Changes-absent : (f : Entry → Entry) (es : List Entry) (p : PeerId) (i : ℕ) → IsEntryPlace p es (Err i) → f (idle_entry p) ≡ idle_entry p →
+pub Changes_absent : (f : Entry → Entry) (es : List Entry) (p : PeerId) (i : ℕ) → IsEntryPlace p es (Err i) → f (idle_entry p) ≡ idle_entry p →
     Changes p f es es
-Changes-absent f es p i place same q = by_test (p.0 == q.0) refl where
+Changes_absent f es p i place same q = by_test (p.0 == q.0) refl where
   by_test : (b : Bool) → (p.0 == q.0) ≡ b → entry_of es q ≡ (if b then f (entry_of es q) else entry_of es q)
   by_test true e =
       let it : p ≡ q = ap (λ n. record { 0 = n }) (eqb-true p.0 q.0 e) in
-      let none : entry_of es q ≡ idle_entry p = ap (entry_of es) (sym it) ∙ entry_of-absent es p place in
+      let none : entry_of es q ≡ idle_entry p = ap (entry_of es) (sym it) ∙ entry_of_absent es p place in
       none ∙ sym same ∙ ap f (sym none)
   by_test false e = refl
 
 -- the peers stay where an entry keeps its peer
-pub peers_of-set : (es : List Entry) (i : ℕ) (d new : Entry) → (i < length es → new.peer ≡ (get_or es i d).peer) → peers_of (set es i new) ≡ peers_of es
-peers_of-set [] i d new e = refl
-peers_of-set (x ∷ es) zero d new e = ap (λ p. p ∷ peers_of es) (e (omega arith))
-peers_of-set (x ∷ es) (suc i) d new e = ap (λ ps. x.peer ∷ ps) (peers_of-set es i d new (λ h. e (omega arith)))
+pub peers_of_set : (es : List Entry) (i : ℕ) (d new : Entry) → (i < length es → new.peer ≡ (get_or es i d).peer) → peers_of (set es i new) ≡ peers_of es
+peers_of_set [] i d new e = refl
+peers_of_set (x ∷ es) zero d new e = ap (λ p. p ∷ peers_of es) (e (omega arith))
+peers_of_set (x ∷ es) (suc i) d new e = ap (λ ps. x.peer ∷ ps) (peers_of_set es i d new (λ h. e (omega arith)))
 
 -- what a binary search by the peers' numbers finds
-pub IsPlaceOf-searched : (es : List Entry) (p : PeerId) (r : Result ℕ ℕ) → Rising es → IsSearchInRange r (length es) →
+pub IsPlaceOf_searched : (es : List Entry) (p : PeerId) (r : Result ℕ ℕ) → Rising es → IsSearchInRange r (length es) →
     IsBinarySearchResult (λ (e : Entry). nat_cmp e.peer.0 p.0) es r → IsEntryPlace p es r
-IsPlaceOf-searched es p (Ok i) rise bound found = (bound, λ d. equal_means (get_or es i d).peer.0 p.0 (found d))
-IsPlaceOf-searched es p (Err i) rise bound found =
+IsPlaceOf_searched es p (Ok i) rise bound found = (bound, λ d. equal_means (get_or es i d).peer.0 p.0 (found d))
+IsPlaceOf_searched es p (Err i) rise bound found =
     let number = λ (e : Entry). e.peer.0 in
-    Parts-absent number p.0 es i (Parts-searched number p.0 es i rise bound found)
+    Parts_absent number p.0 es i (Parts_searched number p.0 es i rise bound found)
 
 -- a search finds the entry of a peer that has one
 pub always_found : (es : List Entry) (p : PeerId) (i : ℕ) → Contains (peers_of es) p → IsEntryPlace p es (Err i) → ⊥
@@ -97,29 +97,29 @@ always_found es p i c place =
     place c.0 (idle_entry p) inside (ap (λ (q : PeerId). q.0) here)
 
 -- entries without anything known
-pub peers_of-idle : (ps : List PeerId) → peers_of (map idle_entry ps) ≡ ps
-peers_of-idle [] = refl
-peers_of-idle (p ∷ ps) = ap (λ qs. p ∷ qs) (peers_of-idle ps)
+pub peers_of_idle : (ps : List PeerId) → peers_of (map idle_entry ps) ≡ ps
+peers_of_idle [] = refl
+peers_of_idle (p ∷ ps) = ap (λ qs. p ∷ qs) (peers_of_idle ps)
 
-pub entry_of-idle : (ps : List PeerId) (q : PeerId) → entry_of (map idle_entry ps) q ≡ idle_entry q
-entry_of-idle [] q = refl
-entry_of-idle (p ∷ ps) q = by_test (p.0 == q.0) refl (entry_of-idle ps q) where
+pub entry_of_idle : (ps : List PeerId) (q : PeerId) → entry_of (map idle_entry ps) q ≡ idle_entry q
+entry_of_idle [] q = refl
+entry_of_idle (p ∷ ps) q = by_test (p.0 == q.0) refl (entry_of_idle ps q) where
   by_test : (b : Bool) → (p.0 == q.0) ≡ b → entry_of (map idle_entry ps) q ≡ idle_entry q → (if b then idle_entry p else entry_of (map idle_entry ps) q) ≡
       idle_entry q
   by_test true e rest = let it : p ≡ q = ap (λ n. record { 0 = n }) (eqb-true p.0 q.0 e) in ap idle_entry it
   by_test false e rest = rest
 
 -- each entry is changed
-pub peers_of-map : (f : Entry → Entry) → ((e : Entry) → (f e).peer ≡ e.peer) → (es : List Entry) → peers_of (map f es) ≡ peers_of es
-peers_of-map f same [] = refl
-peers_of-map f same (x ∷ es) = ap (λ p. p ∷ peers_of (map f es)) (same x) ∙ ap (λ ps. x.peer ∷ ps) (peers_of-map f same es)
+pub peers_of_map : (f : Entry → Entry) → ((e : Entry) → (f e).peer ≡ e.peer) → (es : List Entry) → peers_of (map f es) ≡ peers_of es
+peers_of_map f same [] = refl
+peers_of_map f same (x ∷ es) = ap (λ p. p ∷ peers_of (map f es)) (same x) ∙ ap (λ ps. x.peer ∷ ps) (peers_of_map f same es)
 
-pub ChangesAll-map : (f : Entry → Entry) → ((e : Entry) → (f e).peer ≡ e.peer) → ((p : PeerId) → f (idle_entry p) ≡ idle_entry p) → (es : List Entry) →
+pub ChangesAll_map : (f : Entry → Entry) → ((e : Entry) → (f e).peer ≡ e.peer) → ((p : PeerId) → f (idle_entry p) ≡ idle_entry p) → (es : List Entry) →
     ChangesAll f es (map f es)
-ChangesAll-map f same idle [] q = sym (idle q)
-ChangesAll-map f same idle (x ∷ es) q =
+ChangesAll_map f same idle [] q = sym (idle q)
+ChangesAll_map f same idle (x ∷ es) q =
     ap (λ n. if n == q.0 then f x else entry_of (map f es) q) (ap (λ (p : PeerId). p.0) (same x)) ∙
-    by_test (x.peer.0 == q.0) (ChangesAll-map f same idle es q) where
+    by_test (x.peer.0 == q.0) (ChangesAll_map f same idle es q) where
       by_test : (b : Bool) → entry_of (map f es) q ≡ f (entry_of es q) → (if b then f x else entry_of (map f es) q) ≡ f (if b then x else entry_of es q)
       by_test true rest = refl
       by_test false rest = rest
@@ -154,9 +154,9 @@ pub mapped_all : (f : Entry → Entry) (xs now : List Entry) (i : ℕ) → lengt
 mapped_all f xs now i h e = e ∙ ap (λ ys. map f (take i xs) ++ ys) (drop_past xs i h) ∙ append-nil (map f (take i xs)) ∙ ap (map f) (take_all i xs h)
 
 -- a change is of the same peer's entry
-pub changed_by-peer : (change : Change) (e : Entry) → (changed_by change e).peer ≡ e.peer
-changed_by-peer Join e = refl
-changed_by-peer Measure e = refl
-changed_by-peer (Post x) e = refl
-changed_by-peer (Begin x number) e = refl
-changed_by-peer Acknowledge e = refl
+pub changed_by_peer : (change : Change) (e : Entry) → (changed_by change e).peer ≡ e.peer
+changed_by_peer Join e = refl
+changed_by_peer Measure e = refl
+changed_by_peer (Post x) e = refl
+changed_by_peer (Begin x number) e = refl
+changed_by_peer Acknowledge e = refl

@@ -5,7 +5,7 @@ use Rattle.std.proofs.lemmas.List.Elements.{All-from_get_or, All-contains}
 use Rattle.std.proofs.{Math.ListN.length-set, lemmas.Bool.cases_lt, lemmas.Bool.Decides.nat_tests, lemmas.List.get_or-set_same}
 use Rattle.std.specs.{List.All, List.Contains, Result.result_ok}
 use Rattle.tsp_measure.specs.{Measures.Measured, Measures.nothing_measured, Peers.at_peer}
-use Rattle.tsp_base.proofs.AscendingLemmas.{Rise, Rise-rest}
+use Rattle.tsp_base.proofs.AscendingLemmas.{Rise, Rise_rest}
 
 same_test : (q p : ℕ) → q ≡ p → (q == p) ≡ true
 same_test q p e = grind (arith, nat_tests)
@@ -22,7 +22,7 @@ at_peer-found (q ∷ peers) (m ∷ measured) p zero d up e h k = rw (same_test q
 at_peer-found (q ∷ peers) (m ∷ measured) p (suc i) d up e h k =
     let inside : suc i < length (q ∷ peers) = omega arith in
     let lt : q < get_or peers i 0 = up.at 0 (suc i) 0 (omega arith) inside in
-    rw (other_test q p (λ w. omega (arith, lt, k, w))) (at_peer-found peers measured p i d (Rise-rest q peers up) (omega arith) (omega arith) k)
+    rw (other_test q p (λ w. omega (arith, lt, k, w))) (at_peer-found peers measured p i d (Rise_rest q peers up) (omega arith) (omega arith) k)
 
 -- what is put at one peer's place leaves the others
 pub at_peer-others : (peers : List ℕ) (measured : List Measured) (p q i : ℕ) (m : Measured) → i < length peers → get_or peers i 0 ≡ p → (q ≡ p → ⊥) →
@@ -34,36 +34,36 @@ at_peer-others (r ∷ peers) (x ∷ measured) p q (suc i) m h k ne = ap (λ (y :
     ne)
 
 -- a number that isn't among the peers
-pub at_peer-missing : (peers : List ℕ) (measured : List Measured) (p : ℕ) → (Contains peers p → ⊥) → at_peer peers measured p ≡ nothing_measured
-at_peer-missing [] measured p none = refl
-at_peer-missing (q ∷ peers) [] p none = refl
-at_peer-missing (q ∷ peers) (m ∷ measured) p none =
-    rw (other_test q p (λ e. none (0, omega arith, e))) (at_peer-missing peers measured p (λ c. none (suc c.0, omega (arith, c.1), c.2)))
+pub at_peer_missing : (peers : List ℕ) (measured : List Measured) (p : ℕ) → (Contains peers p → ⊥) → at_peer peers measured p ≡ nothing_measured
+at_peer_missing [] measured p none = refl
+at_peer_missing (q ∷ peers) [] p none = refl
+at_peer_missing (q ∷ peers) (m ∷ measured) p none =
+    rw (other_test q p (λ e. none (0, omega arith, e))) (at_peer_missing peers measured p (λ c. none (suc c.0, omega (arith, c.1), c.2)))
 
 either_way : (t : Bool) (x y z : Measured) → x ≡ z → y ≡ z → cond t x y ≡ z
 either_way true x y z e f = e
 either_way false x y z e f = f
 
 -- nothing is measured with any peer
-pub at_peer-nothing : (peers : List ℕ) (p : ℕ) → at_peer peers [] p ≡ nothing_measured
-at_peer-nothing [] p = refl
-at_peer-nothing (q ∷ peers) p = refl
+pub at_peer_nothing : (peers : List ℕ) (p : ℕ) → at_peer peers [] p ≡ nothing_measured
+at_peer_nothing [] p = refl
+at_peer_nothing (q ∷ peers) p = refl
 
 -- one place more, with which nothing is measured
-pub at_peer-more : (peers : List ℕ) (measured : List Measured) (p : ℕ) → at_peer peers (measured ++ nothing_measured ∷ []) p ≡ at_peer peers measured p
-at_peer-more [] measured p = refl
-at_peer-more (q ∷ peers) [] p = either_way (q == p) nothing_measured (at_peer peers [] p) nothing_measured refl (at_peer-nothing peers p)
-at_peer-more (q ∷ peers) (m ∷ measured) p = ap (λ (y : Measured). cond (q == p) m y) (at_peer-more peers measured p)
+pub at_peer_more : (peers : List ℕ) (measured : List Measured) (p : ℕ) → at_peer peers (measured ++ nothing_measured ∷ []) p ≡ at_peer peers measured p
+at_peer_more [] measured p = refl
+at_peer_more (q ∷ peers) [] p = either_way (q == p) nothing_measured (at_peer peers [] p) nothing_measured refl (at_peer_nothing peers p)
+at_peer_more (q ∷ peers) (m ∷ measured) p = ap (λ (y : Measured). cond (q == p) m y) (at_peer_more peers measured p)
 
 -- a peer whose place is past the list's end
-pub at_peer-past : (peers : List ℕ) (measured : List Measured) (p i : ℕ) → Rise (λ (n : ℕ). n) peers → length measured ≤ i → i < length peers →
+pub at_peer_past : (peers : List ℕ) (measured : List Measured) (p i : ℕ) → Rise (λ (n : ℕ). n) peers → length measured ≤ i → i < length peers →
     get_or peers i 0 ≡ p → at_peer peers measured p ≡ nothing_measured
-at_peer-past [] measured p i up e h k = refl
-at_peer-past (q ∷ peers) [] p i up e h k = refl
-at_peer-past (q ∷ peers) (m ∷ measured) p zero up e h k = absurd (omega arith)
-at_peer-past (q ∷ peers) (m ∷ measured) p (suc i) up e h k =
+at_peer_past [] measured p i up e h k = refl
+at_peer_past (q ∷ peers) [] p i up e h k = refl
+at_peer_past (q ∷ peers) (m ∷ measured) p zero up e h k = absurd (omega arith)
+at_peer_past (q ∷ peers) (m ∷ measured) p (suc i) up e h k =
     let lt : q < get_or peers i 0 = up.at 0 (suc i) 0 (omega arith) h in
-    rw (other_test q p (λ w. omega (arith, lt, k, w))) (at_peer-past peers measured p i (Rise-rest q peers up) (omega arith) (omega arith) k)
+    rw (other_test q p (λ w. omega (arith, lt, k, w))) (at_peer_past peers measured p i (Rise_rest q peers up) (omega arith) (omega arith) k)
 
 misses_by : (xs : List ℕ) (x i k : ℕ) → ((k : ℕ) → k < i → get_or xs k 0 < x) → ((k : ℕ) → i ≤ k → k < length xs → x < get_or xs k 0) → k < length xs →
     (k < i) ⊎ (i ≤ k) → get_or xs k 0 ≡ x → ⊥

@@ -9,7 +9,7 @@ use Rattle.tsp_daemon.specs.{Ends.ServesUntil, Posts.sends_of, Sessions.Session,
 use Rattle.tsp_daemon.specs.declared.end.ServeEnd.TheVariants.{Done, LinkFault, WriteFault, OutOfMemory}
 use Rattle.tsp_network.specs.{Lives.Daemons, Lives.Life, Lives.session_of, Lives.turn_acts, Lives.turn_told}
 use Rattle.tsp_network.specs.{Networks.network, Told.IsTold, Told.IsTriedSo, Told.ServedIsTried, Told.told_session}
-use Rattle.tsp_network.proofs.{NetworksKeep.all-tried, NetworksKeep.ends-after, ToldLemmas.sessions_are_told}
+use Rattle.tsp_network.proofs.{NetworksKeep.all_tried, NetworksKeep.ends_after, ToldLemmas.sessions_are_told}
 
 module _ (d : Daemons) (events : List Event) (step : Step) (life : Life) (o : Outside) (written : List ℕ) (there : (network d events).lives step.node ≡
     Some life) (told : IsTold o life.wall life.word life) where
@@ -21,45 +21,45 @@ module _ (d : Daemons) (events : List Event) (step : Step) (life : Life) (o : Ou
   far = (sessions_are_told.far (d.words step.node) o life.wall life.word written life told).tried
 
   -- nothing more was tried
-  before-turn : (tried : Option (List Tried)) → tried ≡ Some began.outside.tried → IsTriedSo d events step o life tried
-  before-turn tried is = inl (is ∙ ap (λ l. Some l) (far ∙ ap (λ l. o.tried ++ l) (all-tried d events step.node life there).tried))
+  before_turn : (tried : Option (List Tried)) → tried ≡ Some began.outside.tried → IsTriedSo d events step o life tried
+  before_turn tried is = inl (is ∙ ap (λ l. Some l) (far ∙ ap (λ l. o.tried ++ l) (all_tried d events step.node life there).tried))
 
   -- the first of the turn's sends were tried
-  in-turn : (tried : Option (List Tried)) (part rest : List Tried) → sends_of (acts_in_turn began) ≡ part ++ rest → tried ≡ Some (began.outside.tried ++ part) →
+  in_turn : (tried : Option (List Tried)) (part rest : List Tried) → sends_of (acts_in_turn began) ≡ part ++ rest → tried ≡ Some (began.outside.tried ++ part) →
       IsTriedSo d events step o life tried
-  in-turn tried part rest cut is = inr (
+  in_turn tried part rest cut is = inr (
     length part,
     λ arrival early tick later ends.
         let now : Life = turn_told arrival early tick life in
         let acts = sessions_are_told.acts (d.words step.node) o life.wall life.word written life arrival early tick told later in
         let sends : sends_of (turn_acts (d.words step.node) life now) ≡ part ++ rest = ap sends_of (sym acts) ∙ cut in
-        let all = ends-after d events step life now (length part) there ends in
+        let all = ends_after d events step life now (length part) there ends in
         let mine : List Tried = (session_of (d.words step.node) life).outside.tried in
         is ∙ ap (λ l. Some l) (ap (λ l. l ++ part) far ∙ append_assoc o.tried mine part
         ∙ ap (λ l. o.tried ++ l) (sym (all ∙ ap (λ l. mine ++ take (length part) l) sends ∙ ap (λ l. mine ++ l) (take-append_seam part rest)))),
   )
 
-  all-of-turn : (tried : Option (List Tried)) → tried ≡ Some (began.outside.tried ++ sends_of (acts_in_turn began)) → IsTriedSo d events step o life tried
-  all-of-turn tried is = in-turn tried (sends_of (acts_in_turn began)) [] (sym (append-nil (sends_of (acts_in_turn began)))) is
+  all_of_turn : (tried : Option (List Tried)) → tried ≡ Some (began.outside.tried ++ sends_of (acts_in_turn began)) → IsTriedSo d events step o life tried
+  all_of_turn tried is = in_turn tried (sends_of (acts_in_turn began)) [] (sym (append-nil (sends_of (acts_in_turn began)))) is
 
-  until-end : (turns : ℕ) (arrivals : Option (List Arrival)) (tried : Option (List Tried)) (calls : Option ℕ) (readings : Option (List ℕ)) (last : ℕ)
+  until_end : (turns : ℕ) (arrivals : Option (List Arrival)) (tried : Option (List Tried)) (calls : Option ℕ) (readings : Option (List ℕ)) (last : ℕ)
       (shown : Option (List ℕ)) (end : ServeEnd) →
       ServesUntil turns (length life.arrivals) (first_session (d.words step.node) (after_bind o) life.wall life.word written) arrivals tried calls readings last
       shown end →
       IsTriedSo d events step o life tried
-  until-end turns arrivals tried calls readings last shown Done e = before-turn tried e.1.tried_are
-  until-end turns arrivals tried calls readings last shown LinkFault e = before-turn tried e.1.0.tried_are
-  until-end turns arrivals tried calls readings last shown WriteFault e = all-of-turn tried e.1.0.tried_are
-  until-end turns arrivals tried calls readings last shown OutOfMemory e = elim e.1 [
-    | inl h ↦ before-turn tried h.0.tried_are
+  until_end turns arrivals tried calls readings last shown Done e = before_turn tried e.1.tried_are
+  until_end turns arrivals tried calls readings last shown LinkFault e = before_turn tried e.1.0.tried_are
+  until_end turns arrivals tried calls readings last shown WriteFault e = all_of_turn tried e.1.0.tried_are
+  until_end turns arrivals tried calls readings last shown OutOfMemory e = elim e.1 [
+    | inl h ↦ before_turn tried h.0.tried_are
     | inr h ↦ elim h [
-      | inl h ↦ in-turn tried h.0 h.1 h.3 h.4.tried_are
-      | inr h ↦ all-of-turn tried h.0.tried_are
+      | inl h ↦ in_turn tried h.0 h.1 h.3 h.4.tried_are
+      | inr h ↦ all_of_turn tried h.0.tried_are
     ]
   ]
 
 pub served_is_tried : ServedIsTried
 served_is_tried d events step life o written waits page now served there told by count =
-    until-end d events step life o written there told (d.words step.node).turns now.arrivals now.tried now.calls now.readings now.last now.written by.end
+    until_end d events step life o written there told (d.words step.node).turns now.arrivals now.tried now.calls now.readings now.last now.written by.end
     (subst (λ n. ServesUntil (d.words step.node).turns n (first_session (d.words step.node) (after_bind o) life.wall life.word written)
     now.arrivals now.tried now.calls now.readings now.last now.written by.end) count by.serves)

@@ -88,10 +88,10 @@ own_lines step x z acts ours h tick same =
     ∙ ap₂ (λ y l. joined step y l (line_of step y first_port Begins ∷ of step.node h)) (sym tick) same
 
 -- what comes on a port comes on it in a step too
-comes-step : (s : Step) (x : ℕ) (past : NodePast) (g : NodeGiven) → ComesOn past g → ComesOn (in_node_step s x past) g
-comes-step s x past NodeTurn c = c
-comes-step s x past (GotOn q (Peer from) t) c = c
-comes-step s x past (GotOn q Stranger t) c = c
+comes_step : (s : Step) (x : ℕ) (past : NodePast) (g : NodeGiven) → ComesOn past g → ComesOn (in_node_step s x past) g
+comes_step s x past NodeTurn c = c
+comes_step s x past (GotOn q (Peer from) t) c = c
+comes_step s x past (GotOn q Stranger t) c = c
 
 module _ (d : Daemons) (is : IsSetUp d.header) (keeps : (n : ℕ) → KeepsTime d.header.drift (d.clocks.tick n)) where
   abbrev nets : List (List ℕ)
@@ -141,13 +141,13 @@ module _ (d : Daemons) (is : IsSetUp d.header) (keeps : (n : ℕ) → KeepsTime 
   pub none_agree : AllAgree nothing_yet 0 []
   none_agree = record { history = refl; nodes = λ n. tt; sends = NoneMatch }
 
-  later-one : (n : ℕ) (o : Option Life) (t at : ℕ) (h h' : List Line) → of n h' ≡ of n h → t ≤ at → OneAgrees n o t h → OneAgrees n o at h'
-  later-one n None t at h h' same later a = tt
-  later-one n (Some life) t at h h' same later a = agrees_later n life t at h h' same later a
+  later_one : (n : ℕ) (o : Option Life) (t at : ℕ) (h h' : List Line) → of n h' ≡ of n h → t ≤ at → OneAgrees n o t h → OneAgrees n o at h'
+  later_one n None t at h h' same later a = tt
+  later_one n (Some life) t at h h' same later a = agrees_later n life t at h h' same later a
 
   -- while nothing happens both agree
   pub all_still : (w : Network) (t at : ℕ) (h : List Line) → t ≤ at → AllAgree w t h → AllAgree w at h
-  all_still w t at h later a = record { history = a.history; nodes = λ n. later-one n (w.lives n) t at h h refl later (a.nodes n); sends = a.sends }
+  all_still w t at h later a = record { history = a.history; nodes = λ n. later_one n (w.lives n) t at h h refl later (a.nodes n); sends = a.sends }
 
   -- a daemon has stepped, or ended, and its node in the run has stepped
   pub acted_agrees : (w : Network) (t : ℕ) (h : List Line) (k : ℕ) (step : Step) (now : Life) (acts : List Placed) → AllAgree w t h → t ≤ step.at →
@@ -174,7 +174,7 @@ module _ (d : Daemons) (is : IsSetUp d.header) (keeps : (n : ℕ) → KeepsTime 
         by_node m true e = subst (λ n. OneAgrees n (life_until (d.tries k) now) step.at more) (sym (eqb-true m step.node e)) (by_end (d.tries k))
         by_node m false e =
             let off = ne_eqb step.node m (λ same. eqb-false m step.node e (sym same)) in
-            later-one m (w.lives m) t step.at h more
+            later_one m (w.lives m) t step.at h more
             (stepped_other m step (tick_by d.clocks step) (named_acts nets step.node now.origin acts) h off) later (a.nodes m)
 
   -- a daemon takes a turn, and its node what comes to it: both act the same, and agree after it
@@ -206,7 +206,7 @@ module _ (d : Daemons) (is : IsSetUp d.header) (keeps : (n : ℕ) → KeepsTime 
       let first : Step = record { at = y; node = 0; cause = turn_cause given_is } in
       let begun : AlikeNodes rs apart life.origin p p' = with_lines apart (configs_of own.alike) first step
       (Both first step y first_port Begins refl tt own.alike.lines) in
-      let both = answers_are_alike rs apart life.origin given_is y p p' begun (comes-step first y past given_is comes) in
+      let both = answers_are_alike rs apart life.origin given_is y p p' begun (comes_step first y past given_is comes) in
       let ours : List Placed = answers_all (renamed_given rs given_is) (y + life.origin) p' in
       let theirs : List Placed = named_acts nets n life.origin acts in
       let named : theirs ≡ ours = ap (named_acts nets n life.origin) acts_are ∙ sym both.same in
@@ -229,10 +229,10 @@ module _ (d : Daemons) (is : IsSetUp d.header) (keeps : (n : ℕ) → KeepsTime 
       (subst (λ l. AllAgree (turned_to d k step life now w) step.at (stepped step x l h)) acts_same (acted_agrees w t h k step now acts all later after sends))
 
   -- a daemon starts, and its node boots
-  boot-agrees : AreStarted d → (w : Network) (t k at n word : ℕ) → AllAgree w t w.history → t ≤ at → n < length d.header.nodes →
+  boot_agrees_holds : AreStarted d → (w : Network) (t k at n word : ℕ) → AllAgree w t w.history → t ≤ at → n < length d.header.nodes →
       d.origin k ≤ daemon_tick d n at →
       AllAgree (starts d k at n word w) at (joins (Some (stepping d.clocks d.header w.history boots_all (boot_by d.clocks w.history at n word))) w.history)
-  boot-agrees started w t k at n word all later low began =
+  boot_agrees_holds started w t k at n word all later low began =
       let h : List Line = w.history in
       let step : Step = boot_by d.clocks h at n word in
       let x : ℕ = daemon_tick d n at in
@@ -280,4 +280,4 @@ module _ (d : Daemons) (is : IsSetUp d.header) (keeps : (n : ℕ) → KeepsTime 
       AllAgree (starts d k at n word w) at (joins (Some (stepping d.clocks d.header h boots_all (boot_by d.clocks h at n word))) h)
   boot_agrees started w t h k at n word all later low began =
       subst (λ g. AllAgree (starts d k at n word w) at (joins (Some (stepping d.clocks d.header g boots_all (boot_by d.clocks g at n word))) g)) all.history
-      (boot-agrees started w t k at n word (subst (λ g. AllAgree w t g) (sym all.history) all) later low began)
+      (boot_agrees_holds started w t k at n word (subst (λ g. AllAgree w t g) (sym all.history) all) later low began)

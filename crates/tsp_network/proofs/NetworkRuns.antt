@@ -11,7 +11,7 @@ use Rattle.tsp_run.specs.Refusals.{Scene, actor, down, first_of, impossible, por
 use Rattle.tsp_run.specs.Run.{arrives, arrives_at, event_at, goes_to, joins, last_at, posts}
 use Rattle.tsp_run.specs.Clocked.{IsSetUp, PossibleBy, boot_by, happening_by, reaches_by, run_by, scene_by, tick_by}
 use Rattle.tsp_run.{proofs.SoundLemmas.sound_writable, specs.Networks.networks, specs.Networks.ports_on, specs.Networks.address_of}
-use Rattle.tsp_run.{proofs.HappensBy.stepping, proofs.HappensBy.steps-are, proofs.HappensBy.taking, specs.declared.address.Address.Address}
+use Rattle.tsp_run.{proofs.HappensBy.stepping, proofs.HappensBy.steps_are, proofs.HappensBy.taking, specs.declared.address.Address.Address}
 use Rattle.tsp_run.proofs.{NetworkLemmas.goes_there, RunFits.post_sound, RunFits.ran, SettingLemmas.clocks_are_set}
 use Rattle.tsp_run.specs.Ranges.{IsInRange}
 use Rattle.tsp_network.specs.Networks.{Network, Sent, after_event, copy_at, delivers, network, starts, takes_copy, turned_to, turns}
@@ -25,49 +25,49 @@ use Rattle.tsp_codec.{proofs.Written.length_canon, specs.Canon.canon, specs.Cano
 use Rattle.tsp_promises.specs.{Setting.KeepsTime, Sound.IsSound}
 use Rattle.tsp_io.specs.Links.{Arrival}
 
-none-of : {a b : Option EventFault} → a ≡ None → b ≡ None → first_of a b ≡ None
-none-of {b = b} e f = ap (λ z. first_of z b) e ∙ f
+none_of : {a b : Option EventFault} → a ≡ None → b ≡ None → first_of a b ≡ None
+none_of {b = b} e f = ap (λ z. first_of z b) e ∙ f
 
-is-node : (nodes n : ℕ) → n < nodes → unknown nodes n ≡ None
-is-node nodes n h = rw (lt-ltb n nodes h) refl
+is_node : (nodes n : ℕ) → n < nodes → unknown nodes n ≡ None
+is_node nodes n h = rw (lt-ltb n nodes h) refl
 
-in-time : (at last : ℕ) → last ≤ at → time_back at last ≡ None
-in-time at last h = rw (le-ltb at last h) refl
+in_time : (at last : ℕ) → last ≤ at → time_back at last ≡ None
+in_time at last h = rw (le-ltb at last h) refl
 
-is-up : (s : Scene) (n : ℕ) → s.up n ≡ true → down s.up (Some n) ≡ None
-is-up s n e = rw e refl
+is_up : (s : Scene) (n : ℕ) → s.up n ≡ true → down s.up (Some n) ≡ None
+is_up s n e = rw e refl
 
 could_take : (s : Scene) (at k : ℕ) → s.last ≤ at → k < length s.posts → down s.up (actor s (Take at k)) ≡ None → impossible s (Take at k) ≡ None
-could_take s at k time few up_is = none-of (in-time at s.last time) (none-of refl (none-of (rw (lt-ltb k (length s.posts) few) refl) up_is))
+could_take s at k time few up_is = none_of (in_time at s.last time) (none_of refl (none_of (rw (lt-ltb k (length s.posts) few) refl) up_is))
 
 could_come : (s : Scene) (at node : ℕ) (port : Port) (from : Place) (octets : List ℕ) → s.last ≤ at → node < s.nodes → port.0 < port_count node s.networks →
     unknown_place s.nodes from ≡ None → s.up node ≡ true → impossible s (Bytes at node port from octets) ≡ None
 could_come s at node port from octets time low has place up_is =
-    none-of (in-time at s.last time) (none-of (none-of (is-node s.nodes node low) (none-of (rw (lt-ltb port.0 (port_count node s.networks) has) refl) place))
-    (none-of refl (is-up s node up_is)))
+    none_of (in_time at s.last time) (none_of (none_of (is_node s.nodes node low) (none_of (rw (lt-ltb port.0 (port_count node s.networks) has) refl) place))
+    (none_of refl (is_up s node up_is)))
 
 -- whoever octets may come from is a node, or a stranger
 sender_known : (d : Daemons) → IsSetUp d.header → (n : ℕ) → n < length d.header.nodes → (q : Port) → q.0 < length (ports_on n (networks d.header)) →
     (from : Place) → MayCome (networks d.header) n q from → unknown_place (length d.header.nodes) from ≡ None
 sender_known d is n low q has Stranger may = refl
-sender_known d is n low q has (Peer m) (inl own) = is-node (length d.header.nodes) m.0 (subst (λ k. k < length d.header.nodes) (sym own.0) low)
+sender_known d is n low q has (Peer m) (inl own) = is_node (length d.header.nodes) m.0 (subst (λ k. k < length d.header.nodes) (sym own.0) low)
 sender_known d is n low q has (Peer m) (inr member) =
     let p = port_is (length d.header.nodes) n q.0 (networks d.header) (header_nets d.header is) has in
     let at = place_is m.0 (neighbours_on n q.0 (networks d.header)) member in
     let below : All (λ k. k < length d.header.nodes) (neighbours_on n q.0 (networks d.header)) =
     subst (λ l. All (λ k. k < length d.header.nodes) l) (sym p.nodes) (All-filter (λ k. not (k == n)) (λ k. k < length d.header.nodes) p.net p.good.low) in
-    is-node (length d.header.nodes) m.0 (subst (λ k. k < length d.header.nodes) at.is
+    is_node (length d.header.nodes) m.0 (subst (λ k. k < length d.header.nodes) at.is
     (All-get_or (λ k. k < length d.header.nodes) (neighbours_on n q.0 (networks d.header)) (place_in m.0 (neighbours_on n q.0 (networks d.header))) 0 at.few
     below))
 
 -- a written datagram has at most 268 octets
-canon-small : (x : Datagram) → IsSound x → length (canon x) ≤ 512
-canon-small (Message m) s = let size = length_canon (Message m) (sound_writable (Message m) s) in let room = small-room (length m.name) in
+canon_small : (x : Datagram) → IsSound x → length (canon x) ≤ 512
+canon_small (Message m) s = let size = length_canon (Message m) (sound_writable (Message m) s) in let room = small-room (length m.name) in
     omega (arith, size, room) where
       small-room : (n : ℕ) → room_for n ≤ 256
       small-room n = elim (nat_le n 63) as (λ b. (if b then 64 else 256) ≤ 256) [ true ↦ omega arith | false ↦ omega arith ]
-canon-small (Stamp (Request word counter)) s = let size = length_canon (Stamp (Request word counter)) s in omega (arith, size)
-canon-small (Stamp (Reply r)) s = let size = length_canon (Stamp (Reply r)) s in omega (arith, size)
+canon_small (Stamp (Request word counter)) s = let size = length_canon (Stamp (Request word counter)) s in omega (arith, size)
+canon_small (Stamp (Reply r)) s = let size = length_canon (Stamp (Reply r)) s in omega (arith, size)
 
 -- a daemon that runs
 pub record Running (o : Option Life) : Type 0 where
@@ -85,19 +85,19 @@ pub data Outcome (d : Daemons) (k : ℕ) (w : Network) : Network → Type 0 wher
       Outcome d k w (turned_to d k step life (turn_told a (d.early k) (tick_by d.clocks step - life.origin) life) w)
   Nothing : Outcome d k w w
 
-turn-outcome : (d : Daemons) (k : ℕ) (w : Network) (step : Step) (a : Arrival) (o : Option Life) → w.lives step.node ≡ o → Outcome d k w (turns d k step a o w)
-turn-outcome d k w step a None e = Nothing
-turn-outcome d k w step a (Some life) e = Turns step a life e
+turn_outcome : (d : Daemons) (k : ℕ) (w : Network) (step : Step) (a : Arrival) (o : Option Life) → w.lives step.node ≡ o → Outcome d k w (turns d k step a o w)
+turn_outcome d k w step a None e = Nothing
+turn_outcome d k w step a (Some life) e = Turns step a life e
 
 pub outcome : (d : Daemons) (k : ℕ) (w : Network) (e : Event) → Outcome d k w (after_event d k e w)
 outcome d k w (BootAt at node word) = Starts at node word
-outcome d k w (Turn at node) = turn-outcome d k w (record { at = at; node = node; cause = Turned }) None (w.lives node) refl
+outcome d k w (Turn at node) = turn_outcome d k w (record { at = at; node = node; cause = Turned }) None (w.lives node) refl
 outcome d k w (Bytes at node port from octets) =
-    turn-outcome d k w (record { at = at; node = node; cause = Handed }) (Some (sender_for (networks d.header) node port from, octets)) (w.lives node) refl
+    turn_outcome d k w (record { at = at; node = node; cause = Handed }) (Some (sender_for (networks d.header) node port from, octets)) (w.lives node) refl
 outcome d k w (Take at number) = by_send (slice_get w.sent number) where
   by_address : (s : Sent) (o : Option Address) → Outcome d k w (delivers d k at number s o w)
   by_address s None = Nothing
-  by_address s (Some a) = turn-outcome d k w (record { at = at; node = a.node; cause = Came number }) (copy_at (networks d.header) a s) (w.lives a.node) refl
+  by_address s (Some a) = turn_outcome d k w (record { at = at; node = a.node; cause = Came number }) (copy_at (networks d.header) a s) (w.lives a.node) refl
 
   by_send : (o : Option Sent) → Outcome d k w (takes_copy d k at number o w)
   by_send None = Nothing
@@ -119,8 +119,8 @@ module _ (d : Daemons) (header_is : IsSetUp d.header) (keeps : (n : ℕ) → Kee
   abbrev Agreeing : Network → ℕ → List Line → Type 0
   Agreeing = AllAgree d header_is keeps
 
-  own-agrees : (w : Network) (t : ℕ) (h : List Line) (n : ℕ) → Agreeing w t h → (r : Running (w.lives n)) → Agrees d header_is keeps n r.life t h
-  own-agrees w t h n a r = subst (λ o. OneAgrees d header_is keeps n o t h) r.is (a.nodes n)
+  own_agrees : (w : Network) (t : ℕ) (h : List Line) (n : ℕ) → Agreeing w t h → (r : Running (w.lives n)) → Agrees d header_is keeps n r.life t h
+  own_agrees w t h n a r = subst (λ o. OneAgrees d header_is keeps n o t h) r.is (a.nodes n)
 
   -- what is known of an event that can happen after others, with which the network agrees
   pub record EventAgrees (e : Event) (before : List Event) : Type 0 where
@@ -133,31 +133,31 @@ module _ (d : Daemons) (header_is : IsSetUp d.header) (keeps : (n : ℕ) → Kee
   event_agrees before (BootAt at node word) possible later a c = record {
     agree = subst (λ z. Agreeing (after_event d (length before) (BootAt at node word) (network d before)) at
         (joins (Some z) (run_by d.clocks d.header before)))
-        (sym (steps-are d.clocks d.header (run_by d.clocks d.header before) boots_all (boot_by d.clocks (run_by d.clocks d.header before) at node word)))
+        (sym (steps_are d.clocks d.header (run_by d.clocks d.header before) boots_all (boot_by d.clocks (run_by d.clocks d.header before) at node word)))
         (boot_agrees d header_is keeps started (network d before) (last_at before) (run_by d.clocks d.header before)
         (length before) at node word a later c.0 c.2);
-    can = none-of (in-time at (last_at before) later) (none-of (is-node (length d.header.nodes) node c.0) refl);
+    can = none_of (in_time at (last_at before) later) (none_of (is_node (length d.header.nodes) node c.0) refl);
     ranges = c.1;
   }
   event_agrees before (Turn at node) possible later a c =
       let w : Network = network d before in
       let h : List Line = run_by d.clocks d.header before in
       let r = running d node (w.lives node) c in
-      let own = own-agrees w (last_at before) h node a r in
+      let own = own_agrees w (last_at before) h node a r in
       let step : Step = record { at = at; node = node; cause = Turned } in
       record {
         agree = subst (λ z. Agreeing (after_event d (length before) (Turn at node) w) at (joins (Some z) h))
-            (sym (steps-are d.clocks d.header h (answers_all NodeTurn) step))
+            (sym (steps_are d.clocks d.header h (answers_all NodeTurn) step))
             (turn_agrees_all d header_is keeps w (last_at before) h (length before) step None r.life NodeTurn a later r.is refl tt);
-        can = none-of (in-time at (last_at before) later)
-            (none-of (is-node (length d.header.nodes) node own.low) (none-of refl (is-up (scene_by d.clocks d.header before) node own.up_is)));
+        can = none_of (in_time at (last_at before) later)
+            (none_of (is_node (length d.header.nodes) node own.low) (none_of refl (is_up (scene_by d.clocks d.header before) node own.up_is)));
         ranges = tt;
       }
   event_agrees before (Bytes at node port from octets) possible later a c =
       let w : Network = network d before in
       let h : List Line = run_by d.clocks d.header before in
       let r = running d node (w.lives node) c.0 in
-      let own = own-agrees w (last_at before) h node a r in
+      let own = own_agrees w (last_at before) h node a r in
       let step : Step = record { at = at; node = node; cause = Handed } in
       let all = length_neighbours node nets in
       let some = c.1 in
@@ -165,7 +165,7 @@ module _ (d : Daemons) (header_is : IsSetUp d.header) (keeps : (n : ℕ) → Kee
       let k = comes_as d header_is node r.life.origin port from octets (session_of (d.words node) r.life).past own.ports c.2 has c.3 in
       record {
         agree = subst (λ z. Agreeing (after_event d (length before) (Bytes at node port from octets) w) at (joins (Some z) h))
-            (sym (steps-are d.clocks d.header h (answers_all (GotOn port from (taken_of octets))) step))
+            (sym (steps_are d.clocks d.header h (answers_all (GotOn port from (taken_of octets))) step))
             (turn_agrees_all d header_is keeps w (last_at before) h (length before) step (Some (sender_for nets node port from, octets)) r.life
             (GotOn port from (taken_of octets)) a later r.is k.same k.comes);
         can = could_come (scene_by d.clocks d.header before) at node port from octets later own.low has
@@ -196,7 +196,7 @@ module _ (d : Daemons) (header_is : IsSetUp d.header) (keeps : (n : ℕ) → Kee
         }
     by_address s m there (Some to) e r =
         let r = running d to.node (w.lives to.node) r in
-        let own = own-agrees w (last_at before) h to.node a r in
+        let own = own_agrees w (last_at before) h to.node a r in
         let post = m.post in
         let goes : address_of nets post.from post.port post.to ≡ Some to = sym m.matches.goes ∙ e in
         let reach = goes_there nets post.from post.port post.to to goes in
@@ -205,7 +205,7 @@ module _ (d : Daemons) (header_is : IsSetUp d.header) (keeps : (n : ℕ) → Kee
         let sound = post_sound header_is set.1 before (last_at before) k post (ran header_is set.1 before possible) m.there in
         let octets : List ℕ = s.tried.1 in
         let written : octets ≡ canon post.datagram = m.matches.sent.octets in
-        let small : length octets ≤ 512 = subst (λ l. length l ≤ 512) (sym written) (canon-small post.datagram sound) in
+        let small : length octets ≤ 512 = subst (λ l. length l ≤ 512) (sym written) (canon_small post.datagram sound) in
         let from : s.from ≡ post.from = m.matches.sent.from in
         let near = poster_near nets post.from post.port post.to to goes (m.matches.away to goes) in
         let may : MayCome nets to.node to.port (Peer (peer_of s.from)) = inr (subst (λ n. has_member n (neighbours_on to.node to.port.0 nets) ≡

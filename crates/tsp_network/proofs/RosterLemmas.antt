@@ -8,13 +8,13 @@ use Rattle.std.proofs.lemmas.Bool.{and_parts, cases_lt, eqb-false, lt-ltb, ltb-t
 use Rattle.std.{proofs.lemmas.List.Kept.IsStrictlyIncreasing-filter, specs.List.range_with_len, specs.List.Sorted.IsStrictlyIncreasing}
 use Rattle.tsp_rules.specs.{NodeRows.no_port, Values.PeerId, Values.Place, Values.Peer, Values.Stranger, Values.Port}
 use Rattle.tsp_base.specs.Words.{is_among, others, peer_of, HeaderValue, IsNet, has_member}
-use Rattle.tsp_base.proofs.AscendingLemmas.{Rise, Rise-numbers, Rise-rest}
+use Rattle.tsp_base.proofs.AscendingLemmas.{Rise, Rise_numbers, Rise_rest}
 use Rattle.tsp_network.specs.Rosters.{named_node, neighbours, neighbours_on, others_in, place_in}
 use Rattle.tsp_run.specs.Networks.{address_at, address_of, network_at, network_from, networks, networks_among, numbers_below, peers_on, port_at, port_from}
 use Rattle.tsp_run.specs.Networks.{port_on, ports_on}
 use Rattle.tsp_run.proofs.NetworkLemmas.{on_network, on_port_of, some_same}
 use Rattle.tsp_run.specs.{Clocked.IsSetUp, declared.address.Address.Address}
-use Rattle.tsp_networks.proofs.MemberLemmas.{ascending-below}
+use Rattle.tsp_networks.proofs.MemberLemmas.{ascending_below}
 
 -- nodes that a node numbers: none is the node itself, and none stands there twice
 pub record IsRoster (n : ℕ) (nodes : List ℕ) : Type 0 where
@@ -49,8 +49,8 @@ names n done nodes p = by_zero (p == 0) refl where
     by_range false f = Nobody (rw (e, f) refl)
 
 -- each of these numbers is at most their sum
-in-sum : (nodes : List ℕ) (i : ℕ) → i < length nodes → slice_index_or nodes i 0 ≤ sum nodes
-in-sum nodes i h = get_or-le-sum_by (λ (m : ℕ). m) nodes i 0 h
+in_sum : (nodes : List ℕ) (i : ℕ) → i < length nodes → slice_index_or nodes i 0 ≤ sum nodes
+in_sum nodes i h = get_or-le-sum_by (λ (m : ℕ). m) nodes i 0 h
 
 -- different numbers name different nodes
 pub named_once : (n done : ℕ) (nodes : List ℕ) → IsRoster n nodes → (p q : ℕ) → named_node n done nodes p ≡ named_node n done nodes q → p ≡ q
@@ -61,10 +61,10 @@ named_once n done nodes r p q e = by_both (names n done nodes p) (names n done n
   by_both (Itself a f) (Nobody g) = let same : n ≡ q + (n + sum nodes + 1) = sym f ∙ e ∙ g in absurd (omega (arith, same))
   by_both (Member i h a f) (Itself b g) = absurd (r.apart i h (sym f ∙ e ∙ g))
   by_both (Member i h a f) (Member j k b g) = a ∙ ap (λ z. done + 1 + z) (r.once i j h k (sym f ∙ e ∙ g)) ∙ sym b
-  by_both (Member i h a f) (Nobody g) = let low = in-sum nodes i h in let same : slice_index_or nodes i 0 ≡ q + (n + sum nodes + 1) = sym f ∙ e ∙ g in
+  by_both (Member i h a f) (Nobody g) = let low = in_sum nodes i h in let same : slice_index_or nodes i 0 ≡ q + (n + sum nodes + 1) = sym f ∙ e ∙ g in
       absurd (omega (arith, low, same))
   by_both (Nobody f) (Itself b g) = let same : n ≡ p + (n + sum nodes + 1) = sym g ∙ sym e ∙ f in absurd (omega (arith, same))
-  by_both (Nobody f) (Member j k b g) = let low = in-sum nodes j k in let same : slice_index_or nodes j 0 ≡ p + (n + sum nodes + 1) = sym g ∙ sym e ∙
+  by_both (Nobody f) (Member j k b g) = let low = in_sum nodes j k in let same : slice_index_or nodes j 0 ≡ p + (n + sum nodes + 1) = sym g ∙ sym e ∙
       f in absurd (omega (arith, low, same))
   by_both (Nobody f) (Nobody g) = let same : p + (n + sum nodes + 1) ≡ q + (n + sum nodes + 1) = sym f ∙ e ∙ g in omega (arith, same)
 
@@ -135,9 +135,9 @@ pub record GoodNet (count : ℕ) (net : List ℕ) : Type 0 where
   pub rising : IsStrictlyIncreasing net
   pub low : All (λ m. m < count) net
 
-below-all : (count n : ℕ) → n ≤ count → All (λ m. m < count) (numbers_below n)
-below-all count zero few = All-nil (λ m. m < count)
-below-all count (suc n) few = All-append (λ m. m < count) (numbers_below n) (n ∷ []) (below-all count n (omega (arith, few)))
+below_all : (count n : ℕ) → n ≤ count → All (λ m. m < count) (numbers_below n)
+below_all count zero few = All-nil (λ m. m < count)
+below_all count (suc n) few = All-append (λ m. m < count) (numbers_below n) (n ∷ []) (below_all count n (omega (arith, few)))
     (All-cons (λ m. m < count) n [] (omega (arith, few)) (All-nil (λ m. m < count)))
 
 -- the networks of a header are
@@ -145,8 +145,8 @@ pub header_nets : (header : HeaderValue) → IsSetUp header → All (GoodNet (le
 header_nets header is = by_nets header.nets is.nets_are where
   by_nets : (nets : List (List ℕ)) → All (IsNet (length header.nodes)) nets → All (GoodNet (length header.nodes)) (networks_among (length header.nodes) nets)
   by_nets [] all = All-cons (GoodNet (length header.nodes)) (numbers_below (length header.nodes)) [] (record {
-    rising = ascending-below (length header.nodes);
-    low = below-all (length header.nodes) (length header.nodes) (omega arith);
+    rising = ascending_below (length header.nodes);
+    low = below_all (length header.nodes) (length header.nodes) (omega arith);
   }) (All-nil (GoodNet (length header.nodes)))
   by_nets (net ∷ rest) all = All-weaker (IsNet (length header.nodes)) (GoodNet (length header.nodes)) (λ k is. record { rising = is.ascending; low = is.known })
       (net ∷ rest) all
@@ -183,24 +183,24 @@ port_is count n r (net ∷ rest) good h = by_member (has_member n net) refl r h 
   by_member false m k h more = let p = more k h in record { net = p.net; good = p.good; member = p.member; setup = rw m p.setup; nodes = rw m p.nodes }
 
 -- different places of a rising list have different numbers
-rising-once : (xs : List ℕ) → IsStrictlyIncreasing xs → (i j : ℕ) → i < length xs → j < length xs → slice_index_or xs i 0 ≡ slice_index_or xs j 0 → i ≡ j
-rising-once xs up i j h k e = elim (cases_lt i j) [
-  | inl lt ↦ (let less = (Rise-numbers xs up).at i j 0 lt k in absurd (omega (arith, less, e)))
+rising_once : (xs : List ℕ) → IsStrictlyIncreasing xs → (i j : ℕ) → i < length xs → j < length xs → slice_index_or xs i 0 ≡ slice_index_or xs j 0 → i ≡ j
+rising_once xs up i j h k e = elim (cases_lt i j) [
+  | inl lt ↦ (let less = (Rise_numbers xs up).at i j 0 lt k in absurd (omega (arith, less, e)))
   | inr ge ↦ elim (cases_lt j i) [
-    | inl lt ↦ (let less = (Rise-numbers xs up).at j i 0 lt h in absurd (omega (arith, less, e)))
+    | inl lt ↦ (let less = (Rise_numbers xs up).at j i 0 lt h in absurd (omega (arith, less, e)))
     | inr le ↦ omega (arith, ge, le)
   ]
 ]
 
-passes-apart : (n m : ℕ) → not (m == n) ≡ true → m ≢ n
-passes-apart n m e same = true≢false (sym e ∙ ap not (eq-eqb m n same))
+passes_apart : (n m : ℕ) → not (m == n) ≡ true → m ≢ n
+passes_apart n m e same = true≢false (sym e ∙ ap not (eq-eqb m n same))
 
 -- the others of a network are a roster
 pub roster : (count n : ℕ) (net : List ℕ) → GoodNet count net → IsRoster n (others_in n net)
 roster count n net good = record {
-  apart = λ i h. passes-apart n (slice_index_or (others_in n net) i 0) (All-get_or (λ m. not (m == n) ≡
+  apart = λ i h. passes_apart n (slice_index_or (others_in n net) i 0) (All-get_or (λ m. not (m == n) ≡
       true) (others_in n net) i 0 h (filter_passes (λ m. not (m == n)) net));
-  once = rising-once (others_in n net) (IsStrictlyIncreasing-filter (λ m. not (m == n)) net good.rising);
+  once = rising_once (others_in n net) (IsStrictlyIncreasing-filter (λ m. not (m == n)) net good.rising);
 }
 
 -- the others among the peers of a port are the others of its network
@@ -214,20 +214,20 @@ others_on n (m ∷ rest) = by_case (m == n) (others_on n rest) where
   by_case false e = ap (λ l. peer_of m ∷ l) e
 
 -- a list without this node has no others than all
-none-left : (n : ℕ) (xs : List ℕ) → ((i : ℕ) → i < length xs → slice_index_or xs i 0 ≢ n) → length (others_in n xs) ≡ length xs
-none-left n [] none = refl
-none-left n (m ∷ rest) none =
+none_left : (n : ℕ) (xs : List ℕ) → ((i : ℕ) → i < length xs → slice_index_or xs i 0 ≢ n) → length (others_in n xs) ≡ length xs
+none_left n [] none = refl
+none_left n (m ∷ rest) none =
     let off : (m == n) ≡ false = ne_eqb m n (none 0 (omega arith)) in
     ap (λ b. length (if not b then m ∷ others_in n rest else others_in n rest)) off ∙
-    ap (λ k. suc k) (none-left n rest (λ i h. none (suc i) (omega (arith, h))))
+    ap (λ k. suc k) (none_left n rest (λ i h. none (suc i) (omega (arith, h))))
 
 -- a node stands in its network once
 pub one_fewer : (n : ℕ) (net : List ℕ) → Rise (λ (m : ℕ). m) net → has_member n net ≡ true → suc (length (others_in n net)) ≡ length net
 one_fewer n [] up m = absurd (true≢false (sym m))
-one_fewer n (k ∷ rest) up m = by_case (k == n) refl (or_cases (k == n) (has_member n rest) m) (λ h. one_fewer n rest (Rise-rest k rest up) h) where
+one_fewer n (k ∷ rest) up m = by_case (k == n) refl (or_cases (k == n) (has_member n rest) m) (λ h. one_fewer n rest (Rise_rest k rest up) h) where
   by_case : (b : Bool) → (k == n) ≡ b → ((k == n) ≡ true) ⊎ (has_member n rest ≡ true) → (has_member n rest ≡ true → suc (length (others_in n rest)) ≡
       length rest) → suc (length (if not b then k ∷ others_in n rest else others_in n rest)) ≡ suc (length rest)
-  by_case true e where_ more = ap (λ l. suc l) (none-left n rest (λ i h same. let less = up.at 0 (suc i) 0 (omega arith) (omega (arith, h)) in
+  by_case true e where_ more = ap (λ l. suc l) (none_left n rest (λ i h same. let less = up.at 0 (suc i) 0 (omega arith) (omega (arith, h)) in
       let first = eqb-true k n e in omega (arith, less, same, first)))
   by_case false e (inl same) more = absurd (true≢false (sym same ∙ e))
   by_case false e (inr there) more = ap (λ l. suc l) (more there)

@@ -39,13 +39,13 @@ abbrev pub AllApart : Addr → List Addr → Type 0
 AllApart a [] = Unit {0}
 AllApart a (b ∷ rest) = (b ≢ a) × AllApart a rest
 
-not-at : (a : Addr) (others : List Addr) → AllApart a others → (k : ℕ) → k < length others → slice_index_or others k a ≡ a → ⊥
-not-at a [] off k few same = omega (arith, few)
-not-at a (b ∷ rest) off zero few same = off.0 same
-not-at a (b ∷ rest) off (suc k) few same = not-at a rest off.1 k (omega (arith, few)) same
+not_at : (a : Addr) (others : List Addr) → AllApart a others → (k : ℕ) → k < length others → slice_index_or others k a ≡ a → ⊥
+not_at a [] off k few same = omega (arith, few)
+not_at a (b ∷ rest) off zero few same = off.0 same
+not_at a (b ∷ rest) off (suc k) few same = not_at a rest off.1 k (omega (arith, few)) same
 
 pub not_among : (a : Addr) (others : List Addr) → AllApart a others → ¬ Contains others a
-not_among a others off c = not-at a others off c.0 c.1 c.2
+not_among a others off c = not_at a others off c.0 c.1 c.2
 
 -- a daemon of the examples
 pub serves : (letter : ℕ) (candidacy : Candidacy) (n : ℕ) (ports : List (List Addr)) → n < 256 → 97 ≤ letter → letter ≤ 122 → ArePeers ports →

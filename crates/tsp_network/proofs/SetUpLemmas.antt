@@ -7,7 +7,7 @@ use Rattle.std.proofs.lemmas.{Bool.lt-leb, Bool.ne_eqb, Bool.cases_lt, Bool.or_r
 use Rattle.std.proofs.lemmas.List.{Elements.All-head, Elements.All-tail, FromFn.length-map-range_with_len}
 use Rattle.std.specs.List.{range_with_len}
 use Rattle.tsp_base.specs.Words.{has_member, peer_of, Line, Step, is_among, others, first_port}
-use Rattle.tsp_base.proofs.AscendingLemmas.{Rise-numbers}
+use Rattle.tsp_base.proofs.AscendingLemmas.{Rise_numbers}
 use Rattle.tsp_gateway.specs.PortOf.{has_other_peer, port_of_from}
 use Rattle.tsp_io.specs.declared.addr.Addr.{Addr}
 use Rattle.tsp_rules.specs.Values.{Port, PeerId, Place, Peer, Stranger, Act, Post, Placed, Datagram}
@@ -59,14 +59,14 @@ setup_at done (suc r) (MoreLong {ps = ps} {ns = ns} {nss = nss} e a) h =
     done + (length ns + count_below r nss) = omega (arith, e) in same)
 
 -- a number above 0 that isn't among these numbers is no other peer of such a port
-not-other : (done count p : ℕ) → ((i : ℕ) → i < count → p ≢ done + 1 + i) → 0 < p → has_other_peer (peer_of p) (numbered_setup done count) ≡ false
-not-other done count p none some =
+not_other : (done count p : ℕ) → ((i : ℕ) → i < count → p ≢ done + 1 + i) → 0 < p → has_other_peer (peer_of p) (numbered_setup done count) ≡ false
+not_other done count p none some =
     let zero_off : (0 == p) ≡ false = ne_eqb 0 p (λ e. let bad : ⊥ = omega (arith, some, e) in bad) in
     let off = not_in_range (done + 1) count p none in
     rw (zero_off, off) refl
 
-is-other : (done count i : ℕ) → i < count → has_other_peer (peer_of (done + 1 + i)) (numbered_setup done count) ≡ true
-is-other done count i h =
+is_other : (done count i : ℕ) → i < count → has_other_peer (peer_of (done + 1 + i)) (numbered_setup done count) ≡ true
+is_other done count i h =
     let zero_off : (0 == (done + 1 + i)) ≡ false = ne_eqb 0 (done + 1 + i) (λ e. let bad : ⊥ = omega (arith, e) in bad) in
     let on = is_in_range (done + 1) count i h in
     rw (zero_off, on) refl
@@ -79,12 +79,12 @@ port_found k done r i p NoneLong h few is = absurd (omega (arith, h))
 port_found k done zero i p (MoreLong {ps = ps} {pss = pss} e a) h few is =
     let same : p ≡ done + 1 + i = omega (arith, is) in
     let on : has_other_peer (peer_of p) (numbered_setup done (length ps)) ≡ true = subst (λ z. has_other_peer (peer_of z) (numbered_setup done (length ps)) ≡
-    true) (sym same) (is-other done (length ps) i (omega (arith, few, e))) in
+    true) (sym same) (is_other done (length ps) i (omega (arith, few, e))) in
     ap (λ b. (if b then record { 0 = k } else port_of_from (k + 1) (peer_of p) (setups_from (done + length ps) pss)).0) on ∙
     (let z : k ≡ k + 0 = omega arith in z)
 port_found k done (suc r) i p (MoreLong {ps = ps} {ns = ns} {pss = pss} {nss = nss} e a) h few is =
     let off : has_other_peer (peer_of p) (numbered_setup done (length ps)) ≡ false =
-    not-other done (length ps) p (λ j low same. let bad : ⊥ = omega (arith, is, e, low, same) in bad) (omega (arith, is)) in
+    not_other done (length ps) p (λ j low same. let bad : ⊥ = omega (arith, is, e, low, same) in bad) (omega (arith, is)) in
     ap (λ b. (if b then record { 0 = k } else port_of_from (k + 1) (peer_of p) (setups_from (done + length ps) pss)).0) off
     ∙ port_found (k + 1) (done + length ps) r i p a (omega (arith, h)) few (omega (arith, is, e))
     ∙ (let z : (k + 1) + r ≡ k + suc r = omega arith in z)
@@ -113,8 +113,8 @@ abbrev pub daemon_ports : Daemons → ℕ → List PortSetup
 daemon_ports d n = setups_from 0 (addresses d.address n 0 (networks d.header))
 
 -- equal places have equal numbers
-pub place-of : {p q : PeerId} → Peer p ≡ Peer q → p.0 ≡ q.0
-place-of e = cc
+pub place_of : {p q : PeerId} → Peer p ≡ Peer q → p.0 ≡ q.0
+place_of e = cc
 
 -- a send is a post's, and goes where it goes, which isn't back to its node
 pub record Matches (d : Daemons) (s : Sent) (p : Posted) : Type 0 where
@@ -137,22 +137,22 @@ match_length d NoneMatch = refl
 match_length d (MoreMatch m a) = ap (λ k. suc k) (match_length d a)
 
 -- a send that wasn't tried matches the same post
-unsent-match : (d : Daemons) {s : Sent} {p : Posted} → Matches d s p → Matches d (unsent s) p
-unsent-match d m = record { sent = record { from = m.sent.from; to = m.sent.to; octets = m.sent.octets }; goes = m.goes; away = m.away }
+unsent_match : (d : Daemons) {s : Sent} {p : Posted} → Matches d s p → Matches d (unsent s) p
+unsent_match d m = record { sent = record { from = m.sent.from; to = m.sent.to; octets = m.sent.octets }; goes = m.goes; away = m.away }
 
-none-match : (d : Daemons) {ss : List Sent} {ps : List Posted} → AllMatch d ss ps → AllMatch d (map unsent ss) ps
-none-match d NoneMatch = NoneMatch
-none-match d (MoreMatch m a) = MoreMatch (unsent-match d m) (none-match d a)
+none_match : (d : Daemons) {ss : List Sent} {ps : List Posted} → AllMatch d ss ps → AllMatch d (map unsent ss) ps
+none_match d NoneMatch = NoneMatch
+none_match d (MoreMatch m a) = MoreMatch (unsent_match d m) (none_match d a)
 
-first-match : (d : Daemons) (n : ℕ) {ss : List Sent} {ps : List Posted} → AllMatch d ss ps → AllMatch d (first_sent n ss) ps
-first-match d zero a = none-match d a
-first-match d (suc n) NoneMatch = NoneMatch
-first-match d (suc n) (MoreMatch m a) = MoreMatch m (first-match d n a)
+first_match : (d : Daemons) (n : ℕ) {ss : List Sent} {ps : List Posted} → AllMatch d ss ps → AllMatch d (first_sent n ss) ps
+first_match d zero a = none_match d a
+first_match d (suc n) NoneMatch = NoneMatch
+first_match d (suc n) (MoreMatch m a) = MoreMatch m (first_match d n a)
 
 -- so do all of a turn in which a daemon ended
 pub until_match : (d : Daemons) (o : Option ℕ) {ss : List Sent} {ps : List Posted} → AllMatch d ss ps → AllMatch d (sent_until o ss) ps
 until_match d None a = a
-until_match d (Some n) a = first-match d n a
+until_match d (Some n) a = first_match d n a
 
 -- the post of a send
 pub record MatchedAt (d : Daemons) (s : Sent) (ps : List Posted) (k : ℕ) : Type 0 where
@@ -203,9 +203,9 @@ module _ (d : Daemons) (is : IsSetUp d.header) (n : ℕ) where
       setup_at 0 q long (omega (arith, has, all)) ∙ ap (λ k. numbered_setup k (length (neighbours_on n q nets)))
       (let e : 0 + count_below q (neighbours n nets) ≡ count_below q (neighbours n nets) = omega arith in e)
 
-  alike-port : (origin : ℕ) (q : Port) → q.0 < length (ports_on n nets) → AlikeSetup (renaming_on nets n origin q)
+  alike_port : (origin : ℕ) (q : Port) → q.0 < length (ports_on n nets) → AlikeSetup (renaming_on nets n origin q)
       (numbered_setup (count_below q.0 (neighbours n nets)) (length (neighbours_on n q.0 nets))) (slice_index_or (ports_on n nets) q.0 no_port)
-  alike-port origin q has =
+  alike_port origin q has =
       let p = port_is (length d.header.nodes) n q.0 nets (header_nets d.header is) has in
       let done : ℕ = count_below q.0 (neighbours n nets) in
       let nodes : List ℕ = neighbours_on n q.0 nets in
@@ -215,7 +215,7 @@ module _ (d : Daemons) (is : IsSetUp d.header) (n : ℕ) where
         others_are = others_on n p.net ∙ ap (map peer_of) (sym p.nodes) ∙ sym (range_named r.peer (done + 1) nodes
             (λ i h. ap peer_of (named_member n done nodes i h))) ∙ ap (map r.peer) (sym (others_above (done + 1) (length nodes) (omega arith)));
         count = (let one = length-map p.net peer_of in let two = length-map-range_with_len peer_of (done + 1) (length nodes) in
-            let three = one_fewer n p.net (Rise-numbers p.net p.good.rising) p.member in let four : length nodes ≡ length (others_in n p.net) =
+            let three = one_fewer n p.net (Rise_numbers p.net p.good.rising) p.member in let four : length nodes ≡ length (others_in n p.net) =
             ap (λ l. length l) p.nodes in omega (arith, one, two, three, four));
       })
 
@@ -237,7 +237,7 @@ module _ (d : Daemons) (is : IsSetUp d.header) (n : ℕ) where
             subst (λ k. AlikeSetup r (port_setup q p) (slice_index_or (ports_on k nets) q.0 no_port)) (sym node)
             (subst (λ (l : List PortSetup). AlikeSetup r (slice_index_or l q.0 no_port) (slice_index_or (ports_on n nets) q.0 no_port)) (sym ports)
             (subst (λ (k : PortSetup). AlikeSetup r k (slice_index_or (ports_on n nets) q.0 no_port)) (sym (daemon_port q.0 there))
-            (alike-port origin q there)));
+            (alike_port origin q there)));
       }
 
   -- the other peers of a port have the numbers of its segment
@@ -268,16 +268,16 @@ module _ (d : Daemons) (is : IsSetUp d.header) (n : ℕ) where
     pub names : named_node n (count_below q.0 (neighbours n nets)) (neighbours_on n q.0 nets) num ≡ m
 
   -- its own number
-  found-own : (q : Port) → q.0 ≡ 0 → q.0 < length (ports_on n nets) → Found q n 0
-  found-own q first has = record {
+  found_own : (q : Port) → q.0 ≡ 0 → q.0 < length (ports_on n nets) → Found q n 0
+  found_own q first has = record {
     port = port_own 0 0 (addresses d.address n 0 nets) ∙ sym first;
     among = subst (λ (s : PortSetup). is_among (peer_of 0) s.peers ≡ true) (sym (daemon_port q.0 has)) refl;
     names = refl;
   }
 
   -- that of a neighbour
-  found-neighbour : (q : Port) (m : ℕ) → has_member m (neighbours_on n q.0 nets) ≡ true → q.0 < length (ports_on n nets) → Found q m (number_for n q.0 m nets)
-  found-neighbour q m member has =
+  found_neighbour : (q : Port) (m : ℕ) → has_member m (neighbours_on n q.0 nets) ≡ true → q.0 < length (ports_on n nets) → Found q m (number_for n q.0 m nets)
+  found_neighbour q m member has =
       let nodes : List ℕ = neighbours_on n q.0 nets in
       let done : ℕ = count_below q.0 (neighbours n nets) in
       let p = place_is m nodes member in
@@ -301,18 +301,18 @@ module _ (d : Daemons) (is : IsSetUp d.header) (n : ℕ) where
   found q m (inl own) has =
       let number : number_for n q.0 m.0 nets ≡ 0 = ap (λ b. if b then 0 else count_below q.0 (neighbours n nets) + 1 + place_in m.0 (neighbours_on n q.0 nets))
       (eq-eqb m.0 n own.0) in
-      subst (λ k. Found q k (number_for n q.0 m.0 nets)) (sym own.0) (subst (λ k. Found q n k) (sym number) (found-own q own.1 has))
-  found q m (inr member) has = found-neighbour q m.0 member has
+      subst (λ k. Found q k (number_for n q.0 m.0 nets)) (sym own.0) (subst (λ k. Found q n k) (sym number) (found_own q own.1 has))
+  found q m (inr member) has = found_neighbour q m.0 member has
 
   -- so a daemon is given what its node is
   pub record ComesAs (origin : ℕ) (q : Port) (from : Place) (octets : List ℕ) (past : NodePast) : Type 0 where
     pub same : renamed_given (renaming_on nets n origin) (given_of past.ports (Some (sender_for nets n q from, octets))) ≡ GotOn q from (taken_of octets)
     pub comes : ComesOn past (given_of past.ports (Some (sender_for nets n q from, octets)))
 
-  by-port : (origin : ℕ) (q r : Port) (from place : Place) (octets : List ℕ) → r ≡ q → renamed_place (renaming_on nets n origin q) place ≡ from →
+  by_port : (origin : ℕ) (q r : Port) (from place : Place) (octets : List ℕ) → r ≡ q → renamed_place (renaming_on nets n origin q) place ≡ from →
       length octets ≤ 512 →
       renamed_given (renaming_on nets n origin) (GotOn r place (taken_of (take 512 octets))) ≡ GotOn q from (taken_of octets)
-  by-port origin q r from place octets port names few =
+  by_port origin q r from place octets port names few =
       ap (λ z. renamed_given (renaming_on nets n origin) (GotOn z place (taken_of (take 512 octets)))) port
       ∙ ap (λ z. GotOn q z (taken_of (take 512 octets))) names ∙ ap (λ z. GotOn q from (taken_of z)) (take_all 512 octets few)
 
@@ -324,7 +324,7 @@ module _ (d : Daemons) (is : IsSetUp d.header) (n : ℕ) where
   comes_as origin q Stranger octets past ports may has few =
       let port : first_port ≡ q = port_named first_port q (sym may) in
       record {
-        same = by-port origin q first_port Stranger Stranger octets port refl few;
+        same = by_port origin q first_port Stranger Stranger octets port refl few;
         comes = (let all = count past ports in omega (arith, has, all));
       }
   comes_as origin q (Peer m) octets past ports may has few =
@@ -333,7 +333,7 @@ module _ (d : Daemons) (is : IsSetUp d.header) (n : ℕ) where
       let port : port_from past.ports (Peer (peer_of num)) ≡ q = port_named (port_from past.ports (Peer (peer_of num))) q
       (ap (λ (l : List PortSetup). (port_of_from 0 (peer_of num) l).0) ports ∙ f.port) in
       record {
-        same = by-port origin q (port_from past.ports (Peer (peer_of num))) (Peer m) (Peer (peer_of num)) octets port (ap (λ k. Peer (peer_of k)) f.names) few;
+        same = by_port origin q (port_from past.ports (Peer (peer_of num))) (Peer m) (Peer (peer_of num)) octets port (ap (λ k. Peer (peer_of k)) f.names) few;
         comes = subst (λ (r : Port). (r.0 < length past.ports) × (is_among (peer_of num) (port_setup r past).peers ≡ true)) (sym port) (
           (let all = count past ports in omega (arith, has, all)),
           subst (λ (l : List PortSetup). is_among (peer_of num) (slice_index_or l q.0 no_port).peers
@@ -371,7 +371,7 @@ module _ (d : Daemons) (is : IsSetUp d.header) (n : ℕ) where
               ap (send_address nets n num.0) found;
           away = λ a e same.
               let to = (goes_there nets n port (Peer ((renaming_on nets n origin port).peer num)) a e).to_is in
-              (is_roster port.0).apart g.i g.few (sym named_is ∙ place-of to ∙ same);
+              (is_roster port.0).apart g.i g.few (sym named_is ∙ place_of to ∙ same);
         }
 
     act-matches : (at : ℕ) (port : Port) (act : Act) → Knows (naming port) act → AllMatch d (map (sent_by n) (send_of act))

@@ -23,58 +23,58 @@ record Ahead (tr : List Tried) (wr : List ℕ) (arrivals : List Arrival) (readin
 
 module _ {tr : List Tried} {wr : List ℕ} {arrivals : List Arrival} {readings : List ℕ} {whole told : Session} (h : Ahead tr wr arrivals readings whole told)
     (a : Arrival) (left : List Arrival) (e t : ℕ) (more : List ℕ) (came : told.outside.arrivals ≡ a ∷ left) (read : told.outside.readings ≡ e ∷ t ∷ more) where
-  given-same : given_in whole ≡ given_in told
-  given-same =
+  given_same : given_in whole ≡ given_in told
+  given_same =
       ap (λ (p : NodePast). given_of p.ports (next_arrival whole.outside.arrivals)) h.past
       ∙ ap (λ l. given_of told.past.ports (next_arrival l)) (h.arrivals_are ∙ ap (λ l. l ++ arrivals) came)
       ∙ sym (ap (λ l. given_of told.past.ports (next_arrival l)) came)
 
-  tick-same : turn_tick whole ≡ turn_tick told
-  tick-same =
+  tick_same : turn_tick whole ≡ turn_tick told
+  tick_same =
       ap (λ l. tick_given (tick_given whole.outside.last l 0) (all_but_first l) 0) (h.readings_are ∙ ap (λ l. l ++ readings) read)
       ∙ sym (ap (λ l. tick_given (tick_given told.outside.last l 0) (all_but_first l) 0) read)
 
   -- both do the same in this turn
-  acts-same : acts_in_turn whole ≡ acts_in_turn told
-  acts-same =
-      ap (λ g. answers_all g (turn_tick whole) (turn_begun g (turn_tick whole) whole.past)) given-same
-      ∙ ap (λ x. answers_all (given_in told) x (turn_begun (given_in told) x whole.past)) tick-same
+  acts_same : acts_in_turn whole ≡ acts_in_turn told
+  acts_same =
+      ap (λ g. answers_all g (turn_tick whole) (turn_begun g (turn_tick whole) whole.past)) given_same
+      ∙ ap (λ x. answers_all (given_in told) x (turn_begun (given_in told) x whole.past)) tick_same
       ∙ ap (λ p. answers_all (given_in told) (turn_tick told) (turn_begun (given_in told) (turn_tick told) p)) h.past
 
-  past-same : past_after whole ≡ past_after told
-  past-same =
-      ap (λ acts. spread (turn_tick whole) (turn_begun (given_in whole) (turn_tick whole) whole.past) acts) acts-same
-      ∙ ap (λ g. spread (turn_tick whole) (turn_begun g (turn_tick whole) whole.past) (acts_in_turn told)) given-same
-      ∙ ap (λ x. spread x (turn_begun (given_in told) x whole.past) (acts_in_turn told)) tick-same
+  past_same : past_after whole ≡ past_after told
+  past_same =
+      ap (λ acts. spread (turn_tick whole) (turn_begun (given_in whole) (turn_tick whole) whole.past) acts) acts_same
+      ∙ ap (λ g. spread (turn_tick whole) (turn_begun g (turn_tick whole) whole.past) (acts_in_turn told)) given_same
+      ∙ ap (λ x. spread x (turn_begun (given_in told) x whole.past) (acts_in_turn told)) tick_same
       ∙ ap (λ p. spread (turn_tick told) (turn_begun (given_in told) (turn_tick told) p) (acts_in_turn told)) h.past
 
-  shown-same : shown_by_turn whole ≡ shown_by_turn told
-  shown-same =
+  shown_same : shown_by_turn whole ≡ shown_by_turn told
+  shown_same =
       ap (λ (p : NodePast). shown_lines (tracing (dids p.lines) || tracing (dids (past_after whole).lines)) (whole.turns + 1) (turn_tick whole) whole.posts
       (acts_in_turn whole)) h.past
       ∙ ap (λ (p : NodePast). shown_lines (tracing (dids told.past.lines) || tracing (dids p.lines)) (whole.turns + 1) (turn_tick whole) whole.posts
-      (acts_in_turn whole)) past-same
+      (acts_in_turn whole)) past_same
       ∙ ap (λ n. shown_lines (tracing (dids told.past.lines) || tracing (dids (past_after told).lines)) (n + 1) (turn_tick whole) whole.posts
       (acts_in_turn whole)) h.turns
       ∙ ap (λ x. shown_lines (tracing (dids told.past.lines) || tracing (dids (past_after told).lines)) (told.turns + 1) x whole.posts (acts_in_turn whole))
-      tick-same
+      tick_same
       ∙ ap (λ n. shown_lines (tracing (dids told.past.lines) || tracing (dids (past_after told).lines)) (told.turns + 1) (turn_tick told) n
       (acts_in_turn whole)) h.posts
       ∙ ap (λ acts. shown_lines (tracing (dids told.past.lines) || tracing (dids (past_after told).lines)) (told.turns + 1) (turn_tick told) told.posts acts)
-      acts-same
+      acts_same
 
   -- and are as far after it
-  ahead-turned : Ahead tr wr arrivals readings (turned whole) (turned told)
-  ahead-turned = record {
-    past = past-same;
+  ahead_turned : Ahead tr wr arrivals readings (turned whole) (turned told)
+  ahead_turned = record {
+    past = past_same;
     arrivals_are = ap (λ l. all_but_first l) (h.arrivals_are ∙ ap (λ l. l ++ arrivals) came) ∙ sym (ap (λ l. all_but_first l ++ arrivals) came);
     readings_are = ap (λ l. all_but_first (all_but_first l)) (h.readings_are ∙ ap (λ l. l ++ readings) read) ∙
         sym (ap (λ l. all_but_first (all_but_first l) ++ readings) read);
-    tried = ap (λ l. l ++ sends_of (acts_in_turn whole)) h.tried ∙ ap (λ acts. (tr ++ told.outside.tried) ++ sends_of acts) acts-same ∙
+    tried = ap (λ l. l ++ sends_of (acts_in_turn whole)) h.tried ∙ ap (λ acts. (tr ++ told.outside.tried) ++ sends_of acts) acts_same ∙
         append_assoc tr told.outside.tried (sends_of (acts_in_turn told));
     turns = ap (λ n. n + 1) h.turns;
-    posts = ap (λ n. n + length (sends_of (acts_in_turn whole))) h.posts ∙ ap (λ acts. told.posts + length (sends_of acts)) acts-same;
-    shown = ap (λ l. l ++ shown_by_turn whole) h.shown ∙ ap (λ l. (wr ++ told.written) ++ l) shown-same ∙ append_assoc wr told.written (shown_by_turn told);
+    posts = ap (λ n. n + length (sends_of (acts_in_turn whole))) h.posts ∙ ap (λ acts. told.posts + length (sends_of acts)) acts_same;
+    shown = ap (λ l. l ++ shown_by_turn whole) h.shown ∙ ap (λ l. (wr ++ told.written) ++ l) shown_same ∙ append_assoc wr told.written (shown_by_turn told);
   }
 
 -- both sessions after k of n turns that were told
@@ -104,11 +104,11 @@ module _ {tr : List Tried} {wr : List ℕ} {arrivals : List Arrival} {readings :
     by_lists (a ∷ left) (e ∷ []) came read few some = absurd (omega (arith, some, later))
     by_lists (a ∷ left) (e ∷ t ∷ more) came read few some = record { a = a; left = left; e = e; t = t; more = more; came = came; read = read }
 
-  next-acts : acts_in_turn whole ≡ acts_in_turn told
-  next-acts = acts-same h.ahead next.a next.left next.e next.t next.more next.came next.read
+  next_acts : acts_in_turn whole ≡ acts_in_turn told
+  next_acts = acts_same h.ahead next.a next.left next.e next.t next.more next.came next.read
 
-  next-at : At tr wr arrivals readings n (suc k) (turned whole) (turned told)
-  next-at =
+  next_at : At tr wr arrivals readings n (suc k) (turned whole) (turned told)
+  next_at =
       let m = next in
       let few = h.arrivals_left in
       let some = h.readings_left in
@@ -117,15 +117,15 @@ module _ {tr : List Tried} {wr : List ℕ} {arrivals : List Arrival} {readings :
       let left : length (all_but_first told.outside.arrivals) ≡ length m.left = ap (λ l. length (all_but_first l)) m.came in
       let more : length (all_but_first (all_but_first told.outside.readings)) ≡ length m.more = ap (λ l. length (all_but_first (all_but_first l))) m.read in
       record {
-        ahead = ahead-turned h.ahead m.a m.left m.e m.t m.more m.came m.read;
+        ahead = ahead_turned h.ahead m.a m.left m.e m.t m.more m.came m.read;
         arrivals_left = omega (arith, few, came, left);
         readings_left = omega (arith, some, read, more);
       }
 
 module _ (s : ServeWords) (o : Outside) (wall : ℤ) (word : ℕ) (written : List ℕ) (life : Life) (told : IsTold o wall word life) where
-  first-at : At o.tried written told.arrivals_left told.readings_left (length life.arrivals) 0 (first_session s (after_bind o) wall word written)
+  first_at : At o.tried written told.arrivals_left told.readings_left (length life.arrivals) 0 (first_session s (after_bind o) wall word written)
       (first_session s (after_bind (outside_of life)) life.wall life.word [])
-  first-at = by_readings life.readings refl where
+  first_at = by_readings life.readings refl where
     by_readings : (l : List ℕ) → life.readings ≡ l → At o.tried written told.arrivals_left told.readings_left (length life.arrivals) 0
         (first_session s (after_bind o) wall word written) (first_session s (after_bind (outside_of life)) life.wall life.word [])
     by_readings [] e =
@@ -153,23 +153,23 @@ module _ (s : ServeWords) (o : Outside) (wall : ℤ) (word : ℕ) (written : Lis
           readings_left = omega (arith, count, some, left);
         }
 
-  after-at : (k : ℕ) → k ≤ length life.arrivals → At o.tried written told.arrivals_left told.readings_left (length life.arrivals) k
+  after_at : (k : ℕ) → k ≤ length life.arrivals → At o.tried written told.arrivals_left told.readings_left (length life.arrivals) k
       (after_turns k (first_session s (after_bind o) wall word written)) (after_turns k (first_session s (after_bind (outside_of life)) life.wall life.word []))
-  after-at zero few = first-at
-  after-at (suc k) few = next-at (after-at k (omega (arith, few))) few
+  after_at zero few = first_at
+  after_at (suc k) few = next_at (after_at k (omega (arith, few))) few
 
-sessions-far : (s : ServeWords) (o : Outside) (wall : ℤ) (word : ℕ) (written : List ℕ) (life : Life) → IsTold o wall word life →
+sessions_far : (s : ServeWords) (o : Outside) (wall : ℤ) (word : ℕ) (written : List ℕ) (life : Life) → IsTold o wall word life →
     ComesAsFar o written (told_session s o wall word written life) (session_of s life)
-sessions-far s o wall word written life told =
-    let a = (after-at s o wall word written life told (length life.arrivals) (omega arith)).ahead in
+sessions_far s o wall word written life told =
+    let a = (after_at s o wall word written life told (length life.arrivals) (omega arith)).ahead in
     record { past = a.past; tried = a.tried; turns = a.turns; posts = a.posts; shown = a.shown }
 
-sessions-act : (s : ServeWords) (o : Outside) (wall : ℤ) (word : ℕ) (written : List ℕ) (life : Life) (arrival : Arrival) (early tick : ℕ) →
+sessions_act : (s : ServeWords) (o : Outside) (wall : ℤ) (word : ℕ) (written : List ℕ) (life : Life) (arrival : Arrival) (early tick : ℕ) →
     IsTold o wall word life → IsTold o wall word (turn_told arrival early tick life) →
     acts_in_turn (told_session s o wall word written life) ≡ turn_acts s life (turn_told arrival early tick life)
-sessions-act s o wall word written life arrival early tick told later =
+sessions_act s o wall word written life arrival early tick told later =
     let more = length-append life.arrivals (arrival ∷ []) in
-    next-acts (after-at s o wall word written (turn_told arrival early tick life) later (length life.arrivals) (omega (arith, more))) (omega (arith, more))
+    next_acts (after_at s o wall word written (turn_told arrival early tick life) later (length life.arrivals) (omega (arith, more))) (omega (arith, more))
 
 pub sessions_are_told : SessionsAreTold
-sessions_are_told = record { far = sessions-far; acts = sessions-act }
+sessions_are_told = record { far = sessions_far; acts = sessions_act }

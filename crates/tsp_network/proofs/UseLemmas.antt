@@ -89,18 +89,18 @@ pub record GoesAstray : Type 0 where
   pub acts_are : acts_by three_nodes history (answers_all (GotOn first_port (Peer (peer 0)) (taken_of (canon set_time)))) stray_step ≡ stray_acts
 
 -- the tick for which the last line of a history arms an alarm
-abbrev armed-at : Deed → ℕ
-armed-at (Acts (Arm alarm tick)) = tick
-armed-at _ = 0
+abbrev armed_at : Deed → ℕ
+armed_at (Acts (Arm alarm tick)) = tick
+armed_at _ = 0
 
-abbrev last-armed : List Line → ℕ
-last-armed [] = 0
-last-armed (l ∷ before) = armed-at l.did.deed
+abbrev last_armed : List Line → ℕ
+last_armed [] = 0
+last_armed (l ∷ before) = armed_at l.did.deed
 
 -- the port of the last line
-abbrev last-port : List Line → ℕ
-last-port [] = 0
-last-port (l ∷ before) = l.port.0
+abbrev last_port : List Line → ℕ
+last_port [] = 0
+last_port (l ∷ before) = l.port.0
 
 -- what is known of the runs and of what the daemon does
 pub record IsBroken : Type 0 where
@@ -254,9 +254,9 @@ computed = record {
     acts_are = refl;
   };
   broken = record {
-    late = λ same. (let bad : 80000005 ≡ 80000000 = ap last-armed same in omega (arith, bad));
-    stranger = λ same. (let bad : 0 ≡ 1 = ap last-port same in omega (arith, bad));
-    own = λ same. (let bad : 0 ≡ 1 = ap last-port same in omega (arith, bad));
+    late = λ same. (let bad : 80000005 ≡ 80000000 = ap last_armed same in omega (arith, bad));
+    stranger = λ same. (let bad : 0 ≡ 1 = ap last_port same in omega (arith, bad));
+    own = λ same. (let bad : 0 ≡ 1 = ap last_port same in omega (arith, bad));
     starts = (refl, tt);
     start_posts = refl;
     from_stranger = (refl, (refl, tt));

@@ -26,9 +26,9 @@ first n nets None = refl
 first n nets (Some k) = refl
 
 -- before the first network
-pub beside-all : (n m : ℕ) (port : Port) (nets : List (List ℕ)) → beside n m port.0 0 0 0 nets ≡ port_at n (network_at m port nets) nets
+pub beside_all : (n m : ℕ) (port : Port) (nets : List (List ℕ)) → beside n m port.0 0 0 0 nets ≡ port_at n (network_at m port nets) nets
 unfolding beside
-beside-all n m port nets = first n nets (network_at m port nets)
+beside_all n m port nets = first n nets (network_at m port nets)
 
 found : (n m o p i : ℕ) (net : List ℕ) (rest : List (List ℕ)) → has_member m net ≡ true → beside n m p o p i (net ∷ rest) ≡
     (if has_member n net then Some o else None)
@@ -36,9 +36,9 @@ unfolding beside port_left
 found n m o p i net rest is = rw (is, eq-eqb p p refl, eq-eqb i i refl) refl
 
 -- at the network of that port
-pub beside-found : (n m q o p i : ℕ) (net : List ℕ) (rest left : List (List ℕ)) (all : Option ℕ) → left ≡ net ∷ rest → has_member m net ≡ true → p ≡ q →
+pub beside_found : (n m q o p i : ℕ) (net : List ℕ) (rest left : List (List ℕ)) (all : Option ℕ) → left ≡ net ∷ rest → has_member m net ≡ true → p ≡ q →
     beside n m q o p i left ≡ all → (if has_member n net then Some o else None) ≡ all
-beside-found n m q o p i net rest left all here is at before =
+beside_found n m q o p i net rest left all here is at before =
     sym (found n m o p i net rest is) ∙ ap (λ l. beside n m p o p i l) (sym here) ∙ subst (λ r. beside n m r o p i left ≡ all) (sym at) before
 
 -- the networks that are left begin with the next one
@@ -60,18 +60,18 @@ passed n m q o p i net rest (Some k) is =
     rw later (counted n k o i rest (has_member n net))
 
 -- past a network on which m has another port
-pub beside-other : (n m q o p i : ℕ) (net : List ℕ) (rest : List (List ℕ)) → has_member m net ≡ true → (p == q) ≡ false → beside n m q o p i (net ∷ rest) ≡
+pub beside_other : (n m q o p i : ℕ) (net : List ℕ) (rest : List (List ℕ)) → has_member m net ≡ true → (p == q) ≡ false → beside n m q o p i (net ∷ rest) ≡
     beside n m q (with_port n net o) (p + 1) (i + 1) rest
 unfolding beside
-beside-other n m q o p i net rest is other = rw (is, other) (passed n m q o (p + 1) i net rest (network_from m q (p + 1) (i + 1) rest) refl)
+beside_other n m q o p i net rest is other = rw (is, other) (passed n m q o (p + 1) i net rest (network_from m q (p + 1) (i + 1) rest) refl)
 
 -- past a network on which m isn't
-pub beside-past : (n m q o p i : ℕ) (net : List ℕ) (rest : List (List ℕ)) → has_member m net ≡ false → beside n m q o p i (net ∷ rest) ≡
+pub beside_past : (n m q o p i : ℕ) (net : List ℕ) (rest : List (List ℕ)) → has_member m net ≡ false → beside n m q o p i (net ∷ rest) ≡
     beside n m q (with_port n net o) p (i + 1) rest
 unfolding beside
-beside-past n m q o p i net rest isnt = rw isnt (passed n m q o p i net rest (network_from m q p (i + 1) rest) refl)
+beside_past n m q o p i net rest isnt = rw isnt (passed n m q o p i net rest (network_from m q p (i + 1) rest) refl)
 
 -- after the last network
-pub beside-none : (n m q o p i : ℕ) → beside n m q o p i [] ≡ None
+pub beside_none : (n m q o p i : ℕ) → beside n m q o p i [] ≡ None
 unfolding beside port_left
-beside-none n m q o p i = refl
+beside_none n m q o p i = refl

@@ -6,7 +6,7 @@ use Rattle.tsp_rules.specs.Values.{Ring, Late, Placed, Alarm, Quiet, Window, Ele
 use Rattle.tsp_rules.specs.Answers.{alarm_rings, rings, due_alarms, rings_alone, rings_each}
 use Rattle.tsp_rules.specs.{RoundRows.begins_or_waits, RoundRows.corrects, RoundRows.round_rings, CandidateRows.window_rings}
 use Rattle.tsp_rules.specs.{ResolveRows.resolve_rings, Guards.is_due, Guards.is_in_time, Guards.is_over, GateRows.is_probe}
-use Rattle.tsp_rules.proofs.{BuiltShared.standing_sorts, EmitsBuilt.emits_built, EmitsStill.corrects-none, EmitsStill.still_sorts}
+use Rattle.tsp_rules.proofs.{BuiltShared.standing_sorts, EmitsBuilt.emits_built, EmitsStill.corrects_none, EmitsStill.still_sorts}
 use Rattle.tsp_rules.proofs.BuiltRoles.{built_resolve_rings, built_elect_rings, built_quiet_rings, built_search_rings, built_window_rings}
 use Rattle.tsp_rules.proofs.Emits.{Alarming, Emits, Emits_arms, Emits_either, Emits_more, Emits_puts, Emits_then}
 use Rattle.tsp_rules.proofs.CalmAlarms.{moves_by}
@@ -58,24 +58,24 @@ abbrev are_probed : Bool → List Alarm → Bool
 are_probed probed [] = true
 are_probed probed (a ∷ rest) = (not (moves_by a) || probed) && are_probed (is_probe a) rest
 
-a-probe : (a : Alarm) → is_probe a ≡ true → a ≡ Probe
-a-probe Probe e = refl
-a-probe _ e = absurd (false≢true e)
+a_probe : (a : Alarm) → is_probe a ≡ true → a ≡ Probe
+a_probe Probe e = refl
+a_probe _ e = absurd (false≢true e)
 
 -- what comes right before a Close of these alarms
-close-after : (alarms : List Alarm) (i : ℕ) (probed : Bool) → are_probed probed alarms ≡ true → slice_index_or alarms (suc i) Quiet ≡ CloseAlarm →
+close_after : (alarms : List Alarm) (i : ℕ) (probed : Bool) → are_probed probed alarms ≡ true → slice_index_or alarms (suc i) Quiet ≡ CloseAlarm →
     slice_index_or alarms i Quiet ≡ Probe
-close-after [] i probed e is = let bad : ⊥ = cc in absurd bad
-close-after (a ∷ []) zero probed e is = let bad : ⊥ = cc in absurd bad
-close-after (a ∷ b ∷ rest) zero probed e is =
+close_after [] i probed e is = let bad : ⊥ = cc in absurd bad
+close_after (a ∷ []) zero probed e is = let bad : ⊥ = cc in absurd bad
+close_after (a ∷ b ∷ rest) zero probed e is =
     let later = (and_parts (not (moves_by a) || probed) (are_probed (is_probe a) (b ∷ rest)) e).1 in
-    a-probe a (and_parts (is_probe a) (are_probed (is_probe b) rest) (subst (λ z. ((not (moves_by z) || is_probe a) && are_probed (is_probe b) rest) ≡
+    a_probe a (and_parts (is_probe a) (are_probed (is_probe b) rest) (subst (λ z. ((not (moves_by z) || is_probe a) && are_probed (is_probe b) rest) ≡
     true) is later)).0
-close-after (a ∷ rest) (suc i) probed e is = close-after rest i (is_probe a) (and_parts (not (moves_by a) || probed) (are_probed (is_probe a) rest) e).1 is
+close_after (a ∷ rest) (suc i) probed e is = close_after rest i (is_probe a) (and_parts (not (moves_by a) || probed) (are_probed (is_probe a) rest) e).1 is
 
 -- the Close comes right after the Probe
 pub close_after_probe : (i : ℕ) → slice_index_or ALL (i + 1) Quiet ≡ CloseAlarm → slice_index_or ALL i Quiet ≡ Probe
-close_after_probe i e = let one : i + 1 ≡ suc i = omega arith in close-after ALL i false refl (ap (λ k. slice_index_or ALL k Quiet) (sym one) ∙ e)
+close_after_probe i e = let one : i + 1 ≡ suc i = omega arith in close_after ALL i false refl (ap (λ k. slice_index_or ALL k Quiet) (sym one) ∙ e)
 
 -- whether an alarm is due, as the station has it
 due_is : (alarm : Alarm) (x : ℕ) (past : Past) (state : PortValue) → PortUntaken past state → is_due alarm x past ≡
@@ -135,12 +135,12 @@ waits true e = refl
 waits false e = absurd (false≢true (sym e))
 
 -- a master's alarm has its row
-pub master_rings-is : (own wait : Bool) (alarm : Alarm) → is_of_master wait alarm ≡ true → master_rings own alarm ≡ alarm_rings own wait alarm
+pub master_rings_is : (own wait : Bool) (alarm : Alarm) → is_of_master wait alarm ≡ true → master_rings own alarm ≡ alarm_rings own wait alarm
 unfolding master_rings alarm_rings
-master_rings-is own wait Probe e = refl
-master_rings-is own wait CloseAlarm e = refl
-master_rings-is own false Round e = refl
-master_rings-is own _ _ e = absurd (false≢true e)
+master_rings_is own wait Probe e = refl
+master_rings_is own wait CloseAlarm e = refl
+master_rings_is own false Round e = refl
+master_rings_is own _ _ e = absurd (false≢true e)
 
 -- what an alarm of a port that is Starting, Loose or follows puts
 pub slave_alarm : (own wait : Bool) (alarm : Alarm) → is_of_slave alarm ≡ true → Emits standing_sorts (alarm_rings own wait alarm)
@@ -151,26 +151,26 @@ slave_alarm own wait Elect e = emits_built refl built_elect_rings
 slave_alarm own wait _ e = absurd (false≢true e)
 
 -- one that the slave handles has the slave's row
-pub slave_rings-is : (own wait : Bool) (alarm : Alarm) → is_of_slave alarm ≡ true → alarm ≢ Elect → slave_rings alarm ≡ alarm_rings own wait alarm
+pub slave_rings_is : (own wait : Bool) (alarm : Alarm) → is_of_slave alarm ≡ true → alarm ≢ Elect → slave_rings alarm ≡ alarm_rings own wait alarm
 unfolding slave_rings alarm_rings
-slave_rings-is own wait Quiet b e = refl
-slave_rings-is own wait Search b e = refl
-slave_rings-is own wait Elect b e = absurd (e refl)
-slave_rings-is own wait _ b e = absurd (false≢true b)
+slave_rings_is own wait Quiet b e = refl
+slave_rings_is own wait Search b e = refl
+slave_rings_is own wait Elect b e = absurd (e refl)
+slave_rings_is own wait _ b e = absurd (false≢true b)
 
 pub beside_alarm : (own wait : Bool) (alarm : Alarm) → is_of_slave alarm ≡ true → Emits beside_sorts (alarm_rings own wait alarm)
 beside_alarm own wait alarm e = Emits_more standing_sorts refl (slave_alarm own wait alarm e)
 
 -- the alarms of a port that is Starting, Loose or follows correct no clock, nor does a candidate's, nor a round that waits
 corrects_alarm : (own wait : Bool) (alarm : Alarm) → is_of_slave alarm ≡ true → (x : ℕ) (past : Past) → false ≡ corrects (alarm_rings own wait alarm x past)
-corrects_alarm own wait alarm e x past = sym (corrects-none (alarm_rings own wait alarm x past)
+corrects_alarm own wait alarm e x past = sym (corrects_none (alarm_rings own wait alarm x past)
     ((Emits_more standing_sorts {all = still_sorts} refl (slave_alarm own wait alarm e)).only x past))
 
 pub beside_window : Emits beside_sorts window_rings
 beside_window = emits_built refl (built_window_rings tt)
 
 corrects_window : (x : ℕ) (past : Past) → false ≡ corrects (window_rings x past)
-corrects_window x past = sym (corrects-none (window_rings x past) ((emits_built {all = still_sorts} refl (built_window_rings tt)).only x past))
+corrects_window x past = sym (corrects_none (window_rings x past) ((emits_built {all = still_sorts} refl (built_window_rings tt)).only x past))
 
 pub emits_wait : Emits (Alarming ∷ []) (round_rings true)
 unfolding round_rings begins_or_waits
@@ -178,10 +178,10 @@ emits_wait = Emits_either (is_in_time Round) _ _ (Emits_then (puts (Ring Round))
     (Emits_then (puts (Late Round)) (arms Round ROUND) (Emits_puts (Late Round) refl) (Emits_arms Round ROUND refl))
 
 corrects_wait : (x : ℕ) (past : Past) → false ≡ corrects (round_rings true x past)
-corrects_wait x past = sym (corrects-none (round_rings true x past) ((Emits_more (Alarming ∷ []) {all = still_sorts} refl emits_wait).only x past))
+corrects_wait x past = sym (corrects_none (round_rings true x past) ((Emits_more (Alarming ∷ []) {all = still_sorts} refl emits_wait).only x past))
 
 corrects_resolve : (x : ℕ) (past : Past) → false ≡ corrects (resolve_rings x past)
-corrects_resolve x past = sym (corrects-none (resolve_rings x past) ((emits_built {all = still_sorts} refl built_resolve_rings).only x past))
+corrects_resolve x past = sym (corrects_none (resolve_rings x past) ((emits_built {all = still_sorts} refl built_resolve_rings).only x past))
 
 -- an alarm that isn't its master's corrects no clock
 pub corrects_beside : (own wait : Bool) (alarm : Alarm) → is_of_master wait alarm ≡ false → (x : ℕ) (past : Past) → false ≡

@@ -6,8 +6,8 @@ use Rattle.tsp_rules.specs.Values.{PeerId}
 use Rattle.tsp_base.specs.Words.{is_among, IsAscending}
 
 -- whether each peer was found to be below the next is whether they are ascending
-pub IsAscending-answer : (ps : List PeerId) (b : Bool) → IsAllAdjacentAnswer (λ p q b. b ≡ nat_lt p.0 q.0) ps b → (b ≡ true) ↔ IsAscending ps
-IsAscending-answer ps true h = (
+pub IsAscending_answer : (ps : List PeerId) (b : Bool) → IsAllAdjacentAnswer (λ p q b. b ≡ nat_lt p.0 q.0) ps b → (b ≡ true) ↔ IsAscending ps
+IsAscending_answer ps true h = (
   λ e k lt.
       let d : PeerId = record { 0 = 0 } in
       let more : k + 1 < length ps = rw length-map at lt in
@@ -16,7 +16,7 @@ IsAscending-answer ps true h = (
       ltb-true _ _ (rw (low, high) (sym (h k d more))),
   λ up. refl,
 )
-IsAscending-answer ps false h = (
+IsAscending_answer ps false h = (
   λ e. absurd (false≢true e),
   λ up.
       let d : PeerId = record { 0 = 0 } in
@@ -26,6 +26,6 @@ IsAscending-answer ps false h = (
 )
 
 -- to be found among the peers is to be one of them
-pub list_any-is_among : (p : PeerId) (ps : List PeerId) → list_any (λ q. q.0 == p.0) ps ≡ is_among p ps
-list_any-is_among p [] = refl
-list_any-is_among p (q ∷ rest) = ap (λ b. (q.0 == p.0) || b) (list_any-is_among p rest)
+pub list_any_is_among : (p : PeerId) (ps : List PeerId) → list_any (λ q. q.0 == p.0) ps ≡ is_among p ps
+list_any_is_among p [] = refl
+list_any_is_among p (q ∷ rest) = ap (λ b. (q.0 == p.0) || b) (list_any_is_among p rest)

@@ -9,19 +9,19 @@ use Rattle.tsp_sends.specs.{Repeating.IsEarliest, Slots.sending_to}
 use Rattle.tsp_acks.specs.{Stands.StationStands, declared.station.Station.Station}
 
 -- the earliest deadline in a station's slots is that of its past
-pub IsEarliest-open : (past : Past) (station : Station) (o : Option ℕ) → StationStands past station → IsEarliest (sending_to station.sends) o →
+pub IsEarliest_open : (past : Past) (station : Station) (o : Option ℕ) → StationStands past station → IsEarliest (sending_to station.sends) o →
     IsEarliest (λ p. open_send p past.seen) o
-IsEarliest-open past station None s e = λ p. sym (s.sends p) ∙ e p
-IsEarliest-open past station (Some t) s e = record {
+IsEarliest_open past station None s e = λ p. sym (s.sends p) ∙ e p
+IsEarliest_open past station (Some t) s e = record {
   of = (e.of.0, e.of.1, sym (s.sends e.of.0) ∙ e.of.2, e.of.3);
   first = λ p sending h. e.first p sending (s.sends p ∙ h);
 }
 
 -- the earlier of two deadlines has come where either has
-pub over-earlier : (a b : Option ℕ) (x : ℕ) → is_over (earlier a b) x ≡ (is_over a x || is_over b x)
-over-earlier None b x = refl
-over-earlier (Some p) None x = sym (or-false (nat_le p x))
-over-earlier (Some p) (Some q) x = by_test (nat_le p x) (nat_le q x) refl refl where
+pub over_earlier : (a b : Option ℕ) (x : ℕ) → is_over (earlier a b) x ≡ (is_over a x || is_over b x)
+over_earlier None b x = refl
+over_earlier (Some p) None x = sym (or-false (nat_le p x))
+over_earlier (Some p) (Some q) x = by_test (nat_le p x) (nat_le q x) refl refl where
   by_test : (a b : Bool) → nat_le p x ≡ a → nat_le q x ≡ b → nat_le (min p q) x ≡ (a || b)
   by_test true b e f = let first = leb-true p x e in le-leb (min p q) x (omega (arith, first))
   by_test false true e f = let last = leb-true q x f in le-leb (min p q) x (omega (arith, last))
@@ -36,15 +36,15 @@ neither_over (Some p) (Some q) x e =
     (lt-leb p x (omega (arith, before)), lt-leb q x (omega (arith, before)))
 
 -- the earliest has come where an alarm is due
-pub over-at : (d : Deadlines) (x : ℕ) (alarm : Alarm) → is_over (deadline d alarm) x ≡ true → is_over (least_deadline d) x ≡ true
-over-at d x Quiet h = simp (over-earlier, h) refl
-over-at d x _ h = simp (over-earlier, h, or-true) refl
+pub over_at : (d : Deadlines) (x : ℕ) (alarm : Alarm) → is_over (deadline d alarm) x ≡ true → is_over (least_deadline d) x ≡ true
+over_at d x Quiet h = simp (over_earlier, h) refl
+over_at d x _ h = simp (over_earlier, h, or-true) refl
 
 -- no alarm is due before the earliest is
 pub alarm_waits : (d : Deadlines) (x : ℕ) → is_over (least_deadline d) x ≡ false → (alarm : Alarm) → is_over (deadline d alarm) x ≡ false
 alarm_waits d x e alarm = by_test (is_over (deadline d alarm) x) refl where
   by_test : (b : Bool) → is_over (deadline d alarm) x ≡ b → is_over (deadline d alarm) x ≡ false
-  by_test true h = absurd (false≢true (sym e ∙ over-at d x alarm h))
+  by_test true h = absurd (false≢true (sym e ∙ over_at d x alarm h))
   by_test false h = h
 
 -- the earliest hasn't come where no alarm is due
@@ -52,10 +52,10 @@ pub none_over : (d : Deadlines) (x : ℕ) → ((alarm : Alarm) → is_over (dead
 none_over d x waits = let first = least_deadline_armed d in ap (λ o. is_over o x) first.1 ∙ waits first.0
 
 -- where an alarm is due the port doesn't rest
-pub rests-not : (d : Deadlines) (sends : Option ℕ) (x : ℕ) → is_over (least_deadline d) x ≡ true → false ≡ not (is_over (earlier (least_deadline d) sends) x)
-rests-not d sends x e = rw (over-earlier (least_deadline d) sends x, e) refl
+pub rests_not : (d : Deadlines) (sends : Option ℕ) (x : ℕ) → is_over (least_deadline d) x ≡ true → false ≡ not (is_over (earlier (least_deadline d) sends) x)
+rests_not d sends x e = rw (over_earlier (least_deadline d) sends x, e) refl
 
 -- where none is, it is the sends'
-pub rests-sends : (d : Deadlines) (sends : Option ℕ) (x : ℕ) → is_over (least_deadline d) x ≡ false → not (is_over sends x) ≡
+pub rests_sends : (d : Deadlines) (sends : Option ℕ) (x : ℕ) → is_over (least_deadline d) x ≡ false → not (is_over sends x) ≡
     not (is_over (earlier (least_deadline d) sends) x)
-rests-sends d sends x e = rw (over-earlier (least_deadline d) sends x, e) refl
+rests_sends d sends x e = rw (over_earlier (least_deadline d) sends x, e) refl

@@ -96,9 +96,9 @@ bare_repeats : (q : PeerId) (s : Sending) (x : ℕ) (past : Past) → open_at q 
 unfolding bare_send repeats_bare_send reading either_by
 bare_repeats q s x past o d g = rw (o, d, g) refl
 
-posts-beside : (k : Kind) → is_in (sort_of_kind k) beside_sorts ≡ true
-posts-beside SetDateReq = refl
-posts-beside _ = refl
+posts_beside : (k : Kind) → is_in (sort_of_kind k) beside_sorts ≡ true
+posts_beside SetDateReq = refl
+posts_beside _ = refl
 
 -- a state after a call, told field by field
 Performs_fields : {row : Row} {x : ℕ} {port : Port} {before after : PortValue} {old new : List Placed} →
@@ -229,7 +229,7 @@ Performs_again {x = x} {before = before} {after = after} last q m t e u v f bare
     let g = again_of last x before.station.sends after.station.sends q m t in
     let again = rw g.message at (Performs_same (repeats q g.s.message) (λ past h. bare_repeats q g.s x past (sym (h.stands.sends q) ∙ g.sending) g.due g.fresh)
     bare) in
-    let put : Emits beside_sorts (puts (Post (Peer q) (Message m))) = Emits_puts (Post (Peer q) (Message m)) (posts-beside m.kind) in
+    let put : Emits beside_sorts (puts (Post (Peer q) (Message m))) = Emits_puts (Post (Peer q) (Message m)) (posts_beside m.kind) in
     due_repeats q g.s g.sending g.due g.fresh (rw g.message (record {
       acts = λ past h. again.acts past (record { stands = h.stands.station; still = h.still });
       stands = λ past h.

@@ -16,7 +16,7 @@ use Rattle.tsp_rules.proofs.{BuiltRoles.built_candidate_takes_kind, BuiltRoles.b
 use Rattle.tsp_base.specs.Words.{Past, MessageValue, is_among, Performs, Received, role, Row, either_by, grown, nothing, placed, posts, puts, reading}
 use Rattle.tsp_base.specs.Words.{◌followed_by◌, Sending, corrects_in, is_correction, is_date_request, open_send, ReplyValue}
 use Rattle.tsp_base.proofs.PerformsLemmas.{Performs_else_part, Performs_reading, Performs_then_part}
-use Rattle.tsp_acks.{proofs.PeerLemmas.Contains-among, specs.Stands.StationStands, specs.declared.station.Station.Station}
+use Rattle.tsp_acks.{proofs.PeerLemmas.Contains_among, specs.Stands.StationStands, specs.declared.station.Station.Station}
 use Rattle.tsp_master.specs.MasterStands.{MasterStands}
 use Rattle.tsp_master.{specs.MasterTakes.master_takes_kind_here, proofs.TurnLemmas.MasterStands_idle, proofs.TurnLemmas.MasterStands_unheld}
 use Rattle.tsp_master.{specs.declared.master.Master.Master as MasterValue, proofs.TableLemmas.MasterStands_quiet}
@@ -33,24 +33,24 @@ abbrev pub leaves_by : Bool → Kind → Role → Bool
 leaves_by steer kind r = not steer && (is_correction kind && is_follow r)
 
 -- the row's tests, as the station has them
-is_left-at : (steer : Bool) (kind : Kind) (x : ℕ) (past : Past) (station : Station) → StationStands past station → is_left steer kind x past ≡
+is_left_at : (steer : Bool) (kind : Kind) (x : ℕ) (past : Past) (station : Station) → StationStands past station → is_left steer kind x past ≡
     leaves_by steer kind station.role
-is_left-at steer kind x past station s = ap (leaves_by steer kind) (sym s.role)
+is_left_at steer kind x past station s = ap (leaves_by steer kind) (sym s.role)
 
-is_heard-at : (p : PeerId) (x : ℕ) (past : Past) (station : Station) → StationStands past station → is_heard p x past ≡ hears_by station p
-is_heard-at p x past station s = rw (s.peers, s.role) refl
+is_heard_at : (p : PeerId) (x : ℕ) (past : Past) (station : Station) → StationStands past station → is_heard p x past ≡ hears_by station p
+is_heard_at p x past station s = rw (s.peers, s.role) refl
 
 -- a correction that is left is passed over
 pub Performs_left : {r : Received} {x : ℕ} {port : Port} {state : PortValue} {old : List Placed} (steer : Bool) (k : Kind) (row : Row) →
     leaves_by steer k state.station.role ≡ true → Performs (PortTook r) PortStands (either_by (is_left steer k) nothing row) x port state state old old
-Performs_left {x = x} {state = state} steer k row e = Performs_then_part (is_left steer k) row (λ past h. is_left-at steer k x past state.station
+Performs_left {x = x} {state = state} steer k row e = Performs_then_part (is_left steer k) row (λ past h. is_left_at steer k x past state.station
     h.stands.station ∙ e) Performs_pass
 
 -- what isn't left is handled
 pub Performs_kept : {r : Received} {x : ℕ} {port : Port} {before after : PortValue} {old new : List Placed} (steer : Bool) (k : Kind) {row : Row} →
     leaves_by steer k before.station.role ≡ false → Performs (PortTook r) PortStands row x port before after old new →
     Performs (PortTook r) PortStands (either_by (is_left steer k) nothing row) x port before after old new
-Performs_kept {x = x} {before = before} steer k e d = Performs_else_part (is_left steer k) nothing (λ past h. is_left-at steer k x past before.station
+Performs_kept {x = x} {before = before} steer k e d = Performs_else_part (is_left steer k) nothing (λ past h. is_left_at steer k x past before.station
     h.stands.station ∙ e) d
 
 -- only a follower leaves anything
@@ -88,14 +88,14 @@ Performs_either_way {q = q} {x = x} {port = port} {after = after} {old = old} {n
 }
 
 -- whom a port heeds, by who sent it
-pub heard-stranger : (station : Station) (from : Place) → from ≡ Stranger → heard_from station from ≡ None
-heard-stranger station from is = rw is refl
+pub heard_stranger : (station : Station) (from : Place) → from ≡ Stranger → heard_from station from ≡ None
+heard_stranger station from is = rw is refl
 
-pub heard-peer : (station : Station) (from : Place) (p : PeerId) → from ≡ Peer p → hears_by station p ≡ true → heard_from station from ≡ Some p
-heard-peer station from p is h = rw (is, h) refl
+pub heard_peer_holds : (station : Station) (from : Place) (p : PeerId) → from ≡ Peer p → hears_by station p ≡ true → heard_from station from ≡ Some p
+heard_peer_holds station from p is h = rw (is, h) refl
 
-pub unheard-peer : (station : Station) (from : Place) (p : PeerId) → from ≡ Peer p → hears_by station p ≡ false → heard_from station from ≡ None
-unheard-peer station from p is h = rw (is, h) refl
+pub unheard_peer : (station : Station) (from : Place) (p : PeerId) → from ≡ Peer p → hears_by station p ≡ false → heard_from station from ≡ None
+unheard_peer station from p is h = rw (is, h) refl
 
 -- who isn't heard is passed over
 not_heard : (station : Station) (p : PeerId) → heard_from station (Peer p) ≡ None → hears_by station p ≡ false
@@ -107,7 +107,7 @@ not_heard station p e = by_test (hears_by station p) refl e where
 pub Performs_unheard : {r : Received} {x : ℕ} {port : Port} {state : PortValue} {old : List Placed} (from : Place) (row : PeerId → Row) →
     heard_from state.station from ≡ None → Performs (PortTook r) PortStands (from_peer from row) x port state state old old
 unfolding from_peer
-Performs_unheard {x = x} {state = state} (Peer p) row e = Performs_else_part (is_heard p) (row p) (λ past h. is_heard-at p x past state.station h.stands.station
+Performs_unheard {x = x} {state = state} (Peer p) row e = Performs_else_part (is_heard p) (row p) (λ past h. is_heard_at p x past state.station h.stands.station
     ∙ not_heard state.station p e) Performs_pass
 Performs_unheard Stranger row e = Performs_pass
 
@@ -130,7 +130,7 @@ pub Performs_heard_at : {r : Received} {x : ℕ} {port : Port} {before after : P
     hears_by before.station p ≡ true →
     Performs (PortTook r) PortStands (row p) x port before after old new → Performs (PortTook r) PortStands (from_peer (Peer p) row) x port before after old new
 unfolding from_peer
-Performs_heard_at {x = x} {before = before} p row e d = Performs_then_part (is_heard p) nothing (λ past h. is_heard-at p x past before.station h.stands.station
+Performs_heard_at {x = x} {before = before} p row e d = Performs_then_part (is_heard p) nothing (λ past h. is_heard_at p x past before.station h.stands.station
     ∙ e) d
 
 pub Performs_heard_by : {r : Received} {x : ℕ} {port : Port} {before after : PortValue} {old new : List Placed} (from : Place) (p : PeerId) (row : PeerId →
@@ -159,15 +159,15 @@ says_slave p m Master s c l = absurd (l refl)
 says_slave p m _ s c l = refl
 
 -- a master's rows that are its own
-pub master_takes-other : (p : PeerId) (m : MessageValue) (k : Kind) → k ≢ Ack → k ≢ QuitKind → k ≢ MasterUp → k ≢ Conflict → k ≢ MasterAck →
+pub master_takes_other : (p : PeerId) (m : MessageValue) (k : Kind) → k ≢ Ack → k ≢ QuitKind → k ≢ MasterUp → k ≢ Conflict → k ≢ MasterAck →
     master_takes_kind p m k ≡ master_takes_kind_here p m k
 unfolding master_takes_kind master_takes_kind_here
-master_takes-other p m Ack a q u c t = absurd (a refl)
-master_takes-other p m QuitKind a q u c t = absurd (q refl)
-master_takes-other p m MasterUp a q u c t = absurd (u refl)
-master_takes-other p m Conflict a q u c t = absurd (c refl)
-master_takes-other p m MasterAck a q u c t = absurd (t refl)
-master_takes-other p m _ a q u c t = refl
+master_takes_other p m Ack a q u c t = absurd (a refl)
+master_takes_other p m QuitKind a q u c t = absurd (q refl)
+master_takes_other p m MasterUp a q u c t = absurd (u refl)
+master_takes_other p m Conflict a q u c t = absurd (c refl)
+master_takes_other p m MasterAck a q u c t = absurd (t refl)
+master_takes_other p m _ a q u c t = refl
 
 -- the role of a port that hears a peer
 pub heard_role : (station : Station) (from : Place) (p : PeerId) → heard_from station from ≡ Some p → is_starting_role station.role ≡ false
@@ -178,7 +178,7 @@ heard_role station from p e = by_test (is_among p station.peers) (is_starting_ro
   by_test false s e h = absurd (false≢true h)
 
 pub heard_peer : (station : Station) (from : Place) (p : PeerId) → heard_from station from ≡ Some p → Contains station.peers p
-heard_peer station from p e = Contains-among p station.peers (by_test (is_among p station.peers) refl (is_hearing station from p e)) where
+heard_peer station from p e = Contains_among p station.peers (by_test (is_among p station.peers) refl (is_hearing station from p e)) where
   by_test : (a : Bool) → is_among p station.peers ≡ a → (a && not (is_starting_role station.role)) ≡ true → is_among p station.peers ≡ true
   by_test true e h = e
   by_test false e h = absurd (false≢true h)
@@ -187,9 +187,9 @@ pub heard_awake : (station : Station) (from : Place) (p : PeerId) → heard_from
 heard_awake station from p e s = false≢true (sym (heard_role station from p e) ∙ ap is_starting_role s)
 
 -- a candidate's send that is answered doesn't correct
-not-correcting : (number : ℕ) (s : Option Sending) → answers_election number s ≡ true → corrects_in s ≡ false
-not-correcting number None e = absurd (false≢true e)
-not-correcting number (Some s) e = by_kind s.message.kind e where
+not_correcting : (number : ℕ) (s : Option Sending) → answers_election number s ≡ true → corrects_in s ≡ false
+not_correcting number None e = absurd (false≢true e)
+not_correcting number (Some s) e = by_kind s.message.kind e where
   by_kind : (k : Kind) → (is_kind_election k && (s.message.number == number)) ≡ true → is_correction k ≡ false
   by_kind Election e = refl
   by_kind _ e = absurd (false≢true e)
@@ -201,7 +201,7 @@ unfolding accepted_by either_by puts nothing ◌followed_by◌
 accepted_keeps p number x past m h = by_test (has_election p number x past) refl where
   by_test : (b : Bool) → has_election p number x past ≡ b → MasterStands (grown x past (if b then Acked p ∷ Backer p ∷ [] else [])) m
   by_test true e = MasterStands_quiet (Backer p) refl x (grown x past (Acked p ∷ [])) m
-      (MasterStands_unheld p x past m (not-correcting number (open_send p past.seen) e) h)
+      (MasterStands_unheld p x past m (not_correcting number (open_send p past.seen) e) h)
   by_test false e = h
 
 pub refused_keeps : (p : PeerId) (number x : ℕ) (past : Past) (m : MasterValue) → role past.seen ≢ Master → MasterStands past m →
@@ -211,7 +211,7 @@ refused_keeps p number x past m other h = by_test (has_election p number x past)
   by_test : (b : Bool) → has_election p number x past ≡ b → MasterStands (grown x past (if b then Acked p ∷ yields x (grown x past (Acked p ∷ [])) else [])) m
   by_test true e =
       MasterStands_idle yields (emits_built refl built_yields) x (grown x past (Acked p ∷ [])) m other
-      (MasterStands_unheld p x past m (not-correcting number (open_send p past.seen) e) h)
+      (MasterStands_unheld p x past m (not_correcting number (open_send p past.seen) e) h)
   by_test false e = h
 
 -- what a candidate does leaves a master alone that doesn't lead

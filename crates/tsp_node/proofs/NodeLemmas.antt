@@ -8,7 +8,7 @@ use Rattle.tsp_rules.proofs.Emits.{sort_of}
 use Rattle.tsp_rules.{proofs.BuiltAnswers.date_sorts, specs.Guards.is_master, proofs.Parts.Performs_part}
 use Rattle.tsp_base.specs.Words.{Past, Performs, Keeps, Received, role, said, taken, Row, nothing, puts, grown, ReplyValue}
 use Rattle.tsp_base.proofs.PerformsLemmas.{Performs_from, Performs_nothing, Performs_to}
-use Rattle.tsp_acks.{specs.Stands.StationStands, specs.Stands.StandsActing, proofs.ActingLemmas.taken-acts}
+use Rattle.tsp_acks.{specs.Stands.StationStands, specs.Stands.StandsActing, proofs.ActingLemmas.taken_acts}
 use Rattle.tsp_acks.{specs.declared.station.Station.Station, proofs.StandsLemmas.Stands_idle, proofs.StandsLemmas.Stands_stamp}
 use Rattle.tsp_clients.specs.ClientStands.{NamingStands, TraceStands, TracingStands}
 use Rattle.tsp_clients.proofs.ClientLemmas.{TraceStands_by}
@@ -164,7 +164,7 @@ pub Performs_led : {r : Received} {row : Row} {x : ℕ} {port : Port} {before af
     (record { master = after.master; station = after.station; clock = after.clock }) old new →
     Performs (PortTook r) PortStands row x port before after old new
 Performs_led {r = r} {row = row} {x = x} {before = before} e f g k u was d = Performs_part d
-    (λ past h. record { master = h.stands.master; station = h.stands.station; acted = taken-acts past.seen r h.took; clock = h.stands.clock })
+    (λ past h. record { master = h.stands.master; station = h.stands.station; acted = taken_acts past.seen r h.took; clock = h.stands.clock })
     (λ past h s. record {
       station = s.station;
       last = rw e (Remembers_by row k x past before.last h.stands.last);
@@ -315,7 +315,7 @@ pub Performs_acting_by : {r : Received} {row : Row} {x : ℕ} {port : Port} {bef
     →
     Performs StandsActing StandsActing row x port before.station after.station old new → Performs (PortTook r) PortStands row x port before after old new
 Performs_acting_by {r = r} {row = row} {x = x} {before = before} e f g k was master resolve d = Performs_part d
-    (λ past h. record { stands = h.stands.station; acted = taken-acts past.seen r h.took }) (λ past h t. let s = t.stands in record {
+    (λ past h. record { stands = h.stands.station; acted = taken_acts past.seen r h.took }) (λ past h t. let s = t.stands in record {
       station = s;
       last = rw e (Remembers_by row k x past before.last h.stands.last);
       master = master past h.stands s;

@@ -33,9 +33,9 @@ pub begin_changes : (x : ℕ) (past : Past) → changes ((puts (Become Starting)
 unfolding puts arms ◌followed_by◌
 begin_changes x past = refl
 
-not-master : (r : Role) → is_master r ≡ false → r ≢ Master
-not-master Master e = absurd (true≢false e)
-not-master _ e = λ f. let bad : ⊥ = cc in bad
+not_master : (r : Role) → is_master r ≡ false → r ≢ Master
+not_master Master e = absurd (true≢false e)
+not_master _ e = λ f. let bad : ⊥ = cc in bad
 
 -- the rivals are forgotten where a port led and leads no more
 pub ResolveStands_parted : (row : Row) → Emits role_sorts row → (x : ℕ) (past : Past) (old new : Resolve) (before after : Role) → role past.seen ≡ before →
@@ -54,7 +54,7 @@ ResolveStands_parted row e x past old new before after was is unmarks h = by_rol
   by_roles : (b a : Bool) → is_master before ≡ b → is_master after ≡ a → Unmarks (b && not a) old new → ResolveStands (grown x past acts) new
   by_roles true true f g c = rw c (ResolveStands_same x past acts old all (turned f ∙ ap not g) h)
   by_roles true false f g c = ResolveStands_changed x past acts old new all (turned f ∙ ap not g) c.many c.none h
-  by_roles false a f g c = rw c (ResolveStands_idle x past acts old all (λ r. not-master before f (sym was ∙ r)) h)
+  by_roles false a f g c = rw c (ResolveStands_idle x past acts old all (λ r. not_master before f (sym was ∙ r)) h)
 
 -- a correction on another port
 pub ResolveStands_elsewhere : (did : Did) (past : Past) (r : Resolve) → ResolveStands past r →

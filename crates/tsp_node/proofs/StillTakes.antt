@@ -9,20 +9,20 @@ use Rattle.tsp_date.specs.DateStands.{DateStands, date_state}
 use Rattle.tsp_rules.proofs.{BuiltShared.built_acknowledges, EmitsBuilt.emits_built}
 use Rattle.tsp_node.{proofs.HearLemmas.says_ack, specs.NodeStands.PortTook, specs.NodeStands.PortValue}
 
-peer-emits : {sorts : List Sort} (from : Place) (row : PeerId → Row) → ((p : PeerId) → Emits sorts (row p)) → Emits sorts (from_peer from row)
+peer_emits : {sorts : List Sort} (from : Place) (row : PeerId → Row) → ((p : PeerId) → Emits sorts (row p)) → Emits sorts (from_peer from row)
 unfolding from_peer
-peer-emits (Peer p) row k = Emits_either (is_heard p) (row p) nothing (k p) Emits_nothing
-peer-emits Stranger row k = Emits_nothing
+peer_emits (Peer p) row k = Emits_either (is_heard p) (row p) nothing (k p) Emits_nothing
+peer_emits Stranger row k = Emits_nothing
 
-ack-in : (p : PeerId) (m : MessageValue) (r : Role) → m.kind ≡ Ack → Emits (Acking ∷ []) (says_in p m r)
+ack_in : (p : PeerId) (m : MessageValue) (r : Role) → m.kind ≡ Ack → Emits (Acking ∷ []) (says_in p m r)
 unfolding says_in
-ack-in p m Starting e = Emits_nothing
-ack-in p m r e = rw (says_ack p m r e refl) (emits_built refl (built_acknowledges p m.number tt))
+ack_in p m Starting e = Emits_nothing
+ack_in p m r e = rw (says_ack p m r e refl) (emits_built refl (built_acknowledges p m.number tt))
 
 -- an ACK
 pub emits_ack : (from : Place) (m : MessageValue) → m.kind ≡ Ack → Emits (Acking ∷ []) (from_peer from (peer_says m))
 unfolding peer_says
-emits_ack from m e = peer-emits from (λ p. reading role_at (says_in p m)) (λ p. Emits_reading role_at (says_in p m) (λ r. ack-in p m r e))
+emits_ack from m e = peer_emits from (λ p. reading role_at (says_in p m)) (λ p. Emits_reading role_at (says_in p m) (λ r. ack_in p m r e))
 
 -- what the port's slave has, where this was taken
 pub took_slave : (r : Received) (past : Past) (v : PortValue) → PortTook r past v → SlaveStands past (slave v.station v.last v.clock (taken past.seen))

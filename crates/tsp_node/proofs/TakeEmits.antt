@@ -28,32 +28,32 @@ silent_trace = Asking ∷ Correcting ∷ Passing ∷ Numbering ∷ Posting ∷ L
 abbrev pub bootless : List Sort
 bootless = Taking ∷ Tracing ∷ silent_trace
 
-ring-part : (alarm : Alarm) → is_part (ring_sorts alarm) silent_trace ≡ true
-ring-part CloseAlarm = refl
-ring-part _ = refl
+ring_part : (alarm : Alarm) → is_part (ring_sorts alarm) silent_trace ≡ true
+ring_part CloseAlarm = refl
+ring_part _ = refl
 
 -- an alarm, whether it is due or not
 pub emits_rings : (own wait : Bool) (alarm : Alarm) → Emits silent_trace (rings own wait alarm)
-emits_rings own wait alarm = emits_built (ring-part alarm) (built_rings own wait alarm)
+emits_rings own wait alarm = emits_built (ring_part alarm) (built_rings own wait alarm)
 
 -- a master's own messages
 abbrev pub own_sorts : List Sort
 own_sorts = Posting ∷ Tabling ∷ Correcting ∷ Numbering ∷ []
 
 module _ {m : Naming} {o : Owed} where
-  built-here : (p : PeerId) (msg : MessageValue) (k : Kind) → m.known p → o.of (ANumber msg.number) →
+  built_here : (p : PeerId) (msg : MessageValue) (k : Kind) → m.known p → o.of (ANumber msg.number) →
       Built m o own_sorts 0 2 (master_takes_kind_here p msg k) (master_takes_kind_here (m.names.peer p) msg k)
   unfolding master_takes_kind_here
-  built-here p msg MasterReq known is = More (At (Posts p MasterAck msg.number known is refl) refl) refl
-  built-here p msg ResolveKind known is = More (At (Posts p MasterAck msg.number known is refl) refl) refl
-  built-here p msg SlaveUp known is = Wider refl (built_joins p msg.number known is)
-  built-here p msg Election known is = More (Wider refl (built_sends_away p known)) refl
-  built-here p msg _ known is = Empty
+  built_here p msg MasterReq known is = More (At (Posts p MasterAck msg.number known is refl) refl) refl
+  built_here p msg ResolveKind known is = More (At (Posts p MasterAck msg.number known is refl) refl) refl
+  built_here p msg SlaveUp known is = Wider refl (built_joins p msg.number known is)
+  built_here p msg Election known is = More (Wider refl (built_sends_away p known)) refl
+  built_here p msg _ known is = Empty
 
   pub built_master_takes_here : (p : PeerId) (msg : MessageValue) → m.known p → o.of (ANumber msg.number) →
       Built m o own_sorts 0 2 (master_takes_here p msg) (master_takes_here (m.names.peer p) msg)
   unfolding master_takes_here
-  built_master_takes_here p msg known is = built-here p msg msg.kind known is
+  built_master_takes_here p msg known is = built_here p msg msg.kind known is
 
 -- what a peer says to the role
 pub emits_says : (from : Place) (m : MessageValue) → Emits silent_trace (from_peer from (peer_says m))
@@ -73,22 +73,22 @@ sorts_of OfClients = client_sorts
 sorts_of OfDates = date_sorts
 sorts_of _ = says_sorts
 
-sorts-are : (k : Kind) → handled_sorts k ≡ sorts_of (audience_of k)
-sorts-are Ack = refl
-sorts-are _ = refl
+sorts_are : (k : Kind) → handled_sorts k ≡ sorts_of (audience_of k)
+sorts_are Ack = refl
+sorts_are _ = refl
 
-emits-heard : (charge : Bool) (from : Place) (m : MessageValue) (k : Kind) (who : Audience) → audience_of k ≡ who → is_part (sorts_of who) (sorts_of who) ≡
+emits_heard : (charge : Bool) (from : Place) (m : MessageValue) (k : Kind) (who : Audience) → audience_of k ≡ who → is_part (sorts_of who) (sorts_of who) ≡
     true → Emits (sorts_of who) (handles_kind charge from m k)
-emits-heard charge from m k who e all = emits_built (subst (λ s. is_part s (sorts_of who) ≡ true) (sym (sorts-are k ∙ ap sorts_of e)) all)
+emits_heard charge from m k who e all = emits_built (subst (λ s. is_part s (sorts_of who) ≡ true) (sym (sorts_are k ∙ ap sorts_of e)) all)
     (built_handles_kind charge from m (place_unchanged from) tt tt tt k)
 
 -- dates
 pub emits_dates : (charge : Bool) (from : Place) (m : MessageValue) (k : Kind) → audience_of k ≡ OfDates → Emits date_sorts (handles_kind charge from m k)
-emits_dates charge from m k e = emits-heard charge from m k OfDates e refl
+emits_dates charge from m k e = emits_heard charge from m k OfDates e refl
 
 -- what clients ask
 pub emits_clients : (charge : Bool) (from : Place) (m : MessageValue) (k : Kind) → audience_of k ≡ OfClients → Emits client_sorts (handles_kind charge from m k)
-emits_clients charge from m k e = emits-heard charge from m k OfClients e refl
+emits_clients charge from m k e = emits_heard charge from m k OfClients e refl
 
 -- all that a port does with what it takes
 pub emits_takes : (steer charge : Bool) (from : Place) (t : Taken) → Emits bootless (takes steer charge from t)

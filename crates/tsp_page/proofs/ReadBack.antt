@@ -17,18 +17,18 @@ signed z n f e = ap (cast_signed w64) e ∙ to_z-of_z w64 z f
 small : (z : ℤ) → SFits w64 z → cast_unsigned w64 z < 2 ^ 64
 small z f = let u : Fits w64 (cast_unsigned w64 z) = Fits-of_z f in omega (arith, u)
 
-rank-back : (r : Rank) (n : ℕ) → n ≡ rank_number r → rank_of n ≡ r
-rank-back Nobody n e = rw e refl
-rank-back Follows n e = rw e refl
-rank-back Leads n e = rw e refl
+rank_back : (r : Rank) (n : ℕ) → n ≡ rank_number r → rank_of n ≡ r
+rank_back Nobody n e = rw e refl
+rank_back Follows n e = rw e refl
+rank_back Leads n e = rw e refl
 
-rank-small : (r : Rank) → rank_number r < 2 ^ 64
-rank-small Nobody = omega arith
-rank-small Follows = omega arith
-rank-small Leads = omega arith
+rank_small : (r : Rank) → rank_number r < 2 ^ 64
+rank_small Nobody = omega arith
+rank_small Follows = omega arith
+rank_small Leads = omega arith
 
 -- a half is read back if each of its fields is
-daemon-made : (h : DaemonHalf)
+daemon_made : (h : DaemonHalf)
     → number_at (daemon_octets h) 0 ≡ h.life
     → number_at (daemon_octets h) 8 ≡ h.counter
     → cast_signed w64 (number_at (daemon_octets h) 16) ≡ h.origin
@@ -44,7 +44,7 @@ daemon-made : (h : DaemonHalf)
     → number_at (daemon_octets h) 96 ≡ h.master
     → number_at (daemon_octets h) 104 ≡ h.alive
     → daemon_half_of (daemon_octets h) ≡ h
-daemon-made h life counter origin origin_tick rate tick target rest least moved steps rank master alive =
+daemon_made h life counter origin origin_tick rate tick target rest least moved steps rank master alive =
     rw (life, counter, origin, origin_tick, rate, tick, target, rest, least, moved, steps, rank, master, alive) refl
 
 pub daemon_back : (h : DaemonHalf) → IsDaemonHalf h → daemon_half_of (daemon_octets h) ≡ h
@@ -67,24 +67,24 @@ daemon_back h p =
     let moved = signed h.moved (number_at (daemon_octets h) 72) p.moved
     (from_le_bytes-to_le_bytes_8 (cast_unsigned w64 h.moved) (small h.moved p.moved)) in
     let steps : number_at (daemon_octets h) 80 ≡ h.steps = from_le_bytes-to_le_bytes_8 h.steps p.steps in
-    let rank = rank-back h.rank (number_at (daemon_octets h) 88) (from_le_bytes-to_le_bytes_8 (rank_number h.rank) (rank-small h.rank)) in
+    let rank = rank_back h.rank (number_at (daemon_octets h) 88) (from_le_bytes-to_le_bytes_8 (rank_number h.rank) (rank_small h.rank)) in
     let master : number_at (daemon_octets h) 96 ≡ h.master = from_le_bytes-to_le_bytes_8 h.master p.master in
     let alive : number_at (daemon_octets h) 104 ≡ h.alive = from_le_bytes-to_le_bytes_8 h.alive p.alive in
-    daemon-made h life counter origin origin_tick rate tick target rest least moved steps rank master alive
+    daemon_made h life counter origin origin_tick rate tick target rest least moved steps rank master alive
 
-had-back : (b : Bool) (n : ℕ) → n ≡ (if b then 1 else 0) → (n == 1) ≡ b
-had-back true n e = rw e refl
-had-back false n e = rw e refl
+had_back : (b : Bool) (n : ℕ) → n ≡ (if b then 1 else 0) → (n == 1) ≡ b
+had_back true n e = rw e refl
+had_back false n e = rw e refl
 
-had-small : (b : Bool) → (if b then 1 else 0) < 2 ^ 64
-had-small true = omega arith
-had-small false = omega arith
+had_small : (b : Bool) → (if b then 1 else 0) < 2 ^ 64
+had_small true = omega arith
+had_small false = omega arith
 
-take-whole : (name : List ℕ) → length name ≡ 256 → take 256 name ≡ name
-take-whole name size = take_all 256 name (omega (arith, size))
+take_whole : (name : List ℕ) → length name ≡ 256 → take 256 name ≡ name
+take_whole name size = take_all 256 name (omega (arith, size))
 
 -- a half is read back if each of its fields is
-look-made : (h : LookHalf)
+look_made : (h : LookHalf)
     → number_at (look_octets h) 0 ≡ h.life
     → cast_signed w64 (number_at (look_octets h) 8) ≡ h.moved
     → number_at (look_octets h) 16 ≡ h.looked
@@ -96,7 +96,7 @@ look-made : (h : LookHalf)
     → cast_signed w64 (number_at (look_octets h) 64) ≡ h.learned
     → take 256 (drop 72 (look_octets h)) ≡ h.name
     → look_half_of (look_octets h) ≡ h
-look-made h life moved looked low high master drift had learned name =
+look_made h life moved looked low high master drift had learned name =
     rw (life, moved, looked, low, high, master, drift, had, learned, name) refl
 
 pub look_back : (h : LookHalf) → IsLookHalf h → look_half_of (look_octets h) ≡ h
@@ -112,8 +112,8 @@ look_back h p =
     (from_le_bytes-to_le_bytes_8 (cast_unsigned w64 h.high) (small h.high p.high)) in
     let master : number_at (look_octets h) 40 ≡ h.master = from_le_bytes-to_le_bytes_8 h.master p.master in
     let drift : number_at (look_octets h) 48 ≡ h.drift = from_le_bytes-to_le_bytes_8 h.drift p.drift in
-    let had = had-back h.had (number_at (look_octets h) 56) (from_le_bytes-to_le_bytes_8 (if h.had then 1 else 0) (had-small h.had)) in
+    let had = had_back h.had (number_at (look_octets h) 56) (from_le_bytes-to_le_bytes_8 (if h.had then 1 else 0) (had_small h.had)) in
     let learned = signed h.learned (number_at (look_octets h) 64) p.learned
     (from_le_bytes-to_le_bytes_8 (cast_unsigned w64 h.learned) (small h.learned p.learned)) in
-    let name : take 256 (drop 72 (look_octets h)) ≡ h.name = take-whole h.name p.name in
-    look-made h life moved looked low high master drift had learned name
+    let name : take 256 (drop 72 (look_octets h)) ≡ h.name = take_whole h.name p.name in
+    look_made h life moved looked low high master drift had learned name

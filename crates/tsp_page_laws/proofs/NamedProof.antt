@@ -24,7 +24,7 @@ use Rattle.tsp_base.specs.Words.{
   is_shared,
   Within,
 }
-use Rattle.tsp_base.proofs.{Views.plain_view, PlaceLemmas.Within-through}
+use Rattle.tsp_base.proofs.{Views.plain_view, PlaceLemmas.Within_through}
 use Rattle.tsp_promises.specs.{
   Agreed.Unchanged,
   DeedFits.DeedFits,
@@ -37,8 +37,8 @@ use Rattle.tsp_promises.specs.{
   Setting.Setting,
   Setting.setup_of,
 }
-use Rattle.tsp_promises.proofs.promised.OwnFitsProof.{deed_fits, fits_at, own_fits, of-tick, tick_in, place-time}
-use Rattle.tsp_promises.proofs.{shared.HistoryPlaces.Within-of, shared.HistoryPlaces.of-own, promised.SinceProof.since, shared.Clocks.near}
+use Rattle.tsp_promises.proofs.promised.OwnFitsProof.{deed_fits, fits_at, own_fits, of_tick, tick_in, place_time}
+use Rattle.tsp_promises.proofs.{shared.HistoryPlaces.Within_of, shared.HistoryPlaces.of_own, promised.SinceProof.since, shared.Clocks.near}
 use Rattle.tsp_rules.specs.CommonRows.{master_name_in}
 use Rattle.tsp_page_laws.specs.Named.{LeadsAfter}
 
@@ -55,17 +55,17 @@ candidate : Candidate ≡ Master → ⊥
 candidate e = cc
 
 -- a port that leads after a deed that it sees leads by then for ELECT_MIN ticks since the boot
-rested-deed : (setting : Setting) (q : Port) (l : Line) (t : List Line) (deed : Deed) → DeedFits (setup_of setting (node_of l) q) deed l.did (view q
+rested_deed : (setting : Setting) (q : Port) (l : Line) (t : List Line) (deed : Deed) → DeedFits (setup_of setting (node_of l) q) deed l.did (view q
     t) → tick_of (dids t) ≤ l.did.tick
     → (role (view q t) ≡ Master → boot_tick (dids t) + ELECT_MIN ≤ tick_of (dids t)) → role_after deed (role (view q t)) ≡ Master
     → boot_after deed l.did.tick (boot_tick (dids t)) + ELECT_MIN ≤ l.did.tick
-rested-deed setting q l t (Acts Boot) f tick h leads = absurd (starting leads)
-rested-deed setting q l t (Acts (Become Master)) f tick h leads = subst (λ k. boot_tick k + ELECT_MIN ≤ l.did.tick) (plain_view q t) f.rested
-rested-deed setting q l t (Acts (Become Starting)) f tick h leads = absurd (starting leads)
-rested-deed setting q l t (Acts (Become Loose)) f tick h leads = absurd (loose leads)
-rested-deed setting q l t (Acts (Become (Follow p))) f tick h leads = absurd (follow p leads)
-rested-deed setting q l t (Acts (Become Candidate)) f tick h leads = absurd (candidate leads)
-rested-deed setting q l t deed f tick h leads = omega (arith, h leads, tick)
+rested_deed setting q l t (Acts Boot) f tick h leads = absurd (starting leads)
+rested_deed setting q l t (Acts (Become Master)) f tick h leads = subst (λ k. boot_tick k + ELECT_MIN ≤ l.did.tick) (plain_view q t) f.rested
+rested_deed setting q l t (Acts (Become Starting)) f tick h leads = absurd (starting leads)
+rested_deed setting q l t (Acts (Become Loose)) f tick h leads = absurd (loose leads)
+rested_deed setting q l t (Acts (Become (Follow p))) f tick h leads = absurd (follow p leads)
+rested_deed setting q l t (Acts (Become Candidate)) f tick h leads = absurd (candidate leads)
+rested_deed setting q l t deed f tick h leads = omega (arith, h leads, tick)
 
 neither : (b c : Bool) → (b || c) ≡ false → c ≡ false
 neither true c e = absurd (false≢true (sym e))
@@ -76,34 +76,34 @@ unseen : (deed : Deed) (x was : ℕ) → is_shared deed ≡ false → boot_after
 unseen (Acts Boot) x was e = absurd (false≢true (sym e))
 unseen deed x was e = refl
 
-rested-line : (setting : Setting) (q : Port) (l : Line) (t : List Line) → OwnLineFits setting l t → (role (view q t) ≡ Master
+rested_line : (setting : Setting) (q : Port) (l : Line) (t : List Line) → OwnLineFits setting l t → (role (view q t) ≡ Master
     → boot_tick (dids t) + ELECT_MIN ≤ tick_of (dids t))
     → (b : Bool) → ((l.port.0 == q.0) || is_shared l.did.deed) ≡ b → role (seen_as b l.did ∷ view q t) ≡ Master
     → boot_after l.did.deed l.did.tick (boot_tick (dids t)) + ELECT_MIN ≤ l.did.tick
-rested-line setting q l t f h true e leads = rested-deed setting q l t l.did.deed (f.deeds q e) f.tick h leads
-rested-line setting q l t f h false e leads =
+rested_line setting q l t f h true e leads = rested_deed setting q l t l.did.deed (f.deeds q e) f.tick h leads
+rested_line setting q l t f h false e leads =
     let same = unseen l.did.deed l.did.tick (boot_tick (dids t)) (neither (l.port.0 == q.0) (is_shared l.did.deed) e) in
     rw same (omega (arith, h leads, f.tick))
 
 rested : (setting : Setting) (q : Port) (t : List Line) → OwnFits setting t → role (view q t) ≡ Master → boot_tick (dids t) + ELECT_MIN ≤ tick_of (dids t)
 rested setting q [] f leads = absurd (starting leads)
-rested setting q (l ∷ t) f leads = rested-line setting q l t f.0 (rested setting q t f.1) ((l.port.0 == q.0) || is_shared l.did.deed) refl leads
+rested setting q (l ∷ t) f leads = rested_line setting q l t f.0 (rested setting q t f.1) ((l.port.0 == q.0) || is_shared l.did.deed) refl leads
 
 -- a node that leads so soon after a line of its own hasn't booted since
 pub one_life : (setting : Setting) (m : ℕ) (stamp : Line) (older named : List Line) → Fits setting named → LeadsAfter m stamp older named
     → lives (dids (of m (stamp ∷ older))) ≡ lives (dids (of m named))
 one_life setting m stamp older named fits a =
     let own = own_fits setting m named fits in
-    let s = since setting (of m (stamp ∷ older)) (of m named) own (Within-of m (stamp ∷ older) named a.place) in
+    let s = since setting (of m (stamp ∷ older)) (of m named) own (Within_of m (stamp ∷ older) named a.place) in
     elim s.life [ inl o ↦ o.lives | inr o ↦ absurd (too_soon o) ]
   where
     too_soon : NewLife (dids (of m (stamp ∷ older))) (dids (of m named)) → ⊥
     too_soon o =
         let long = rested setting a.port (of m named) (own_fits setting m named fits) a.leads in
-        let at : tick_of (dids (of m (stamp ∷ older))) ≡ stamp.did.tick = ap (λ z. tick_of (dids z)) (of-own m stamp older a.node) in
+        let at : tick_of (dids (of m (stamp ∷ older))) ≡ stamp.did.tick = ap (λ z. tick_of (dids z)) (of_own m stamp older a.node) in
         let ticks : stamp.did.tick ≡ setting.tick m stamp.did.step.at = tick_in setting m stamp older named fits a.node a.place in
-        let last = of-tick setting m named fits in
-        let order = place-time setting (stamp ∷ older) named fits a.place in
+        let last = of_tick setting m named fits in
+        let order = place_time setting (stamp ∷ older) named fits a.place in
         let n = near setting m stamp.did.step.at (time_of (dids named)) order in
         omega (arith, long, at, ticks, last, n.most, o.boot, a.soon)
 
@@ -113,7 +113,7 @@ pub unchanged_since : (setting : Setting) (m : ℕ) (stamp : Line) (older named 
     → Unchanged m (stamp ∷ older) h
 unchanged_since setting m stamp older named h fits w a life corrects =
     let before = fits_at setting named h fits w in record {
-      within = Within-through (stamp ∷ older) named h a.place w;
+      within = Within_through (stamp ∷ older) named h a.place w;
       since = record { corrects = corrects; lives = one_life setting m stamp older named before a ∙ life };
     }
 

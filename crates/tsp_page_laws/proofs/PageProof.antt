@@ -1,7 +1,7 @@
 -- Each history in which a node has booted has a page.
 use Rattle.std.proofs.Common.{◌≡◌, ℕ, ℤ, ◌≤ℤ◌, List, true, refl, arith}
 use Rattle.std.proofs.lemmas.Int.{ints}
-use Rattle.tsp_base.proofs.PlaceLemmas.{Within-all}
+use Rattle.tsp_base.proofs.PlaceLemmas.{Within_all}
 use Rattle.tsp_base.specs.Words.{Line, of, dids, up}
 use Rattle.tsp_promises.specs.Setting.{Setting}
 use Rattle.tsp_page_laws.specs.{Looks.SaysClock, Looks.SaysLook, Pages.half_of, Pages.glance_of}
@@ -25,9 +25,9 @@ glance_says setting k m t h = record {
   ends = omega arith;
   passed = omega arith;
   there = h;
-  other = record { within = Within-all h; since = record { corrects = refl; lives = refl } };
+  other = record { within = Within_all h; since = record { corrects = refl; lives = refl } };
   seen = h;
-  seen_in = Within-all h;
+  seen_in = Within_all h;
   same_life = refl;
   moved_is = refl;
   looked_is = refl;

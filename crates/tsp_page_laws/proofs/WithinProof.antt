@@ -28,10 +28,11 @@ use Rattle.std.proofs.Common.{
   mul-le-mul_left,
 }
 use Rattle.std.proofs.lemmas.{Int.ints, Bool.leb-true}
-use Rattle.tsp_base.proofs.PlaceLemmas.{Within-all}
+use Rattle.tsp_base.proofs.PlaceLemmas.{Within_all}
 use Rattle.tsp_base.specs.Words.{Line, of, dids, lives, moved, width}
 use Rattle.tsp_promises.specs.{ClockAt.clock_at, Fits.Fits, Setting.Setting, Looked.Look, Looked.IsAhead}
-use Rattle.tsp_promises.proofs.{promised.ClockProof.clock_target, promised.ClockProof.offset, promised.ClockProof.offset_more, shared.Clocks.tick-mono, promised.LookedProof.looked}
+use Rattle.tsp_promises.proofs.{promised.ClockProof.clock_target, promised.ClockProof.offset, promised.ClockProof.offset_more, shared.Clocks.tick_mono}
+use Rattle.tsp_promises.proofs.{promised.LookedProof.looked}
 use Rattle.tsp_page.specs.{Formula.spread, Formula.target_at, Formula.tick_error, Readings.interval_by, Readings.looked_interval, Readings.leading_interval}
 use Rattle.tsp_page.specs.declared.{daemon_half.DaemonHalf.DaemonHalf, look_half.LookHalf.LookHalf}
 use Rattle.tsp_page.specs.declared.rank.Rank.{Rank, TheVariants.Nobody, TheVariants.Follows, TheVariants.Leads}
@@ -45,8 +46,8 @@ by_all_ticks p y x small reach =
     let c : (p * y + 999999) / 1000000 * p ≤ (p * y + 999999) / 1000000 * 1000 = mul-le-mul_left ((p * y + 999999) / 1000000) small in
     omega (arith, a, c)
 
-width-mono : (p x y : ℕ) → x ≤ y → width p x ≤ width p y
-width-mono p x y h = let m : p * x ≤ p * y = mul-le-mul_left p h in omega (arith, m)
+width_mono : (p x y : ℕ) → x ≤ y → width p x ≤ width p y
+width_mono p x y h = let m : p * x ≤ p * y = mul-le-mul_left p h in omega (arith, m)
 
 -- true time since the master was read, by the own ticks since
 reach : (setting : Setting) (k first middle t : ℕ) → first ≤ middle → middle ≤ t → t - middle ≤ (setting.tick k t - setting.tick k first) +
@@ -56,8 +57,8 @@ reach setting k first middle t b p =
     let slow : setting.tick k middle + (t - middle) ≤ setting.tick k t + (setting.drift * (t - middle) + 999999) / 1000000 =
     subst (λ w. setting.tick k middle + (t - middle) ≤ setting.tick k w + (setting.drift * (t - middle) + 999999) / 1000000) e ((setting.ticks
     k).slow middle (t - middle)) in
-    let early = tick-mono setting k first middle b in
-    let late = tick-mono setting k middle t p in
+    let early = tick_mono setting k first middle b in
+    let late = tick_mono setting k middle t p in
     omega (arith, slow, early, late)
 
 ≤ℤ-same : (z : ℤ) → z ≤ℤ z
@@ -98,9 +99,9 @@ look_of setting k m t h l s = record {
   before = h;
   there = s.there;
   after = h;
-  own_before = record { within = Within-all h; since = record { corrects = refl; lives = refl } };
+  own_before = record { within = Within_all h; since = record { corrects = refl; lives = refl } };
   other = s.other;
-  own_after = record { within = Within-all h; since = record { corrects = refl; lives = refl } };
+  own_after = record { within = Within_all h; since = record { corrects = refl; lives = refl } };
 }
 
 -- for so many own ticks the spread is twice a width that is as wide as that of the true time
@@ -116,7 +117,7 @@ chosen setting h fits k m t look false short =
     let near : span ≤ y + 2 * width setting.drift y = by_all_ticks setting.drift span y setting.small (reach setting k look.first look.middle t
     look.begins before_t) in
     wider setting k m t h look (width setting.drift span) (width setting.drift (y + 2 * width setting.drift y))
-    (width-mono setting.drift span (y + 2 * width setting.drift y) near) (looked setting h fits k m t look).0
+    (width_mono setting.drift span (y + 2 * width setting.drift y) near) (looked setting h fits k m t look).0
 
 ahead_by : (setting : Setting) (h : List Line) → Fits setting h → (k m t : ℕ) (look : Look k m h t)
     → IsAhead setting look (width setting.drift (ticks_since setting look + tick_error setting.drift (ticks_since setting look)))

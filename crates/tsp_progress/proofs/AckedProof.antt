@@ -10,9 +10,9 @@ use Rattle.tsp_rules.specs.SlaveRows.{is_repeated, takes_amount, takes_value}
 use Rattle.tsp_rules.specs.{SendRows.ends_by_ack, SendRows.has_election, SendRows.has_other}
 use Rattle.tsp_base.specs.Words.{Acts, Elsewhere, HeaderValue, Here, Line, MessageValue, Past, Seen, Within, bare, is_numbered, line_of, of, peer_of, plain}
 use Rattle.tsp_base.specs.Words.{role, tick_of, time_in, view}
-use Rattle.tsp_base.proofs.{PlaceLemmas.Within-tail, PlaceLemmas.Within-through, ViewPlaces.Within-view}
+use Rattle.tsp_base.proofs.{PlaceLemmas.Within_tail, PlaceLemmas.Within_through, ViewPlaces.Within_view}
 use Rattle.tsp_promises.specs.{Fits.Fits, Fits.LineFits, Fits.node_of, Setting.Setting}
-use Rattle.tsp_promises.proofs.{shared.Clocks.tick-mono, shared.EverywhereLemmas.Everywhere-at, promised.OwnFitsProof.own_fits, promised.OwnFitsProof.seen_in}
+use Rattle.tsp_promises.proofs.{shared.Clocks.tick_mono, shared.EverywhereLemmas.Everywhere_at, promised.OwnFitsProof.own_fits, promised.OwnFitsProof.seen_in}
 use Rattle.tsp_run.specs.{Clocked.Clocks, Clocked.SetByClocks, Clocked.clocks_of, Clocked.run_by}
 use Rattle.tsp_run.proofs.{OwnClocks.possible_own, OwnClocks.runs_by_own_clocks, OwnClocks.set_own, RunFits.clocked_runs_fit}
 use Rattle.tsp_progress.specs.AckedInTime.{Acknowledged, AckedAs, AckedInTime, Begins, ClockedRunsAcknowledge, EndedBefore, IsPrompt, NeverGivenUp}
@@ -21,8 +21,8 @@ use Rattle.tsp_progress.specs.AnswersInTime.{AnswerTaken, Asks, Meanwhile}
 use Rattle.tsp_progress.specs.{ByTable.ByTable, ByTable.node_in, Delivered.Arrives, Delivered.Delivered, GivenUp.GaveFits, GivenUp.GivesUpLate, GivenUp.Owes}
 use Rattle.tsp_progress.specs.{Obedient.Obedient, SentAway.past_there}
 use Rattle.tsp_progress.specs.Heeds.{DoesNext, Hears, arms_for_delay, is_candidate_role, is_master_role, is_up_role, moved_by, posts_bare, role_before, set_to}
-use Rattle.tsp_progress.proofs.AnswersProof.{answer_heard, answered, answers_in_time, arrival, candidate-awake, first_of, hears, master-awake, up-awake}
-use Rattle.tsp_progress.proofs.{FoundProof.view-tick, GiveUpProof.clocked_runs_give_up, HeedsProof.adjtime_again, HeedsProof.all_heed}
+use Rattle.tsp_progress.proofs.AnswersProof.{answer_heard, answered, answers_in_time, arrival, candidate_awake, first_of, hears, master_awake, up_awake}
+use Rattle.tsp_progress.proofs.{FoundProof.view_tick, GiveUpProof.clocked_runs_give_up, HeedsProof.adjtime_again, HeedsProof.all_heed}
 use Rattle.tsp_progress.proofs.HeedsProof.{conflict_acks, idle_refuses, settime_again}
 use Rattle.tsp_progress.proofs.SearchKept.{rising_within, view_within}
 use Rattle.tsp_progress.proofs.SendKept.{Still, kept, never, sending}
@@ -59,15 +59,15 @@ module _ {clocks : Clocks} {header : HeaderValue} {setting : Setting} (set : Set
 
     tail : Within Later Whole
     tail = view_within l.port (of (node_of l) taken.before) (of (node_of l) world)
-        (Within-tail taken.line (of (node_of l) taken.before) (of (node_of l) world) there)
+        (Within_tail taken.line (of (node_of l) taken.before) (of (node_of l) world) there)
 
     -- when the answer is taken the send isn't old
     soon : taken.line.did.tick < l.did.tick + TRIES * RETRY
     soon =
-        let first : l.did.tick ≡ setting.tick (node_of l) l.did.step.at = (Everywhere-at (LineFits setting) l older world fits asks.posts.place).tick in
+        let first : l.did.tick ≡ setting.tick (node_of l) l.did.step.at = (Everywhere_at (LineFits setting) l older world fits asks.posts.place).tick in
         let last : taken.line.did.tick ≡ setting.tick (node_of l) taken.line.did.step.at = subst (λ n. taken.line.did.tick ≡
-        setting.tick n taken.line.did.step.at) taken.node (Everywhere-at (LineFits setting) taken.line taken.before world fits taken.place).tick in
-        let mono = tick-mono setting (node_of l) taken.line.did.step.at (l.did.step.at + 2 * long) taken.soon in
+        setting.tick n taken.line.did.step.at) taken.node (Everywhere_at (LineFits setting) taken.line taken.before world fits taken.place).tick in
+        let mono = tick_mono setting (node_of l) taken.line.did.step.at (l.did.step.at + 2 * long) taken.soon in
         let fast = (setting.ticks (node_of l)).fast l.did.step.at (2 * long) in
         omega (arith, first, last, mono, fast, prompt)
 
@@ -79,7 +79,7 @@ module _ {clocks : Clocks} {header : HeaderValue} {setting : Setting} (set : Set
         let up = rising_within (view l.port (taken.line ∷ of (node_of l) taken.before)) Whole
         (view_within l.port (taken.line ∷ of (node_of l) taken.before) (of (node_of l) world) there) rises in
         let le : tick_of (plain Later) ≤ tick_of (plain (view l.port (taken.line ∷ of (node_of l) taken.before))) = up.0 in
-        let same = view-tick l.port taken.line (of (node_of l) taken.before) in
+        let same = view_tick l.port taken.line (of (node_of l) taken.before) in
         omega (arith, le, same, soon)
 
     open-or-ended : EndedBefore p (Here l.did ∷ Was) Later ⊎ Open
@@ -107,7 +107,7 @@ module _ {clocks : Clocks} {header : HeaderValue} {setting : Setting} (set : Set
         record {
           end = acked.did;
           before = Here taken.line.did ∷ Later;
-          place = subst (λ k. Within k Whole) seen (Within-view l.port (acked ∷ own) (of (node_of l) world) place);
+          place = subst (λ k. Within k Whole) seen (Within_view l.port (acked ∷ own) (of (node_of l) world) place);
           open_is = rw taken.took still.open_is;
           is = ack;
         }
@@ -116,7 +116,7 @@ module _ {clocks : Clocks} {header : HeaderValue} {setting : Setting} (set : Set
     ended-later e = record {
       end = e.end;
       before = e.before;
-      place = Within-through (Here e.end ∷ e.before) Later Whole e.place tail;
+      place = Within_through (Here e.end ∷ e.before) Later Whole e.place tail;
       open_is = e.open_is;
       is =
           e.is;
@@ -150,23 +150,23 @@ module _ {clocks : Clocks} {header : HeaderValue} {setting : Setting} (set : Set
         (ap (answers_election m.number) is ∙ rw (kind, own) refl)
 
   -- a send that an ACK ends
-  by-ack : (l : Line) (older : List Line) (p : PeerId) (m : MessageValue) → Asks setting long t stays s l older world p (Message m) →
+  by_ack : (l : Line) (older : List Line) (p : PeerId) (m : MessageValue) → Asks setting long t stays s l older world p (Message m) →
       is_numbered m.kind ≡ true → ends_by_ack m.kind ≡ true → Begins is_up_role l older →
       AnswerTaken long l older world p (Message (bare Ack m.number (node_in header p.0).name)) →
       Acknowledged header long l older world p (bare Ack m.number (node_in header p.0).name) (λ x past. Acked p ∷ [])
-  by-ack l older p m asks numbered ends sends taken =
+  by_ack l older p m asks numbered ends sends taken =
       let ack = bare Ack m.number (node_in header p.0).name in
       acknowledged l older p m asks numbered sends ack taken (λ x past. []) (λ k.
       let up : is_up_role (role_before (node_in header (node_of l)) taken.line (of (node_of l) taken.before)) ≡ true =
       ap is_up_role (role-there l older p m asks numbered sends ack taken k) ∙ sends.role_is in
       (all_heed header world table (node_of l)).ends.ack taken.line (of (node_of l) taken.before) p ack
       (answer_heard set world table long t stays s delivered l older p (Message m) asks ack taken
-      (up-awake set world table long t stays s delivered (role_before (node_in header (node_of l)) taken.line (of (node_of l) taken.before)) up)) refl up
+      (up_awake set world table long t stays s delivered (role_before (node_in header (node_of l)) taken.line (of (node_of l) taken.before)) up)) refl up
       (other-there l older p m asks numbered sends ack taken k ends))
 
   quits : AckedAs QuitKind is_up_role (λ l older p m. Meanwhile header setting long l older world p (λ x past. is_up_role (role past.seen))) Ack
       (λ p x past. Acked p ∷ []) header setting long t stays s world
-  quits l older p m asks kind sends up = by-ack l older p m asks (rw kind refl) (rw kind refl) sends
+  quits l older p m asks kind sends up = by_ack l older p m asks (rw kind refl) (rw kind refl) sends
       ((answers_in_time set world table long t stays s delivered).quit l older p m asks kind up)
 
   conflicts : AckedAs Conflict is_up_role (λ l older p m. Meanwhile header setting long l older world p (λ x past. is_master_role (role past.seen))) Ack
@@ -175,12 +175,12 @@ module _ {clocks : Clocks} {header : HeaderValue} {setting : Setting} (set : Set
       let a = arrival set world table long t stays s delivered l older p (Message m) asks in
       let is = leads a.line a.before a.place a.later a.node a.net a.soon in
       let ack = posts_bare Ack m.number (past_there header p.0 a.line a.before) (peer_of (node_of l)) in
-      by-ack l older p m asks (rw kind refl) (rw kind refl) sends
+      by_ack l older p m asks (rw kind refl) (rw kind refl) sends
       (answered set world table long t stays s delivered l older p (Message m) asks a (ack ∷ []) (Message (bare Ack m.number (node_in header p.0).name))
       (first_of set world table long t stays s delivered ack [])
       (conflict_acks (node_in header p.0) (of p.0 world) (table p.0) a.line (of p.0 a.before) (peer_of (node_of l)) m
       (hears set world table long t stays s delivered l older p m asks a
-      (master-awake set world table long t stays s delivered (role_before (node_in header p.0) a.line (of p.0 a.before)) is)) kind is refl))
+      (master_awake set world table long t stays s delivered (role_before (node_in header p.0) a.line (of p.0 a.before)) is)) kind is refl))
 
   third_of : (a b c : Act) → Among c (a ∷ b ∷ c ∷ [])
   third_of a b c = record { front = a ∷ b ∷ []; back = []; is = refl }
@@ -206,10 +206,10 @@ module _ {clocks : Clocks} {header : HeaderValue} {setting : Setting} (set : Set
       (first_of set world table long t stays s delivered ack []) (repeat e)
 
   -- p's port hears the correction
-  follower-hears : (l : Line) (older : List Line) (p : PeerId) (m : MessageValue) (asks : Asks setting long t stays s l older world p (Message m))
+  follower_hears : (l : Line) (older : List Line) (p : PeerId) (m : MessageValue) (asks : Asks setting long t stays s l older world p (Message m))
       (a : Arrives setting long l older world p (Message m)) → role_before (node_in header p.0) a.line (of p.0 a.before) ≡ Follow (peer_of (node_of l)) →
       Hears (node_in header p.0) (of p.0 world) a.line (of p.0 a.before) (peer_of (node_of l)) m
-  follower-hears l older p m asks a follows = hears set world table long t stays s delivered l older p m asks a (ap is_starting_role follows)
+  follower_hears l older p m asks a follows = hears set world table long t stays s delivered l older p m asks a (ap is_starting_role follows)
 
   adjtimes : AckedAs AdjTime is_up_role (λ l older p m. Obedient header setting long l older world p (may_obey l m (takes_amount m.number (time_in m.body))))
       Ack (λ p x past. Acked p ∷ []) header setting long t stays s world
@@ -218,8 +218,8 @@ module _ {clocks : Clocks} {header : HeaderValue} {setting : Setting} (set : Set
       let o = obeys a.line a.before a.place a.later a.node a.net a.soon in
       let past = past_there header p.0 a.line a.before in
       let x = a.line.did.tick in
-      let h = follower-hears l older p m asks a o.0 in
-      by-ack l older p m asks (rw kind refl) (rw kind refl) sends (obeyed l older p m asks a (takes_amount m.number (time_in m.body) x past)
+      let h = follower_hears l older p m asks a o.0 in
+      by_ack l older p m asks (rw kind refl) (rw kind refl) sends (obeyed l older p m asks a (takes_amount m.number (time_in m.body) x past)
       (is_repeated (peer_of (node_of l)) m.number x past) o.1.1 (moved_by (time_in m.body) x past)
       (λ takes. (all_heed header world table p.0).obeys.adjtime a.line (of p.0 a.before) (peer_of (node_of l)) m h kind o.0 o.1.0 takes)
       (λ again. adjtime_again (node_in header p.0) (of p.0 world) (table p.0) a.line (of p.0 a.before) (peer_of (node_of l)) m h kind o.0 o.1.0 again))
@@ -231,31 +231,31 @@ module _ {clocks : Clocks} {header : HeaderValue} {setting : Setting} (set : Set
       let o = obeys a.line a.before a.place a.later a.node a.net a.soon in
       let past = past_there header p.0 a.line a.before in
       let x = a.line.did.tick in
-      let h = follower-hears l older p m asks a o.0 in
-      by-ack l older p m asks (rw kind refl) (rw kind refl) sends (obeyed l older p m asks a (takes_value m.number (time_in m.body) x past)
+      let h = follower_hears l older p m asks a o.0 in
+      by_ack l older p m asks (rw kind refl) (rw kind refl) sends (obeyed l older p m asks a (takes_value m.number (time_in m.body) x past)
       (is_repeated (peer_of (node_of l)) m.number x past) o.1.1 (set_to (time_in m.body) x past)
       (λ takes. (all_heed header world table p.0).obeys.settime a.line (of p.0 a.before) (peer_of (node_of l)) m h kind o.0 o.1.0 takes)
       (λ again. settime_again (node_in header p.0) (of p.0 world) (table p.0) a.line (of p.0 a.before) (peer_of (node_of l)) m h kind o.0 o.1.0 again))
 
   -- a candidate hears of the vote
-  candidate-hears : (l : Line) (older : List Line) (p : PeerId) (m : MessageValue) (asks : Asks setting long t stays s l older world p (Message m)) →
+  candidate_hears : (l : Line) (older : List Line) (p : PeerId) (m : MessageValue) (asks : Asks setting long t stays s l older world p (Message m)) →
       (numbered : is_numbered m.kind ≡ true) (sends : Begins is_candidate_role l older) (answer : MessageValue)
       (taken : AnswerTaken long l older world p (Message answer)) →
       Still p m l.did (view l.port (of (node_of l) older)) asks.posts.deed numbered sends.begins (view l.port (of (node_of l) taken.before)) →
       (is_candidate_role (role_before (node_in header (node_of l)) taken.line (of (node_of l) taken.before)) ≡ true)
       × Hears (node_in header (node_of l)) (of (node_of l) world) taken.line (of (node_of l) taken.before) p answer
-  candidate-hears l older p m asks numbered sends answer taken k =
+  candidate_hears l older p m asks numbered sends answer taken k =
       let stands : is_candidate_role (role_before (node_in header (node_of l)) taken.line (of (node_of l) taken.before)) ≡ true =
       ap is_candidate_role (role-there l older p m asks numbered sends answer taken k) ∙ sends.role_is in (
         stands,
         answer_heard set world table long t stays s delivered l older p (Message m) asks answer taken
-            (candidate-awake set world table long t stays s delivered
+            (candidate_awake set world table long t stays s delivered
             (role_before (node_in header (node_of l)) taken.line (of (node_of l) taken.before)) stands),
       )
 
-  idle-awake : (r : Role) → is_idle r ≡ true → is_starting_role r ≡ false
-  idle-awake Starting e = absurd (true≢false (sym e))
-  idle-awake _ e = refl
+  idle_awake : (r : Role) → is_idle r ≡ true → is_starting_role r ≡ false
+  idle_awake Starting e = absurd (true≢false (sym e))
+  idle_awake _ e = refl
 
   -- a vote
   accepted : (l : Line) (older : List Line) (p : PeerId) (m : MessageValue) → Asks setting long t stays s l older world p (Message m) → m.kind ≡ Election →
@@ -272,7 +272,7 @@ module _ {clocks : Clocks} {header : HeaderValue} {setting : Setting} (set : Set
       answered set world table long t stays s delivered l older p (Message m) asks a (back ∷ arm ∷ accept ∷ [])
       (Message (bare Accept m.number (node_in header p.0).name)) (third_of back arm accept)
       ((all_heed header world table p.0).votes.backs a.line (of p.0 a.before) (peer_of (node_of l)) m
-      (hears set world table long t stays s delivered l older p m asks a (idle-awake (role_before (node_in header p.0) a.line (of p.0 a.before)) both.0)) kind
+      (hears set world table long t stays s delivered l older p m asks a (idle_awake (role_before (node_in header p.0) a.line (of p.0 a.before)) both.0)) kind
       both.0 both.1)
 
   votes : AckedAs Election is_candidate_role (λ l older p m. Meanwhile header setting long l older world p (λ x past. is_idle (role past.seen) &&
@@ -282,7 +282,7 @@ module _ {clocks : Clocks} {header : HeaderValue} {setting : Setting} (set : Set
       let taken = accepted l older p m asks kind backs in
       let accept = bare Accept m.number (node_in header p.0).name in
       acknowledged l older p m asks numbered sends accept taken (λ x past. Backer p ∷ []) (λ k.
-      let h = candidate-hears l older p m asks numbered sends accept taken k in
+      let h = candidate_hears l older p m asks numbered sends accept taken k in
       (all_heed header world table (node_of l)).ends.accept taken.line (of (node_of l) taken.before) p accept h.1 refl h.0
       (election-there l older p m asks numbered sends accept taken k kind))
 
@@ -309,20 +309,20 @@ module _ {clocks : Clocks} {header : HeaderValue} {setting : Setting} (set : Set
         AnswerTaken long l older world p (Message (bare Refuse m.number (node_in header p.0).name))
     by_role true e k = next ((all_heed header world table p.0).votes.refuses a.line (of p.0 a.before) back m
         (hears set world table long t stays s delivered l older p m asks a
-        (candidate-awake set world table long t stays s delivered (role past.seen) e)) kind e refl)
+        (candidate_awake set world table long t stays s delivered (role past.seen) e)) kind e refl)
     by_role false e k = let both = and_parts (is_idle (role past.seen)) (not (may_back_at back a.line.did.tick past)) k in
         next (idle_refuses (node_in header p.0) (of p.0 world) (table p.0) a.line (of p.0 a.before) back m
-        (hears set world table long t stays s delivered l older p m asks a (idle-awake (role past.seen) both.0)) kind both.0 both.1)
+        (hears set world table long t stays s delivered l older p m asks a (idle_awake (role past.seen) both.0)) kind both.0 both.1)
 
   -- a candidate that is refused stands no more
-  pub refused-ends : (l : Line) (older : List Line) (p : PeerId) (m : MessageValue) → Asks setting long t stays s l older world p (Message m) →
+  pub refused_ends : (l : Line) (older : List Line) (p : PeerId) (m : MessageValue) → Asks setting long t stays s l older world p (Message m) →
       m.kind ≡ Election → Begins is_candidate_role l older → AnswerTaken long l older world p (Message (bare Refuse m.number (node_in header p.0).name)) →
       Acknowledged header long l older world p (bare Refuse m.number (node_in header p.0).name) (λ x past. Acked p ∷ Become Loose ∷ arms_for_delay x past ∷ [])
-  refused-ends l older p m asks kind sends taken =
+  refused_ends l older p m asks kind sends taken =
       let numbered : is_numbered m.kind ≡ true = rw kind refl in
       let refuse = bare Refuse m.number (node_in header p.0).name in
       acknowledged l older p m asks numbered sends refuse taken (λ x past. Become Loose ∷ arms_for_delay x past ∷ []) (λ k.
-      let h = candidate-hears l older p m asks numbered sends refuse taken k in
+      let h = candidate_hears l older p m asks numbered sends refuse taken k in
       (all_heed header world table (node_of l)).ends.refuse taken.line (of (node_of l) taken.before) p refuse h.1 refl h.0
       (election-there l older p m asks numbered sends refuse taken k kind))
 
@@ -330,7 +330,7 @@ module _ {clocks : Clocks} {header : HeaderValue} {setting : Setting} (set : Set
       Refuse (λ p x past. Acked p ∷ Become Loose ∷ arms_for_delay x past ∷ []) header setting long t stays s world
   refusals l older p m asks kind sends denies =
       let a = arrival set world table long t stays s delivered l older p (Message m) asks in
-      refused-ends l older p m asks kind sends (refused l older p m asks kind a (denies a.line a.before a.place a.later a.node a.net a.soon))
+      refused_ends l older p m asks kind sends (refused l older p m asks kind a (denies a.line a.before a.place a.later a.node a.net a.soon))
 
   pub acked_in_time : AckedInTime header setting long t stays s world
   acked_in_time = record { quits = quits; conflicts = conflicts; adjtimes = adjtimes; settimes = settimes; votes = votes; refusals = refusals }

@@ -7,7 +7,8 @@ use Rattle.tsp_rules.specs.{CommonRows.is_idle, Guards.is_master}
 use Rattle.tsp_base.specs.Words.{Acts, Begins, Deadlines, Deed, Did, Line, Seen, Here, Elsewhere, armed, armed_after, held, held_after, none_armed, of, plain}
 use Rattle.tsp_base.specs.Words.{role, role_after, stood, taken, taken_after, tick_of, view}
 use Rattle.tsp_promises.specs.{Fits.Fits, Fits.node_of, Setting.Setting}
-use Rattle.tsp_promises.proofs.{shared.EverywhereLemmas.Everywhere-at, shared.EverywhereLemmas.Everywhere-from, shared.EverywhereLemmas.Everywhere-within, promised.OwnFitsProof.own_fits}
+use Rattle.tsp_promises.proofs.{shared.EverywhereLemmas.Everywhere_at, shared.EverywhereLemmas.Everywhere_from, shared.EverywhereLemmas.Everywhere_within}
+use Rattle.tsp_promises.proofs.{promised.OwnFitsProof.own_fits}
 use Rattle.tsp_progress.specs.AlarmsFit.{AlarmFits, AlarmsFit, LateFits, Manner, NextFits, NextTo, RingFits}
 use Rattle.tsp_progress.specs.AloneLeads.{AloneLeads, AloneLeadsAt, is_word, last_word}
 use Rattle.tsp_progress.specs.AloneStands.{is_news, news, patience}
@@ -65,21 +66,21 @@ module _ (late : ℕ) (slack : late ≤ SLACK) (m : Manner) (d : Did) (before : 
       (held_after deed d.tick (held before)).boot (stirred (taken_after deed (taken before)))
       (role_after deed (role before)) (armed_after deed (armed before)) (elects_by deed) (seeks_by deed) (searches_by deed) (loosens_by deed) (wins_by deed)
 
-  news-le : news before ≤ d.tick
-  news-le = let le = waits.news_le in omega (arith, le, level)
+  news_le_holds : news before ≤ d.tick
+  news_le_holds = let le = waits.news_le in omega (arith, le, level)
 
-  heard-now : stirred (taken before) ≡ true → last_word before ≡ d.tick
-  heard-now e = inv.heard e ∙ sym level
+  heard_now : stirred (taken before) ≡ true → last_word before ≡ d.tick
+  heard_now e = inv.heard e ∙ sym level
 
   -- what was heard came in this step
-  both-now : stirred (taken before) ≡ true → news before ≡ last_word before
-  both-now e = waits.heard e ∙ sym (inv.heard e)
+  both_now : stirred (taken before) ≡ true → news before ≡ last_word before
+  both_now e = waits.heard e ∙ sym (inv.heard e)
 
   -- an act that is neither news nor a boot, in this phase
   phased : (rl : Role) (dl : Deadlines) (el sk se lo wi : Bool) → ((news before ≡ last_word before) ⊎
       Leading late (last_word before) (news before) rl dl el sk se lo wi) → Hears late (last_word before) (news before) d.tick (held before).boot
       (stirred (taken before)) rl dl el sk se lo wi
-  phased rl dl el sk se lo wi p = record { word_le = inv.word_le; boot_le = inv.boot_le; heard = heard-now; phase = p }
+  phased rl dl el sk se lo wi p = record { word_le = inv.word_le; boot_le = inv.boot_le; heard = heard_now; phase = p }
 
   -- the alarms that a leading port has off
   record Quieter (dl : Deadlines) : Type 0 where
@@ -87,9 +88,9 @@ module _ (late : ℕ) (slack : late ≤ SLACK) (m : Manner) (d : Did) (before : 
     pub search : (armed before).search ≡ None → dl.search ≡ None
     pub elect : (armed before).elect ≡ None → dl.elect ≡ None
 
-  goes-on : (dl : Deadlines) → Quieter dl → Hears late (last_word before) (news before) d.tick (held before).boot (stirred (taken before)) (role before) dl
+  goes_on : (dl : Deadlines) → Quieter dl → Hears late (last_word before) (news before) d.tick (held before).boot (stirred (taken before)) (role before) dl
       false false false false false
-  goes-on dl k = phased (role before) dl false false false false false (elim inv.phase [
+  goes_on dl k = phased (role before) dl false false false false false (elim inv.phase [
     | inl same ↦ inl same
     | inr l ↦ inr (record {
       soon = l.soon;
@@ -112,23 +113,23 @@ module _ (late : ℕ) (slack : late ≤ SLACK) (m : Manner) (d : Did) (before : 
       Hears late d.tick d.tick d.tick boot took rl dl el sk se lo wi
   worded rl dl boot le took el sk se lo wi = record { word_le = omega arith; boot_le = le; heard = λ e. refl; phase = inl refl }
 
-  boot-le : (held before).boot ≤ d.tick
-  boot-le = let a = inv.boot_le in let b = inv.word_le in let c = news-le in omega (arith, a, b, c)
+  boot_le_holds : (held before).boot ≤ d.tick
+  boot_le_holds = let a = inv.boot_le in let b = inv.word_le in let c = news_le_holds in omega (arith, a, b, c)
 
   -- a datagram
   took : (b : Bool) → Hears late (if b then d.tick else last_word before) (if b then d.tick else news before) d.tick (held before).boot b (role before)
       (armed before) false false false false false
-  took true = worded (role before) (armed before) (held before).boot boot-le true false false false false false
-  took false = unheard (goes-on (armed before) (record { quiet = λ e. e; search = λ e. e; elect = λ e. e }))
+  took true = worded (role before) (armed before) (held before).boot boot_le_holds true false false false false false
+  took false = unheard (goes_on (armed before) (record { quiet = λ e. e; search = λ e. e; elect = λ e. e }))
 
   -- the port stands for election
   stands : (Heard before ⊎ (newest_is elects_by before ≡ true)) → After (Acts (Become Candidate))
   stands cause = record {
-    word_le = (let a = inv.word_le in let b = news-le in omega (arith, a, b));
+    word_le = (let a = inv.word_le in let b = news_le_holds in omega (arith, a, b));
     boot_le = inv.boot_le;
-    heard = heard-now;
+    heard = heard_now;
     phase = elim cause [
-      | inl heard ↦ inl (sym (heard-now heard))
+      | inl heard ↦ inl (sym (heard_now heard))
       | inr by ↦ elim inv.phase [
         | inl same ↦ inr (record {
           soon = (let le = waits.rings by in omega (arith, le, level, same));
@@ -164,30 +165,30 @@ module _ (late : ℕ) (slack : late ≤ SLACK) (m : Manner) (d : Did) (before : 
   ])
 
   -- what comes after its window
-  won-next : (before : List Seen) → newest_is wins_by before ≡ true → NextTo m before (Acts (Become Loose)) → ⊥
-  won-next [] e n = true≢false (sym e)
-  won-next (Elsewhere k ∷ older) e n = true≢false (sym e)
-  won-next (Here k ∷ older) e n = by_deed k.deed e n where
+  won_next : (before : List Seen) → newest_is wins_by before ≡ true → NextTo m before (Acts (Become Loose)) → ⊥
+  won_next [] e n = true≢false (sym e)
+  won_next (Elsewhere k ∷ older) e n = true≢false (sym e)
+  won_next (Here k ∷ older) e n = by_deed k.deed e n where
     by_deed : (last : Deed) → wins_by last ≡ true → NextFits m last k.tick older (Acts (Become Loose)) → ⊥
     by_deed (Acts (Ring Window)) e n = let is = n.wins strict in let bad : ⊥ = cc in bad
     by_deed _ e n = true≢false (sym e)
 
   loosens : NextTo m before (Acts (Become Loose)) → (Heard before ⊎ (newest_is loosens_by before ≡ true)) → After (Acts (Become Loose))
   loosens next cause = phased Loose none_armed false true true false false (elim cause [
-    | inl heard ↦ inl (both-now heard)
+    | inl heard ↦ inl (both_now heard)
     | inr by ↦ elim inv.phase [
       | inl same ↦ inl same
-      | inr l ↦ absurd (won-next before (l.wins by) next)
+      | inr l ↦ absurd (won_next before (l.wins by) next)
     ]
   ])
 
   follows : (p : PeerId) → (Heard before ⊎ ⊥) → After (Acts (Become (Follow p)))
-  follows p (inl heard) = phased (Follow p) none_armed false false false false false (inl (both-now heard))
+  follows p (inl heard) = phased (Follow p) none_armed false false false false false (inl (both_now heard))
   follows p (inr none) = absurd none
 
   starts : (Heard before ⊎ (role before ≡ Starting)) → After (Acts (Become Starting))
   starts cause = phased Starting none_armed false false false false false (elim cause [
-    | inl heard ↦ inl (both-now heard)
+    | inl heard ↦ inl (both_now heard)
     | inr is ↦ elim inv.phase [
       | inl same ↦ inl same
       | inr l ↦ clash (ap is_leading is) l.leads
@@ -204,22 +205,22 @@ module _ (late : ℕ) (slack : late ≤ SLACK) (m : Manner) (d : Did) (before : 
   -- an alarm is armed
   arms : (a : Alarm) (at : ℕ) → (Heard before ⊎ Unheard (Acts (Arm a at)) d before) → After (Acts (Arm a at))
   arms Quiet at c = phased (role before) _ false false false false false (elim c [
-    | inl heard ↦ inl (both-now heard)
-    | inr by ↦ inl (let boot = by.0 in let a = inv.boot_le in let b = inv.word_le in let e = news-le in omega (arith, boot, a, b, e))
+    | inl heard ↦ inl (both_now heard)
+    | inr by ↦ inl (let boot = by.0 in let a = inv.boot_le in let b = inv.word_le in let e = news_le_holds in omega (arith, boot, a, b, e))
   ])
   arms Search at c = phased (role before) _ false false false false false (elim c [
-    | inl heard ↦ inl (both-now heard)
+    | inl heard ↦ inl (both_now heard)
     | inr by ↦ elim inv.phase [ inl same ↦ inl same | inr l ↦ clash l.searched_not by ]
   ])
   arms Elect at c = phased (role before) _ false false false false false (elim c [
-    | inl heard ↦ inl (both-now heard)
+    | inl heard ↦ inl (both_now heard)
     | inr by ↦ elim inv.phase [ inl same ↦ inl same | inr l ↦ clash l.sought_not by ]
   ])
-  arms Window at c = goes-on _ (record { quiet = λ e. e; search = λ e. e; elect = λ e. e })
-  arms Probe at c = goes-on _ (record { quiet = λ e. e; search = λ e. e; elect = λ e. e })
-  arms CloseAlarm at c = goes-on _ (record { quiet = λ e. e; search = λ e. e; elect = λ e. e })
-  arms ResolveAlarm at c = goes-on _ (record { quiet = λ e. e; search = λ e. e; elect = λ e. e })
-  arms Round at c = goes-on _ (record { quiet = λ e. e; search = λ e. e; elect = λ e. e })
+  arms Window at c = goes_on _ (record { quiet = λ e. e; search = λ e. e; elect = λ e. e })
+  arms Probe at c = goes_on _ (record { quiet = λ e. e; search = λ e. e; elect = λ e. e })
+  arms CloseAlarm at c = goes_on _ (record { quiet = λ e. e; search = λ e. e; elect = λ e. e })
+  arms ResolveAlarm at c = goes_on _ (record { quiet = λ e. e; search = λ e. e; elect = λ e. e })
+  arms Round at c = goes_on _ (record { quiet = λ e. e; search = λ e. e; elect = λ e. e })
 
   -- an alarm rings
   rings : (a : Alarm) → RingFits a d before → After (Acts (Ring a))
@@ -240,10 +241,10 @@ module _ (late : ℕ) (slack : late ≤ SLACK) (m : Manner) (d : Did) (before : 
       wins = λ e. refl;
     })
   ])
-  rings Probe f = goes-on _ (record { quiet = λ e. e; search = λ e. e; elect = λ e. e })
-  rings CloseAlarm f = goes-on _ (record { quiet = λ e. e; search = λ e. e; elect = λ e. e })
-  rings ResolveAlarm f = goes-on _ (record { quiet = λ e. e; search = λ e. e; elect = λ e. e })
-  rings Round f = goes-on _ (record { quiet = λ e. e; search = λ e. e; elect = λ e. e })
+  rings Probe f = goes_on _ (record { quiet = λ e. e; search = λ e. e; elect = λ e. e })
+  rings CloseAlarm f = goes_on _ (record { quiet = λ e. e; search = λ e. e; elect = λ e. e })
+  rings ResolveAlarm f = goes_on _ (record { quiet = λ e. e; search = λ e. e; elect = λ e. e })
+  rings Round f = goes_on _ (record { quiet = λ e. e; search = λ e. e; elect = λ e. e })
 
   acts : (a : Act) → NextTo m before (Acts a) → AlarmFits (Acts a) d before → (Heard before ⊎ Unheard (Acts a) d before) → After (Acts a)
   acts Boot n f c = worded Starting none_armed d.tick (omega arith) _ false false false false false
@@ -252,7 +253,7 @@ module _ (late : ℕ) (slack : late ≤ SLACK) (m : Manner) (d : Did) (before : 
   acts (Arm a at) n f c = arms a at c
   acts (Ring a) n f c = rings a f
   acts (Late a) n f c = never a f
-  acts _ n f c = goes-on _ (record { quiet = λ e. e; search = λ e. e; elect = λ e. e })
+  acts _ n f c = goes_on _ (record { quiet = λ e. e; search = λ e. e; elect = λ e. e })
 
 -- an entry that isn't an act here
 still : (late w r x y boot : ℕ) (took : Bool) (rl : Role) (dl : Deadlines) (el sk se lo wi : Bool) → (took ≡ true → w ≡ y) →
@@ -330,16 +331,16 @@ module _ (late : ℕ) (slack : late ≤ SLACK) (m : Manner) (may : m.may ≡ tru
 
 pub alone_leads : (m : ℕ → Manner) (setting : Setting) (late : ℕ) (world : List Line) → Fits setting world → Woken m world → Attended late world →
     late ≤ SLACK → AloneLeads m late world
-alone_leads m setting late world f w a slack = Everywhere-from (AloneLeadsAt m late) world (λ l before within begins may strict q start idle stood-is other.
+alone_leads m setting late world f w a slack = Everywhere_from (AloneLeadsAt m late) world (λ l before within begins may strict q start idle stood-is other.
     let n = node_of l in
-    let whole = Everywhere-within _ (l ∷ before) world f within in
-    let attended = Everywhere-within _ (l ∷ before) world a within in
-    let wakes = Everywhere-at (WokenAt m) l before world w within begins q in
+    let whole = Everywhere_within _ (l ∷ before) world f within in
+    let attended = Everywhere_within _ (l ∷ before) world a within in
+    let wakes = Everywhere_at (WokenAt m) l before world w within begins q in
     let seen = view q (of n before) in
     leads_soon late slack (m n) may strict seen l.did.tick wakes
     (stands_on (m n) seen wakes.acts (rising setting q (of n before) (own_fits setting n before whole.1)))
     (paced setting late before whole.1 attended.1 (m n) n q wakes.acts)
-    (Everywhere-at (AttendedAt late) l before world a within begins q) start idle stood-is other)
+    (Everywhere_at (AttendedAt late) l before world a within begins q) start idle stood-is other)
 
 -- whether a place is one of this port
 abbrev pub is_here : List Seen → Bool

@@ -78,8 +78,8 @@ abbrev pub Waiting : ℕ → List Seen → Type 0
 Waiting late seen = Waits late (news seen) (tick_of (plain seen)) (held seen) (armed seen) (stirred (taken seen)) (newest_is moves_by seen)
     (newest_is waits_by seen) (newest_is elects_by seen) (stands_now seen || backs_itself_now seen)
 
-no-send : {A : Type 0} {at : ℕ} → None ≡ Some at → A
-no-send e = none_some refl e
+no_send : {A : Type 0} {at : ℕ} → None ≡ Some at → A
+no_send e = none_some refl e
 
 -- no alarm was overdue before
 pub soon_before : (late : ℕ) (before : List Seen) → Paced late before → (a : Alarm) (at : ℕ) → deadline (armed before) a ≡ Some at →
@@ -116,26 +116,26 @@ module _ (late : ℕ) (slack : late ≤ SLACK) (m : Manner) (may : m.may ≡ tru
       (stirred (taken_after deed (taken before))) (moves_by deed) (waits_by deed) (elects_by deed)
       (stands_now (Here (record d { deed = deed }) ∷ before) || backs_itself_now (Here (record d { deed = deed }) ∷ before))
 
-  r-le : news before ≤ d.tick
-  r-le = let le = inv.news_le in omega (arith, le, level)
+  r_le : news before ≤ d.tick
+  r_le = let le = inv.news_le in omega (arith, le, level)
 
-  heard-now : (stirred (taken before) ≡ true) → news before ≡ d.tick
-  heard-now e = inv.heard e ∙ sym level
+  heard_now : (stirred (taken before) ≡ true) → news before ≡ d.tick
+  heard_now e = inv.heard e ∙ sym level
 
-  quit-le : (q : ℕ) → (held before).quit ≡ Some q → q ≤ d.tick
-  quit-le q e = let le = inv.quit_le q e in let r = r-le in omega (arith, le, r)
+  quit_le_holds : (q : ℕ) → (held before).quit ≡ Some q → q ≤ d.tick
+  quit_le_holds q e = let le = inv.quit_le q e in let r = r_le in omega (arith, le, r)
 
   -- Elect as it was
-  elect-kept : (at : ℕ) → (armed before).elect ≡ Some at → (at ≤ news before + first_elect late) ⊎
+  elect_kept : (at : ℕ) → (armed before).elect ≡ Some at → (at ≤ news before + first_elect late) ⊎
       ((at ≤ news before + then_elect late) × ((q : ℕ) → (held before).quit ≡ Some q → q + ELECT_MIN ≤ at))
-  elect-kept at e = inv.elect at e
+  elect_kept at e = inv.elect at e
 
-  ahead-kept : (at : ℕ) → (armed before).elect ≡ Some at → at ≤ d.tick + longest_delay
-  ahead-kept at e = let le = inv.ahead at e in omega (arith, le, level)
+  ahead_kept : (at : ℕ) → (armed before).elect ≡ Some at → at ≤ d.tick + longest_delay
+  ahead_kept at e = let le = inv.ahead at e in omega (arith, le, level)
 
   -- nothing of this sort was done last
-  not-done : {A : Type 0} → false ≡ true → A
-  not-done e = absurd (true≢false (sym e))
+  not_done : {A : Type 0} → false ≡ true → A
+  not_done e = absurd (true≢false (sym e))
 
   -- an act that arms nothing and notes no QUIT
   record Kept (dl : Deadlines) : Type 0 where
@@ -150,14 +150,14 @@ module _ (late : ℕ) (slack : late ≤ SLACK) (m : Manner) (may : m.may ≡ tru
       (elected ≡ true → d.tick ≤ news before + (then_elect late + late)) → (stood ≡ true → news before ≡ d.tick) →
       Waits late (news before) d.tick h dl (stirred (taken before)) moved waited elected stood
   kept dl k h boot quit moved waited elected stood mv wt el rg st = record {
-    news_le = r-le;
-    heard = heard-now;
+    news_le = r_le;
+    heard = heard_now;
     boot_le = (let le = inv.boot_le in omega (arith, le, boot));
     quit_le = λ q is. inv.quit_le q (sym quit ∙ is);
     quiet = λ at is. inv.quiet at (k.quiet at is);
     window = λ at is. inv.window at (k.window at is);
     search = λ at is. inv.search at (k.search at is);
-    ahead = λ at is. ahead-kept at (k.elect at is);
+    ahead = λ at is. ahead_kept at (k.elect at is);
     elect = λ at is. elim (inv.elect at (k.elect at is)) [
       | inl le ↦ inl le
       | inr both ↦ inr (both.0, λ q e. both.1 q (sym quit ∙ e))
@@ -170,26 +170,26 @@ module _ (late : ℕ) (slack : late ≤ SLACK) (m : Manner) (may : m.may ≡ tru
   }
 
   -- the alarms as they were
-  as-it-was : Kept (armed before)
-  as-it-was = record { quiet = λ at e. e; window = λ at e. e; search = λ at e. e; elect = λ at e. e }
+  as_it_was : Kept (armed before)
+  as_it_was = record { quiet = λ at e. e; window = λ at e. e; search = λ at e. e; elect = λ at e. e }
 
-  plain-act : (dl : Deadlines) → Kept dl → (h : Held) → h.boot ≡ (held before).boot → h.quit ≡ (held before).quit →
+  plain_act : (dl : Deadlines) → Kept dl → (h : Held) → h.boot ≡ (held before).boot → h.quit ≡ (held before).quit →
       Waits late (news before) d.tick h dl (stirred (taken before)) false false false false
-  plain-act dl k h boot quit = kept dl k h boot quit false false false false not-done not-done not-done not-done not-done
+  plain_act dl k h boot quit = kept dl k h boot quit false false false false not_done not_done not_done not_done not_done
 
   -- a change of the role that is no news
   changed : (moved : Bool) → (moved ≡ true → d.tick ≤ news before + (first_elect late + late)) →
       Waits late (news before) d.tick (held before) none_armed (stirred (taken before)) moved false false false
   changed moved mv = record {
-    news_le = r-le;
-    heard = heard-now;
+    news_le = r_le;
+    heard = heard_now;
     boot_le = inv.boot_le;
     quit_le = inv.quit_le;
-    quiet = λ at e. no-send e;
-    window = λ at e. no-send e;
-    search = λ at e. no-send e;
-    ahead = λ at e. no-send e;
-    elect = λ at e. no-send e;
+    quiet = λ at e. no_send e;
+    window = λ at e. no_send e;
+    search = λ at e. no_send e;
+    ahead = λ at e. no_send e;
+    elect = λ at e. no_send e;
     moves = mv;
     waits = λ f. absurd (true≢false (sym f));
     elects = λ f. absurd (true≢false (sym f));
@@ -209,12 +209,12 @@ module _ (late : ℕ) (slack : late ≤ SLACK) (m : Manner) (may : m.may ≡ tru
     news_le = omega arith;
     heard = λ e. refl;
     boot_le = omega arith;
-    quit_le = λ q e. no-send e;
-    quiet = λ at e. no-send e;
-    window = λ at e. no-send e;
-    search = λ at e. no-send e;
-    ahead = λ at e. no-send e;
-    elect = λ at e. no-send e;
+    quit_le = λ q e. no_send e;
+    quiet = λ at e. no_send e;
+    window = λ at e. no_send e;
+    search = λ at e. no_send e;
+    ahead = λ at e. no_send e;
+    elect = λ at e. no_send e;
     moves = λ f. absurd (true≢false (sym f));
     waits = λ f. absurd (true≢false (sym f));
     elects = λ f. absurd (true≢false (sym f));
@@ -226,13 +226,13 @@ module _ (late : ℕ) (slack : late ≤ SLACK) (m : Manner) (may : m.may ≡ tru
   stood = record {
     news_le = omega arith;
     heard = λ e. refl;
-    boot_le = (let le = inv.boot_le in let r = r-le in omega (arith, le, r));
-    quit_le = quit-le;
-    quiet = λ at e. no-send e;
-    window = λ at e. no-send e;
-    search = λ at e. no-send e;
-    ahead = λ at e. no-send e;
-    elect = λ at e. no-send e;
+    boot_le = (let le = inv.boot_le in let r = r_le in omega (arith, le, r));
+    quit_le = quit_le_holds;
+    quiet = λ at e. no_send e;
+    window = λ at e. no_send e;
+    search = λ at e. no_send e;
+    ahead = λ at e. no_send e;
+    elect = λ at e. no_send e;
     moves = λ f. absurd (true≢false (sym f));
     waits = λ f. absurd (true≢false (sym f));
     elects = λ f. absurd (true≢false (sym f));
@@ -245,25 +245,25 @@ module _ (late : ℕ) (slack : late ≤ SLACK) (m : Manner) (may : m.may ≡ tru
   took true = record {
     news_le = omega arith;
     heard = λ e. refl;
-    boot_le = (let le = inv.boot_le in let r = r-le in omega (arith, le, r));
-    quit_le = quit-le;
-    quiet = λ at e. let le = inv.quiet at e in let r = r-le in omega (arith, le, r);
-    window = λ at e. let le = inv.window at e in let r = r-le in omega (arith, le, r);
-    search = λ at e. let le = inv.search at e in let r = r-le in omega (arith, le, r);
-    ahead = ahead-kept;
-    elect = λ at e. let le = ahead-kept at e in inl (omega (arith, le));
+    boot_le = (let le = inv.boot_le in let r = r_le in omega (arith, le, r));
+    quit_le = quit_le_holds;
+    quiet = λ at e. let le = inv.quiet at e in let r = r_le in omega (arith, le, r);
+    window = λ at e. let le = inv.window at e in let r = r_le in omega (arith, le, r);
+    search = λ at e. let le = inv.search at e in let r = r_le in omega (arith, le, r);
+    ahead = ahead_kept;
+    elect = λ at e. let le = ahead_kept at e in inl (omega (arith, le));
     moves = λ f. absurd (true≢false (sym f));
     waits = λ f. absurd (true≢false (sym f));
     elects = λ f. absurd (true≢false (sym f));
     rings = λ f. absurd (true≢false (sym f));
     stands = λ f. refl;
   }
-  took false = unheard (plain-act (armed before) as-it-was (held before) refl refl)
+  took false = unheard (plain_act (armed before) as_it_was (held before) refl refl)
 
   -- after Elect rang without a candidature it isn't long since the news
-  not-stood : (deed : Deed) → AfterElect m before deed → deed ≢ Acts (Become Candidate) → newest_is elects_by before ≡ true →
+  not_stood : (deed : Deed) → AfterElect m before deed → deed ≢ Acts (Become Candidate) → newest_is elects_by before ≡ true →
       d.tick ≤ news before + (first_elect late + late)
-  not-stood deed after other e = elim (inv.elects e) [
+  not_stood deed after other e = elim (inv.elects e) [
     | inl le ↦ omega (arith, le, level)
     | inr past ↦ absurd (other (stands-by before deed after e past))
   ] where
@@ -282,7 +282,7 @@ module _ (late : ℕ) (slack : late ≤ SLACK) (m : Manner) (may : m.may ≡ tru
         true) (held-same k older is) past)
 
   loosened : AfterElect m before (Acts (Become Loose)) → (Heard before ⊎ (newest_is loosens_by before ≡ true)) → After (Acts (Become Loose))
-  loosened after (inl heard) = changed true (λ e. let r = heard-now heard in omega (arith, r))
+  loosened after (inl heard) = changed true (λ e. let r = heard_now heard in omega (arith, r))
   loosened after (inr by) = changed true (λ e. by_newest by) where
     by_deed : (last : Deed) → loosens_by last ≡ true → (moves_by last ≡ true) ⊎ (elects_by last ≡ true)
     by_deed (Acts (Ring Quiet)) e = inl refl
@@ -299,19 +299,19 @@ module _ (late : ℕ) (slack : late ≤ SLACK) (m : Manner) (may : m.may ≡ tru
     by_newest : newest_is loosens_by before ≡ true → d.tick ≤ news before + (first_elect late + late)
     by_newest e = elim (which before e) [
       | inl moved ↦ let le = inv.moves moved in omega (arith, le, level)
-      | inr rang ↦ not-stood (Acts (Become Loose)) after (λ is. let bad : ⊥ = cc in bad) rang
+      | inr rang ↦ not_stood (Acts (Become Loose)) after (λ is. let bad : ⊥ = cc in bad) rang
     ]
 
   -- arming
 
   quiets : (at : ℕ) → at ≡ d.tick + QUIET → (Heard before ⊎ (((held before).boot ≡ d.tick) × (newest_is starts_by before ≡ true))) → After (Acts (Arm Quiet at))
-  quiets at f cause = let base = plain-act (armed before) as-it-was (held before) refl refl in record {
+  quiets at f cause = let base = plain_act (armed before) as_it_was (held before) refl refl in record {
     news_le = base.news_le;
     heard = base.heard;
     boot_le = base.boot_le;
     quit_le = base.quit_le;
     quiet = λ to e. let same : at ≡ to = value_of e in elim cause [
-      | inl heard ↦ let r = heard-now heard in omega (arith, f, same, r)
+      | inl heard ↦ let r = heard_now heard in omega (arith, f, same, r)
       | inr by ↦ let boot = by.0 in let le = inv.boot_le in omega (arith, f, same, boot, le)
     ];
     window = base.window;
@@ -326,14 +326,14 @@ module _ (late : ℕ) (slack : late ≤ SLACK) (m : Manner) (may : m.may ≡ tru
   }
 
   windows : (at : ℕ) → at ≡ d.tick + WINDOW → (Heard before ⊎ (backs_itself_now before ≡ true)) → After (Acts (Arm Window at))
-  windows at f cause = let base = plain-act (armed before) as-it-was (held before) refl refl in record {
+  windows at f cause = let base = plain_act (armed before) as_it_was (held before) refl refl in record {
     news_le = base.news_le;
     heard = base.heard;
     boot_le = base.boot_le;
     quit_le = base.quit_le;
     quiet = base.quiet;
     window = λ to e. let same : at ≡ to = value_of e in elim cause [
-      | inl heard ↦ let r = heard-now heard in omega (arith, f, same, r)
+      | inl heard ↦ let r = heard_now heard in omega (arith, f, same, r)
       | inr backs ↦ let r = inv.stands (or_right (stands_now before) (backs_itself_now before) backs) in omega (arith, f, same, r, level)
     ];
     search = base.search;
@@ -348,7 +348,7 @@ module _ (late : ℕ) (slack : late ≤ SLACK) (m : Manner) (may : m.may ≡ tru
 
   searches : (at : ℕ) → AfterElect m before (Acts (Arm Search at)) → at ≡ d.tick + WINDOW → (Heard before ⊎ (newest_is searches_by before ≡ true)) →
       After (Acts (Arm Search at))
-  searches at after f cause = let base = plain-act (armed before) as-it-was (held before) refl refl in record {
+  searches at after f cause = let base = plain_act (armed before) as_it_was (held before) refl refl in record {
     news_le = base.news_le;
     heard = base.heard;
     boot_le = base.boot_le;
@@ -356,7 +356,7 @@ module _ (late : ℕ) (slack : late ≤ SLACK) (m : Manner) (may : m.may ≡ tru
     quiet = base.quiet;
     window = base.window;
     search = λ to e. let same : at ≡ to = value_of e in elim cause [
-      | inl heard ↦ let r = heard-now heard in omega (arith, f, same, r)
+      | inl heard ↦ let r = heard_now heard in omega (arith, f, same, r)
       | inr by ↦ let soon = by_newest by in omega (arith, f, same, soon)
     ];
     ahead = base.ahead;
@@ -380,11 +380,11 @@ module _ (late : ℕ) (slack : late ≤ SLACK) (m : Manner) (may : m.may ≡ tru
     by_newest : newest_is searches_by before ≡ true → d.tick ≤ news before + (first_elect late + late)
     by_newest e = elim (which before e) [
       | inl moved ↦ let le = inv.moves moved in omega (arith, le, level)
-      | inr rang ↦ not-stood (Acts (Arm Search at)) after (λ is. let bad : ⊥ = cc in bad) rang
+      | inr rang ↦ not_stood (Acts (Arm Search at)) after (λ is. let bad : ⊥ = cc in bad) rang
     ]
 
   elects : (at : ℕ) → at ≡ d.tick + delay (word (plain before)) → (Heard before ⊎ (newest_is seeks_by before ≡ true)) → After (Acts (Arm Elect at))
-  elects at f cause = let base = plain-act (armed before) as-it-was (held before) refl refl in record {
+  elects at f cause = let base = plain_act (armed before) as_it_was (held before) refl refl in record {
     news_le = base.news_le;
     heard = base.heard;
     boot_le = base.boot_le;
@@ -394,8 +394,8 @@ module _ (late : ℕ) (slack : late ≤ SLACK) (m : Manner) (may : m.may ≡ tru
     search = base.search;
     ahead = λ to e. let same : at ≡ to = value_of e in omega (arith, f, same, less);
     elect = λ to e. let same : at ≡ to = value_of e in elim cause [
-      | inl heard ↦ let r = heard-now heard in inl (omega (arith, f, same, less, r))
-      | inr by ↦ inr ((let soon = by_newest by in omega (arith, f, same, less, soon)), λ q quit. let le = quit-le q quit in omega (arith, f, same, le))
+      | inl heard ↦ let r = heard_now heard in inl (omega (arith, f, same, less, r))
+      | inr by ↦ inr ((let soon = by_newest by in omega (arith, f, same, less, soon)), λ q quit. let le = quit_le_holds q quit in omega (arith, f, same, le))
     ];
     moves = base.moves;
     waits = base.waits;
@@ -430,76 +430,76 @@ module _ (late : ℕ) (slack : late ≤ SLACK) (m : Manner) (may : m.may ≡ tru
   arms Search at after f c = searches at after f c
   arms Elect at after f c = elects at f c
   arms Window at after f c = windows at f c
-  arms Probe at after f c = plain-act _ (record { quiet = λ to e. e; window = λ to e. e; search = λ to e. e; elect = λ to e. e }) (held before) refl refl
-  arms CloseAlarm at after f c = plain-act _ (record { quiet = λ to e. e; window = λ to e. e; search = λ to e. e; elect = λ to e. e }) (held before) refl refl
-  arms ResolveAlarm at after f c = plain-act _ (record { quiet = λ to e. e; window = λ to e. e; search = λ to e. e; elect = λ to e. e }) (held before) refl refl
-  arms Round at after f c = plain-act _ (record { quiet = λ to e. e; window = λ to e. e; search = λ to e. e; elect = λ to e. e }) (held before) refl refl
+  arms Probe at after f c = plain_act _ (record { quiet = λ to e. e; window = λ to e. e; search = λ to e. e; elect = λ to e. e }) (held before) refl refl
+  arms CloseAlarm at after f c = plain_act _ (record { quiet = λ to e. e; window = λ to e. e; search = λ to e. e; elect = λ to e. e }) (held before) refl refl
+  arms ResolveAlarm at after f c = plain_act _ (record { quiet = λ to e. e; window = λ to e. e; search = λ to e. e; elect = λ to e. e }) (held before) refl refl
+  arms Round at after f c = plain_act _ (record { quiet = λ to e. e; window = λ to e. e; search = λ to e. e; elect = λ to e. e }) (held before) refl refl
 
   -- ringing
 
-  past-quit : (o : Option ℕ) (at : ℕ) → ((q : ℕ) → o ≡ Some q → q + ELECT_MIN ≤ at) → at ≤ d.tick → is_past o ELECT_MIN d.tick ≡ true
-  past-quit None at k le = refl
-  past-quit (Some q) at k le = let more = k q refl in le-leb (q + ELECT_MIN) d.tick (omega (arith, more, le))
+  past_quit : (o : Option ℕ) (at : ℕ) → ((q : ℕ) → o ≡ Some q → q + ELECT_MIN ≤ at) → at ≤ d.tick → is_past o ELECT_MIN d.tick ≡ true
+  past_quit None at k le = refl
+  past_quit (Some q) at k le = let more = k q refl in le-leb (q + ELECT_MIN) d.tick (omega (arith, more, le))
 
   rings : (a : Alarm) → RingFits a d before → After (Acts (Ring a))
   rings Quiet f =
       let due = rung Quiet f.at f.armed_is in let le = inv.quiet f.at f.armed_is in
-      kept _ (record { quiet = λ at e. no-send e; window = λ at e. e; search = λ at e. e; elect = λ at e. e }) (held before) refl refl true false false false
-      (λ e. omega (arith, due, le)) not-done not-done not-done not-done
+      kept _ (record { quiet = λ at e. no_send e; window = λ at e. e; search = λ at e. e; elect = λ at e. e }) (held before) refl refl true false false false
+      (λ e. omega (arith, due, le)) not_done not_done not_done not_done
   rings Window f =
       let due = rung Window f.at f.armed_is in let le = inv.window f.at f.armed_is in
-      kept _ (record { quiet = λ at e. e; window = λ at e. no-send e; search = λ at e. e; elect = λ at e. e }) (held before) refl refl true false false false
-      (λ e. omega (arith, due, le)) not-done not-done not-done not-done
+      kept _ (record { quiet = λ at e. e; window = λ at e. no_send e; search = λ at e. e; elect = λ at e. e }) (held before) refl refl true false false false
+      (λ e. omega (arith, due, le)) not_done not_done not_done not_done
   rings Search f =
       let due = rung Search f.at f.armed_is in let le = inv.search f.at f.armed_is in
-      kept _ (record { quiet = λ at e. e; window = λ at e. e; search = λ at e. no-send e; elect = λ at e. e }) (held before) refl refl false true false false
-      not-done (λ e. omega (arith, due, le)) not-done not-done not-done
+      kept _ (record { quiet = λ at e. e; window = λ at e. e; search = λ at e. no_send e; elect = λ at e. e }) (held before) refl refl false true false false
+      not_done (λ e. omega (arith, due, le)) not_done not_done not_done
   rings Elect f =
       let due = rung Elect f.at f.armed_is in let now = f.due in
-      kept _ (record { quiet = λ at e. e; window = λ at e. e; search = λ at e. e; elect = λ at e. no-send e }) (held before) refl refl false false true false
-      not-done not-done
+      kept _ (record { quiet = λ at e. e; window = λ at e. e; search = λ at e. e; elect = λ at e. no_send e }) (held before) refl refl false false true false
+      not_done not_done
       (λ e. elim (inv.elect f.at f.armed_is) [
         | inl le ↦ inl (omega (arith, due, le))
-        | inr both ↦ inr (past-quit (held before).quit f.at both.1 now)
+        | inr both ↦ inr (past_quit (held before).quit f.at both.1 now)
       ])
       (λ e. elim (inv.elect f.at f.armed_is) [
         | inl le ↦ omega (arith, due, le)
         | inr both ↦ let le = both.0 in omega (arith, due, le)
-      ]) not-done
-  rings Probe f = plain-act _ (record { quiet = λ to e. e; window = λ to e. e; search = λ to e. e; elect = λ to e. e }) (held before) refl refl
-  rings CloseAlarm f = plain-act _ (record { quiet = λ to e. e; window = λ to e. e; search = λ to e. e; elect = λ to e. e }) (held before) refl refl
-  rings ResolveAlarm f = plain-act _ (record { quiet = λ to e. e; window = λ to e. e; search = λ to e. e; elect = λ to e. e }) (held before) refl refl
-  rings Round f = plain-act _ (record { quiet = λ to e. e; window = λ to e. e; search = λ to e. e; elect = λ to e. e }) (held before) refl refl
+      ]) not_done
+  rings Probe f = plain_act _ (record { quiet = λ to e. e; window = λ to e. e; search = λ to e. e; elect = λ to e. e }) (held before) refl refl
+  rings CloseAlarm f = plain_act _ (record { quiet = λ to e. e; window = λ to e. e; search = λ to e. e; elect = λ to e. e }) (held before) refl refl
+  rings ResolveAlarm f = plain_act _ (record { quiet = λ to e. e; window = λ to e. e; search = λ to e. e; elect = λ to e. e }) (held before) refl refl
+  rings Round f = plain_act _ (record { quiet = λ to e. e; window = λ to e. e; search = λ to e. e; elect = λ to e. e }) (held before) refl refl
 
   quit : (p : PeerId) → (Heard before ⊎ ⊥) → After (Acts (Quit p))
   quit p (inr none) = absurd none
-  quit p (inl heard) = let r = heard-now heard in record {
-    news_le = r-le;
-    heard = heard-now;
+  quit p (inl heard) = let r = heard_now heard in record {
+    news_le = r_le;
+    heard = heard_now;
     boot_le = inv.boot_le;
     quit_le = λ q e. let same : d.tick ≡ q = value_of e in omega (arith, same, r);
     quiet = inv.quiet;
     window = inv.window;
     search = inv.search;
-    ahead = ahead-kept;
-    elect = λ at e. let le = ahead-kept at e in inl (omega (arith, le, r));
-    moves = not-done;
-    waits = not-done;
-    elects = not-done;
-    rings = not-done;
-    stands = not-done;
+    ahead = ahead_kept;
+    elect = λ at e. let le = ahead_kept at e in inl (omega (arith, le, r));
+    moves = not_done;
+    waits = not_done;
+    elects = not_done;
+    rings = not_done;
+    stands = not_done;
   }
 
   backs : (p : PeerId) → After (Acts (Back p))
-  backs p = kept (armed before) as-it-was _ refl refl false false false (stands_now before) not-done not-done not-done not-done
+  backs p = kept (armed before) as_it_was _ refl refl false false false (stands_now before) not_done not_done not_done not_done
       (λ e. inv.stands (rw e refl) ∙ sym level)
 
   becomes : (r : Role) → AfterElect m before (Acts (Become r)) → (Heard before ⊎ Unheard (Acts (Become r)) d before) → After (Acts (Become r))
   becomes Candidate after c = stood
   becomes Loose after c = loosened after c
-  becomes (Follow p) after c = changed false not-done
-  becomes Master after c = changed false not-done
-  becomes Starting after c = changed false not-done
+  becomes (Follow p) after c = changed false not_done
+  becomes Master after c = changed false not_done
+  becomes Starting after c = changed false not_done
 
   -- an act
   acts : (a : Act) → AfterElect m before (Acts a) → AlarmFits (Acts a) d before → (Heard before ⊎ Unheard (Acts a) d before) → After (Acts a)
@@ -511,8 +511,8 @@ module _ (late : ℕ) (slack : late ≤ SLACK) (m : Manner) (may : m.may ≡ tru
   acts (Late a) after f c = never a f
   acts (Back p) after f c = backs p
   acts (Quit p) after f c = quit p c
-  acts Abandon after f c = plain-act _ (record { quiet = λ to e. e; window = λ to e. e; search = λ to e. e; elect = λ to e. e }) (held before) refl refl
-  acts _ after f c = plain-act _ (record { quiet = λ to e. e; window = λ to e. e; search = λ to e. e; elect = λ to e. e }) (held before) refl refl
+  acts Abandon after f c = plain_act _ (record { quiet = λ to e. e; window = λ to e. e; search = λ to e. e; elect = λ to e. e }) (held before) refl refl
+  acts _ after f c = plain_act _ (record { quiet = λ to e. e; window = λ to e. e; search = λ to e. e; elect = λ to e. e }) (held before) refl refl
 
 -- where a step begins
 begun : (late : ℕ) (d : Did) (before : List Seen) → tick_of (plain before) ≤ d.tick → Waiting late before →
@@ -560,12 +560,12 @@ unbegun late = record {
   news_le = omega arith;
   heard = λ e. refl;
   boot_le = omega arith;
-  quit_le = λ q e. no-send e;
-  quiet = λ at e. no-send e;
-  window = λ at e. no-send e;
-  search = λ at e. no-send e;
-  ahead = λ at e. no-send e;
-  elect = λ at e. no-send e;
+  quit_le = λ q e. no_send e;
+  quiet = λ at e. no_send e;
+  window = λ at e. no_send e;
+  search = λ at e. no_send e;
+  ahead = λ at e. no_send e;
+  elect = λ at e. no_send e;
   moves = λ e. absurd (true≢false (sym e));
   waits = λ e. absurd (true≢false (sym e));
   elects = λ e. absurd (true≢false (sym e));

@@ -6,7 +6,7 @@ use Rattle.tsp_rules.specs.Values.{Follow, Ack, Election, MasterAck, MasterReq, 
 use Rattle.tsp_rules.specs.{Guards.is_heard, Guards.is_in_range, Guards.is_own, Guards.is_starting_role, Guards.target_at, Guards.ticket_at, Guards.is_follow}
 use Rattle.tsp_rules.specs.NodeRows.{port_setup}
 use Rattle.tsp_base.specs.Words.{Acts, HeaderValue, Line, MessageValue, Past, ReplyValue, Within, bare, is_among, joined, line_of, of, peer_of, placed, role}
-use Rattle.tsp_base.proofs.PlaceLemmas.{Within-all, Within-through}
+use Rattle.tsp_base.proofs.PlaceLemmas.{Within_all, Within_through}
 use Rattle.tsp_promises.specs.{Fits.node_of, Setting.Setting}
 use Rattle.tsp_run.specs.{Clocked.Clocks, Clocked.SetByClocks, Clocked.clocks_of, Clocked.run_by}
 use Rattle.tsp_run.proofs.OwnClocks.{runs_by_own_clocks, set_own}
@@ -27,8 +27,8 @@ module _ {clocks : Clocks} {header : HeaderValue} {setting : Setting} (set : Set
       apart-there = differ p.0 (node_of l) posts.other
 
       -- the port that takes it is one of its node's, and its peers are the members of the network
-      port-there : PortIs header setting p.0 a.line.port
-      port-there = shared_port set p.0 a.line.port (node_of l) l.port (subst (λ n. setting.net n a.line.port ≡ setting.net (node_of l) l.port) a.node a.net)
+      port_there : PortIs header setting p.0 a.line.port
+      port_there = shared_port set p.0 a.line.port (node_of l) l.port (subst (λ n. setting.net n a.line.port ≡ setting.net (node_of l) l.port) a.node a.net)
           posts.other
 
       heard-there : is_starting_role (role_before (node_in header p.0) a.line (of p.0 a.before)) ≡ false →
@@ -37,11 +37,11 @@ module _ {clocks : Clocks} {header : HeaderValue} {setting : Setting} (set : Set
           let same : setting.net p.0 a.line.port ≡ setting.net (node_of l) l.port =
           subst (λ n. setting.net n a.line.port ≡ setting.net (node_of l) l.port) a.node a.net in
           let member : is_among (peer_of (node_of l)) (port_setup a.line.port (node_in header p.0)).peers ≡ true =
-          ap (is_among (peer_of (node_of l))) (port-there.peers ∙ ap setting.members same) ∙ setting.own (node_of l) l.port in
+          ap (is_among (peer_of (node_of l))) (port_there.peers ∙ ap setting.members same) ∙ setting.own (node_of l) l.port in
           rw (member, awake) refl
 
       foreign-there : is_own (Peer (peer_of (node_of l))) a.line.did.tick (port_before (node_in header p.0) a.line (of p.0 a.before)) ≡ false
-      foreign-there = ap (λ n. node_of l == n) port-there.own ∙ apart-there
+      foreign-there = ap (λ n. node_of l == n) port_there.own ∙ apart-there
 
       place-there : Within (a.line ∷ of p.0 a.before) (of p.0 world)
       place-there = own_place p.0 a.line a.before world a.node a.place
@@ -80,9 +80,9 @@ module _ {clocks : Clocks} {header : HeaderValue} {setting : Setting} (set : Set
         let own = joined step x (placed q among.front) (a.line ∷ of p.0 a.before) in
         let w = world_place p.0 post own world (act_place step x q act acts (a.line ∷ of p.0 a.before) (of p.0 world) among next) in
         let after_own : Within (a.line ∷ of p.0 a.before) (of p.0 w.older) = subst (λ ls. Within (a.line ∷ of p.0 a.before) ls) (sym w.own_is)
-        (within_joined step x (placed q among.front) (a.line ∷ of p.0 a.before) (a.line ∷ of p.0 a.before) (Within-all (a.line ∷ of p.0 a.before))) in
+        (within_joined step x (placed q among.front) (a.line ∷ of p.0 a.before) (a.line ∷ of p.0 a.before) (Within_all (a.line ∷ of p.0 a.before))) in
         let after : Within (a.line ∷ a.before) w.older = in_order p.0 a.line a.before post w.older world a.place w.place after_own in
-        let since : Within (l ∷ older) w.older = Within-through (l ∷ older) (a.line ∷ a.before) w.older (inr a.later) after in
+        let since : Within (l ∷ older) w.older = Within_through (l ∷ older) (a.line ∷ a.before) w.older (inr a.later) after in
         let posts : PostsTo setting post w.older world (peer_of (node_of l)) answer = record {
           place = w.place;
           deed = refl;
@@ -92,7 +92,7 @@ module _ {clocks : Clocks} {header : HeaderValue} {setting : Setting} (set : Set
         let soon = a.soon in
         let early = asks.early in
         let back : Arrives setting long post w.older world (peer_of (node_of l)) answer = delivered post w.older (peer_of (node_of l)) answer posts
-        (Within-through s (l ∷ older) w.older (inr asks.since) since) asks.here (omega (arith, soon, early)) in
+        (Within_through s (l ∷ older) w.older (inr asks.since) since) asks.here (omega (arith, soon, early)) in
         let late = back.soon in
         let net : setting.net (node_of l) back.line.port ≡ setting.net (node_of l) l.port =
         subst (λ n. setting.net n back.line.port ≡ setting.net (node_of l) l.port) back.node (back.net ∙ a.net) in
@@ -101,7 +101,7 @@ module _ {clocks : Clocks} {header : HeaderValue} {setting : Setting} (set : Set
           line = back.line;
           before = back.before;
           place = back.place;
-          later = Within-through (l ∷ older) (post ∷ w.older) back.before (inr since) back.later;
+          later = Within_through (l ∷ older) (post ∷ w.older) back.before (inr since) back.later;
           node = back.node;
           port = setting.apart (node_of l) back.line.port l.port net;
           took = back.took ∙ ap (λ k. Acts (Took (Peer k) (Good answer))) name;
@@ -148,18 +148,18 @@ module _ {clocks : Clocks} {header : HeaderValue} {setting : Setting} (set : Set
         Hears (node_in header p.0) (of p.0 world) a.line (of p.0 a.before) (peer_of (node_of l)) m
     hears a awake = hears_there l older p m asks.posts a awake
 
-  pub master-awake : (r : Role) → is_master_role r ≡ true → is_starting_role r ≡ false
-  master-awake Master e = refl
-  master-awake Starting e = absurd (true≢false (sym e))
-  master-awake _ e = refl
+  pub master_awake : (r : Role) → is_master_role r ≡ true → is_starting_role r ≡ false
+  master_awake Master e = refl
+  master_awake Starting e = absurd (true≢false (sym e))
+  master_awake _ e = refl
 
-  pub candidate-awake : (r : Role) → is_candidate_role r ≡ true → is_starting_role r ≡ false
-  candidate-awake Starting e = absurd (true≢false (sym e))
-  candidate-awake _ e = refl
+  pub candidate_awake : (r : Role) → is_candidate_role r ≡ true → is_starting_role r ≡ false
+  candidate_awake Starting e = absurd (true≢false (sym e))
+  candidate_awake _ e = refl
 
-  pub up-awake : (r : Role) → is_up_role r ≡ true → is_starting_role r ≡ false
-  up-awake Starting e = absurd (true≢false (sym e))
-  up-awake _ e = refl
+  pub up_awake : (r : Role) → is_up_role r ≡ true → is_starting_role r ≡ false
+  up_awake Starting e = absurd (true≢false (sym e))
+  up_awake _ e = refl
 
   masterreq : Answered MasterReq (λ x past. is_master_role (role past.seen)) MasterAck header setting long t stays s world
   masterreq l older p m asks kind meanwhile =
@@ -168,7 +168,7 @@ module _ {clocks : Clocks} {header : HeaderValue} {setting : Setting} (set : Set
       let acts = posts_bare MasterAck m.number (There l older p m asks a) (peer_of (node_of l)) ∷ [] in
       answered l older p (Message m) asks a acts (Message (bare MasterAck m.number (node_in header p.0).name)) (first_of _ [])
       ((all_heed header world table p.0).serves.masterreq a.line (of p.0 a.before) (peer_of (node_of l)) m
-      (hears l older p m asks a (master-awake (role_before (node_in header p.0) a.line (of p.0 a.before)) leads)) kind leads refl)
+      (hears l older p m asks a (master_awake (role_before (node_in header p.0) a.line (of p.0 a.before)) leads)) kind leads refl)
 
   resolve : Answered ResolveKind (λ x past. is_master_role (role past.seen)) MasterAck header setting long t stays s world
   resolve l older p m asks kind meanwhile =
@@ -177,7 +177,7 @@ module _ {clocks : Clocks} {header : HeaderValue} {setting : Setting} (set : Set
       let acts = posts_bare MasterAck m.number (There l older p m asks a) (peer_of (node_of l)) ∷ [] in
       answered l older p (Message m) asks a acts (Message (bare MasterAck m.number (node_in header p.0).name)) (first_of _ [])
       ((all_heed header world table p.0).serves.resolve a.line (of p.0 a.before) (peer_of (node_of l)) m
-      (hears l older p m asks a (master-awake (role_before (node_in header p.0) a.line (of p.0 a.before)) leads)) kind leads refl)
+      (hears l older p m asks a (master_awake (role_before (node_in header p.0) a.line (of p.0 a.before)) leads)) kind leads refl)
 
   election : Answered Election (λ x past. is_candidate_role (role past.seen)) Refuse header setting long t stays s world
   election l older p m asks kind meanwhile =
@@ -186,7 +186,7 @@ module _ {clocks : Clocks} {header : HeaderValue} {setting : Setting} (set : Set
       let acts = posts_bare Refuse m.number (There l older p m asks a) (peer_of (node_of l)) ∷ [] in
       answered l older p (Message m) asks a acts (Message (bare Refuse m.number (node_in header p.0).name)) (first_of _ [])
       ((all_heed header world table p.0).votes.refuses a.line (of p.0 a.before) (peer_of (node_of l)) m
-      (hears l older p m asks a (candidate-awake (role_before (node_in header p.0) a.line (of p.0 a.before)) stands)) kind stands refl)
+      (hears l older p m asks a (candidate_awake (role_before (node_in header p.0) a.line (of p.0 a.before)) stands)) kind stands refl)
 
   -- a QUIT, by the role of its addressee
   quit : Answered QuitKind (λ x past. is_up_role (role past.seen)) Ack header setting long t stays s world
@@ -198,7 +198,7 @@ module _ {clocks : Clocks} {header : HeaderValue} {setting : Setting} (set : Set
     up = meanwhile a.line a.before a.place a.later a.node a.net a.soon
 
     hear : Hears (node_in header p.0) (of p.0 world) a.line (of p.0 a.before) (peer_of (node_of l)) m
-    hear = hears l older p m asks a (up-awake (role_before (node_in header p.0) a.line (of p.0 a.before)) up)
+    hear = hears l older p m asks a (up_awake (role_before (node_in header p.0) a.line (of p.0 a.before)) up)
 
     ack : Act
     ack = posts_bare Ack m.number (There l older p m asks a) (peer_of (node_of l))

@@ -19,12 +19,12 @@ caused m x seen = CausesFit seen
 abbrev hearing : Manner → ℕ → List Seen → Type 0
 hearing m x seen = CausesFit seen × Heard seen
 
-caused-family : Family caused
-caused-family = record { boots = λ m step x seen c. (inr tt, c); aside = λ m d x seen c. c }
+caused_family : Family caused
+caused_family = record { boots = λ m step x seen c. (inr tt, c); aside = λ m d x seen c. c }
 
 causes_keep : Keeps caused hearing Anything
 causes_keep = record {
-  family = caused-family;
+  family = caused_family;
   weaken = λ x past h. h.0;
   sends = sends_cause;
   rings = rings_cause;
@@ -44,21 +44,21 @@ answers_caused g = answers_keep caused hearing Anything causes_keep g (any_given
 abbrev booting : Manner → ℕ → List Seen → Type 0
 booting m x seen = CausesFit seen × (((held seen).boot ≡ x) × (role seen ≡ Starting))
 
-booting-family : Family booting
-booting-family = record { boots = λ m step x seen w. ((inr tt, w.0), (refl, refl)); aside = λ m d x seen w. w }
+booting_family : Family booting
+booting_family = record { boots = λ m step x seen w. ((inr tt, w.0), (refl, refl)); aside = λ m d x seen w. w }
 
-starts-cause : Leads (λ x past. CausesFit past.seen × (((held past.seen).boot ≡ x) × (role past.seen ≡ Starting)))
+starts_cause : Leads (λ x past. CausesFit past.seen × (((held past.seen).boot ≡ x) × (role past.seen ≡ Starting)))
     (puts (Become Starting) followed_by arms Quiet QUIET) (λ x past. CausesFit past.seen × (((held past.seen).boot ≡ x) × (role past.seen ≡ Starting)))
 unfolding arms
-starts-cause = Leads_then {Q = λ x past. CausesFit past.seen × (((held past.seen).boot ≡ x) ×
+starts_cause = Leads_then {Q = λ x past. CausesFit past.seen × (((held past.seen).boot ≡ x) ×
     ((role past.seen ≡ Starting) × (newest_is starts_by past.seen ≡ true)))}
     (puts (Become Starting)) (arms Quiet QUIET)
     (Leads_puts (Become Starting) (λ x past h. ((inr h.1.1, h.0), (h.1.0, (refl, refl)))))
     (record { run = λ x past h. ((inr (h.1.0, h.1.1.1), h.0), (h.1.0, h.1.1.0)) })
 
-boots-on-cause : (q : Port) → LeadsAll (Each booting) (boots_on q) (Each booting)
+boots_on_cause : (q : Port) → LeadsAll (Each booting) (boots_on q) (Each booting)
 unfolding boots_on
-boots-on-cause q = on_each booting booting-family q (puts (Become Starting) followed_by arms Quiet QUIET) starts-cause
+boots_on_cause q = on_each booting booting_family q (puts (Become Starting) followed_by arms Quiet QUIET) starts_cause
 
 pub boots_caused : LeadsAll (Each caused) boots_all (Each caused)
 unfolding boots_all on puts reading_all
@@ -69,7 +69,7 @@ boots_caused = record {
         run = λ x past all r. subst (λ b. booting (node_manner past) x (seen_as b (line_of past.step x first_port (Acts Boot)).did ∷ view r past.lines))
             (sym (or_right (first_port.0 == r.0) true refl)) ((inr tt, all r), (refl, refl));
       })
-      (record { run = λ x past all. (list_each booting booting-family boots_on (ports_from 0 past.ports) boots-on-cause).run x past all })).run x past all r).0;
+      (record { run = λ x past all. (list_each booting booting_family boots_on (ports_from 0 past.ports) boots_on_cause).run x past all })).run x past all r).0;
 }
 
 -- a step's beginning

@@ -17,39 +17,39 @@ use Rattle.tsp_rules.specs.SendRows.{may_correct, may_set, next_number}
 use Rattle.tsp_rules.specs.Values.{Post, Message, Peer}
 use Rattle.tsp_base.specs.Words.{bare}
 use Rattle.std.proofs.Common.{◌-ℤ◌, inl, inr, arith}
-use Rattle.tsp_base.proofs.PlaceLemmas.{Within-all, Within-comparable, Within-length, Within-through}
+use Rattle.tsp_base.proofs.PlaceLemmas.{Within_all, Within_comparable, Within_length, Within_through}
 use Rattle.tsp_progress.specs.Heeds.{DoesNext}
 use Rattle.tsp_progress.proofs.TableRows.{within_joined}
 
 -- the rows put these acts
 
-corrected-is : (mean : ℤ) (p : PeerId) (best : Option Estimate) (x : ℕ) (past : Past) → corrects_by mean p best x past ≡ corrected_by mean p best x past
+corrected_is : (mean : ℤ) (p : PeerId) (best : Option Estimate) (x : ℕ) (past : Past) → corrects_by mean p best x past ≡ corrected_by mean p best x past
 unfolding corrects_by puts begins_adjtime begins_settime either_by posts_time reading nothing
-corrected-is mean p None x past = refl
-corrected-is mean p (Some b) x past = by_near (is_near b.diff) where
+corrected_is mean p None x past = refl
+corrected_is mean p (Some b) x past = by_near (is_near b.diff) where
   by_near : (n : Bool) → (if n then begins_adjtime p b.ticket (mean -ℤ b.diff) else begins_settime p b.ticket) x past ≡
       (if n then (if may_correct p b.ticket x past then adjtime_to p b.ticket (mean -ℤ b.diff) past ∷ [] else [])
       else (if may_set p b.ticket x past then settime_to p b.ticket x past ∷ [] else []))
   by_near true = refl
   by_near false = refl
 
-each-is : (mean : ℤ) (round : List Standing) (x : ℕ) (past : Past) → for_each (corrects_peer mean) round x past ≡ corrected_each mean round x past
+each_is : (mean : ℤ) (round : List Standing) (x : ℕ) (past : Past) → for_each (corrects_peer mean) round x past ≡ corrected_each mean round x past
 unfolding for_each nothing ◌followed_by◌ corrects_peer
-each-is mean [] x past = refl
-each-is mean (s ∷ rest) x past =
-    let one = corrected-is mean s.peer s.best x past in
+each_is mean [] x past = refl
+each_is mean (s ∷ rest) x past =
+    let one = corrected_is mean s.peer s.best x past in
     ap (λ acts. acts ++ for_each (corrects_peer mean) rest x (grown x past acts)) one
-    ∙ ap (λ acts. corrected_by mean s.peer s.best x past ++ acts) (each-is mean rest x (grown x past (corrected_by mean s.peer s.best x past)))
+    ∙ ap (λ acts. corrected_by mean s.peer s.best x past ++ acts) (each_is mean rest x (grown x past (corrected_by mean s.peer s.best x past)))
 
-moved-is : (own : Bool) (mean : ℤ) (x : ℕ) (past : Past) → moves own mean x past ≡ moved_own own mean x past
+moved_is : (own : Bool) (mean : ℤ) (x : ℕ) (past : Past) → moves own mean x past ≡ moved_own own mean x past
 unfolding moves adjusts nothing
-moved-is true mean x past = refl
-moved-is false mean x past = refl
+moved_is true mean x past = refl
+moved_is false mean x past = refl
 
-closed-is : (own : Bool) (g : Group) (round : List Standing) (x : ℕ) (past : Past) →
+closed_is : (own : Bool) (g : Group) (round : List Standing) (x : ℕ) (past : Past) →
     closes_with own g round x past ≡ closed_or_not (can_adjust (mean_by own g) x past) own g round x past
 unfolding closes_with either_by puts ◌followed_by◌ abandons
-closed-is own g round x past = by_can (can_adjust (mean_by own g) x past) where
+closed_is own g round x past = by_can (can_adjust (mean_by own g) x past) where
   by_can : (b : Bool) →
       (if b
       then (puts (close_act own g) followed_by (moves own (mean_by own g) followed_by for_each (corrects_peer (mean_by own g)) round)) x past
@@ -57,22 +57,22 @@ closed-is own g round x past = by_can (can_adjust (mean_by own g) x past) where
   by_can true =
       let mean = mean_by own g in
       let after = grown x past (close_act own g ∷ []) in
-      ap (λ acts. close_act own g ∷ (acts ++ for_each (corrects_peer mean) round x (grown x after acts))) (moved-is own mean x after)
-      ∙ ap (λ acts. close_act own g ∷ (moved_own own mean x after ++ acts)) (each-is mean round x (grown x after (moved_own own mean x after)))
+      ap (λ acts. close_act own g ∷ (acts ++ for_each (corrects_peer mean) round x (grown x after acts))) (moved_is own mean x after)
+      ∙ ap (λ acts. close_act own g ∷ (moved_own own mean x after ++ acts)) (each_is mean round x (grown x after (moved_own own mean x after)))
   by_can false = refl
 
-quits-is : (ps : List PeerId) (x : ℕ) (past : Past) → for_each (begins QuitKind) ps x past ≡ quits_to ps x past
+quits_is : (ps : List PeerId) (x : ℕ) (past : Past) → for_each (begins QuitKind) ps x past ≡ quits_to ps x past
 unfolding for_each nothing ◌followed_by◌ begins reading posts
-quits-is [] x past = refl
-quits-is (p ∷ rest) x past =
+quits_is [] x past = refl
+quits_is (p ∷ rest) x past =
     let quit = Post (Peer p) (Message (bare QuitKind (next_number x past) past.name)) in
-    ap (λ acts. quit ∷ acts) (quits-is rest x (grown x past (quit ∷ [])))
+    ap (λ acts. quit ∷ acts) (quits_is rest x (grown x past (quit ∷ [])))
 
 -- an alarm that rings was in time
 
 -- two lines after the same lines are one
 pub same_place : (a b : Line) (s h : List Line) → Within (a ∷ s) h → Within (b ∷ s) h → a ≡ b
-same_place a b s h v w = elim (Within-comparable (a ∷ s) (b ∷ s) h v w) [
+same_place a b s h v w = elim (Within_comparable (a ∷ s) (b ∷ s) h v w) [
   | inl e ↦ one a b e
   | inr e ↦ sym (one b a e)
 ] where
@@ -82,7 +82,7 @@ same_place a b s h v w = elim (Within-comparable (a ∷ s) (b ∷ s) h v w) [
 
   one : (c d : Line) → Within (c ∷ s) (d ∷ s) → c ≡ d
   one c d (inl e) = ap (first c) e
-  one c d (inr e) = let le = Within-length (c ∷ s) s e in let bad : ⊥ = omega (arith, le) in absurd bad
+  one c d (inr e) = let le = Within_length (c ∷ s) s e in let bad : ⊥ = omega (arith, le) in absurd bad
 
 module _ (node : NodePast) (lines : List Line) (table : KeepsTable node lines) (l : Line) (older : List Line) (place : Within (l ∷ older) lines) where
   x : ℕ
@@ -95,27 +95,27 @@ module _ (node : NodePast) (lines : List Line) (table : KeepsTable node lines) (
   abbrev Stands : List Act → Type 0
   Stands acts = Within (joined l.did.step l.did.tick (placed l.port acts) older) lines
 
-  head-is : (cue : Act) (rest : List Act) → Stands (cue ∷ rest) → l ≡ line_of l.did.step l.did.tick l.port (Acts cue)
-  head-is cue rest w = same_place l (line_of l.did.step l.did.tick l.port (Acts cue)) older lines place
-      (Within-through (line_of l.did.step l.did.tick l.port (Acts cue) ∷ older) (joined l.did.step l.did.tick (placed l.port (cue ∷ rest)) older) lines
+  head_is : (cue : Act) (rest : List Act) → Stands (cue ∷ rest) → l ≡ line_of l.did.step l.did.tick l.port (Acts cue)
+  head_is cue rest w = same_place l (line_of l.did.step l.did.tick l.port (Acts cue)) older lines place
+      (Within_through (line_of l.did.step l.did.tick l.port (Acts cue) ∷ older) (joined l.did.step l.did.tick (placed l.port (cue ∷ rest)) older) lines
       (within_joined l.did.step l.did.tick (placed l.port rest) (line_of l.did.step l.did.tick l.port (Acts cue) ∷ older)
-      (line_of l.did.step l.did.tick l.port (Acts cue) ∷ older) (Within-all (line_of l.did.step l.did.tick l.port (Acts cue) ∷ older))) w)
+      (line_of l.did.step l.did.tick l.port (Acts cue) ∷ older) (Within_all (line_of l.did.step l.did.tick l.port (Acts cue) ∷ older))) w)
 
   -- what comes after it
-  rest-stands : (cue : Act) (rest : List Act) → Stands (cue ∷ rest) → DoesNext rest l older lines
-  rest-stands cue rest w = subst (λ k. Within (joined l.did.step l.did.tick (placed l.port rest) (k ∷ older)) lines) (sym (head-is cue rest w)) w
+  rest_stands : (cue : Act) (rest : List Act) → Stands (cue ∷ rest) → DoesNext rest l older lines
+  rest_stands cue rest w = subst (λ k. Within (joined l.did.step l.did.tick (placed l.port rest) (k ∷ older)) lines) (sym (head_is cue rest w)) w
 
-  late-no : {A : Type 0} (a b : Alarm) (rest : List Act) → l.did.deed ≡ Acts (Ring a) → Stands (Late b ∷ rest) → A
-  late-no a b rest ring w =
-      let is : Acts (Ring a) ≡ Acts (Late b) = sym ring ∙ ap (λ (k : Line). k.did.deed) (head-is (Late b) rest w) in
+  late_no : {A : Type 0} (a b : Alarm) (rest : List Act) → l.did.deed ≡ Acts (Ring a) → Stands (Late b ∷ rest) → A
+  late_no a b rest ring w =
+      let is : Acts (Ring a) ≡ Acts (Late b) = sym ring ∙ ap (λ (k : Line). k.did.deed) (head_is (Late b) rest w) in
       let bad : ⊥ = cc in absurd bad
 
-  row-stands : (a : Alarm) → l.did.deed ≡ Acts (Ring a) → Stands (alarm_row node l older a l.did.tick (port_before node l older))
-  row-stands a ring = subst (λ d. TableAt d node l older lines) ring (table l older place)
+  row_stands : (a : Alarm) → l.did.deed ≡ Acts (Ring a) → Stands (alarm_row node l older a l.did.tick (port_before node l older))
+  row_stands a ring = subst (λ d. TableAt d node l older lines) ring (table l older place)
 
   pub closes_at : l.did.deed ≡ Acts (Ring CloseAlarm) → ClosesAt node l older lines
   unfolding alarm_rings close_rings either_by reading closes puts ◌followed_by◌ abandons
-  closes_at ring = by_time (is_in_time CloseAlarm l.did.tick (port_before node l older)) (row-stands CloseAlarm ring) where
+  closes_at ring = by_time (is_in_time CloseAlarm l.did.tick (port_before node l older)) (row_stands CloseAlarm ring) where
     own : Bool
     own = leads_clock l.port l.did.tick (before_line node l older)
 
@@ -127,22 +127,22 @@ module _ (node : NodePast) (lines : List Line) (table : KeepsTable node lines) (
         let round = round_at l.did.tick (port_before node l older) in
         let g = group_of SPAN (estimates round) in
         let rung = grown l.did.tick (port_before node l older) (Ring CloseAlarm ∷ []) in
-        subst (λ acts. DoesNext acts l older lines) (closed-is own g round l.did.tick rung)
-        (rest-stands (Ring CloseAlarm) (closes_with own g round l.did.tick rung) w)
-    by_time false w = late-no CloseAlarm CloseAlarm (Abandon ∷ []) ring w
+        subst (λ acts. DoesNext acts l older lines) (closed_is own g round l.did.tick rung)
+        (rest_stands (Ring CloseAlarm) (closes_with own g round l.did.tick rung) w)
+    by_time false w = late_no CloseAlarm CloseAlarm (Abandon ∷ []) ring w
 
   pub resolves_at : l.did.deed ≡ Acts (Ring ResolveAlarm) → ResolvesAt node l older lines
   unfolding alarm_rings resolve_rings either_by quits_rivals reading puts ◌followed_by◌
-  resolves_at ring = by_time (is_in_time ResolveAlarm l.did.tick (port_before node l older)) (row-stands ResolveAlarm ring) where
+  resolves_at ring = by_time (is_in_time ResolveAlarm l.did.tick (port_before node l older)) (row_stands ResolveAlarm ring) where
     by_time : (b : Bool) → Stands (if b then (puts (Ring ResolveAlarm) followed_by quits_rivals) l.did.tick (port_before node l older) else puts
         (Late ResolveAlarm) l.did.tick
         (port_before node l older)) →
         ResolvesAt node l older lines
     by_time true w =
         let rung = grown l.did.tick (port_before node l older) (Ring ResolveAlarm ∷ []) in
-        subst (λ acts. DoesNext acts l older lines) (quits-is (rivals_at l.did.tick rung) l.did.tick rung)
-        (rest-stands (Ring ResolveAlarm) (for_each (begins QuitKind) (rivals_at l.did.tick rung) l.did.tick rung) w)
-    by_time false w = late-no ResolveAlarm ResolveAlarm [] ring w
+        subst (λ acts. DoesNext acts l older lines) (quits_is (rivals_at l.did.tick rung) l.did.tick rung)
+        (rest_stands (Ring ResolveAlarm) (for_each (begins QuitKind) (rivals_at l.did.tick rung) l.did.tick rung) w)
+    by_time false w = late_no ResolveAlarm ResolveAlarm [] ring w
 
 -- wherever the table is kept
 pub all_correct : (header : HeaderValue) (world : List Line) → ByTable header world → AllCorrect header world

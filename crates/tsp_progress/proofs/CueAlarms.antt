@@ -29,7 +29,7 @@ use Rattle.tsp_rules.proofs.BuiltRounds.{correct_sorts, built_corrects_by}
 use Rattle.tsp_rules.proofs.EmitsBuilt.{nothing_measured}
 use Rattle.tsp_group.specs.{Groups.group_of, declared.group.Group.Group}
 use Rattle.tsp_progress.proofs.CueRows.{Plain, Plain_arms, Plain_each, Plain_either, Plain_nothing, Plain_puts, Plain_reading, Plain_then, Uncued, calm}
-use Rattle.tsp_progress.proofs.CueRows.{candidature, elects, emit, handled, search, to-others, uncued_append, yield}
+use Rattle.tsp_progress.proofs.CueRows.{candidature, elects, emit, handled, search, to_others, uncued_append, yield}
 
 -- acts that begin with a cue of this sort, and have no other
 pub record Cued (good : Act → Type 0) (acts : List Act) : Type 0 where
@@ -96,7 +96,7 @@ loosen = Plain_either follows_at (puts (Become Loose)) nothing (Plain_puts (Beco
 lead : Plain lead_row
 unfolding lead_row
 lead = Plain_then (puts (Become Master)) (arms Round ROUND followed_by posts_to_others MasterUp 0) (Plain_puts (Become Master) refl)
-    (Plain_then (arms Round ROUND) (posts_to_others MasterUp 0) (Plain_arms Round ROUND) (to-others MasterUp refl))
+    (Plain_then (arms Round ROUND) (posts_to_others MasterUp 0) (Plain_arms Round ROUND) (to_others MasterUp refl))
 
 ask : (p : PeerId) → Plain (asks p)
 ask p = calm {sorts = Asking ∷ []} refl refl refl (At (Asks p tt) refl)
@@ -109,7 +109,7 @@ begin false = Plain_then (arms Round ROUND) (arms Probe PROBE followed_by (arms 
     (Plain_then (arms Probe PROBE) (arms CloseAlarm CLOSE followed_by (posts_to_others MasterUp 0 followed_by reading table_at (for_each asks)))
     (Plain_arms Probe PROBE)
     (Plain_then (arms CloseAlarm CLOSE) (posts_to_others MasterUp 0 followed_by reading table_at (for_each asks)) (Plain_arms CloseAlarm CLOSE)
-    (Plain_then (posts_to_others MasterUp 0) (reading table_at (for_each asks)) (to-others MasterUp refl)
+    (Plain_then (posts_to_others MasterUp 0) (reading table_at (for_each asks)) (to_others MasterUp refl)
     (Plain_reading table_at (for_each asks) (λ ps. Plain_each asks ps ask)))))
 
 abandon : Plain abandons

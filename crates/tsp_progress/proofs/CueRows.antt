@@ -91,30 +91,30 @@ Plain_each r (p ∷ ps) k = Plain_then (r p) (for_each r ps) (k p) (Plain_each r
 
 -- rows of sorts that have no cues
 
-ring-sort : (a : Alarm) → is_in (sort_of (Ring a)) near_sorts ≡ false → ⊥
-ring-sort Probe e = true≢false e
-ring-sort CloseAlarm e = true≢false e
-ring-sort _ e = true≢false e
+ring_sort : (a : Alarm) → is_in (sort_of (Ring a)) near_sorts ≡ false → ⊥
+ring_sort Probe e = true≢false e
+ring_sort CloseAlarm e = true≢false e
+ring_sort _ e = true≢false e
 
-sort-cue : (sorts : List Sort) → no_near sorts ≡ true → is_in Taking sorts ≡ false → (a : Act) → is_in (sort_of a) sorts ≡ true → is_cue a ≡ false
-sort-cue sorts apart none (Ring a) e = absurd (ring-sort a (out_of sorts apart (sort_of (Ring a)) e))
-sort-cue sorts apart none (Late a) e = absurd (ring-sort a (out_of sorts apart (sort_of (Late a)) e))
-sort-cue sorts apart none (Took from t) e = absurd (true≢false (sym e ∙ none))
-sort-cue sorts apart none _ e = refl
+sort_cue : (sorts : List Sort) → no_near sorts ≡ true → is_in Taking sorts ≡ false → (a : Act) → is_in (sort_of a) sorts ≡ true → is_cue a ≡ false
+sort_cue sorts apart none (Ring a) e = absurd (ring_sort a (out_of sorts apart (sort_of (Ring a)) e))
+sort_cue sorts apart none (Late a) e = absurd (ring_sort a (out_of sorts apart (sort_of (Late a)) e))
+sort_cue sorts apart none (Took from t) e = absurd (true≢false (sym e ∙ none))
+sort_cue sorts apart none _ e = refl
 
-all-uncued : (sorts : List Sort) → no_near sorts ≡ true → is_in Taking sorts ≡ false → (acts : List Act) → AllOf sorts acts → Uncued acts
-all-uncued sorts apart none [] h = tt
-all-uncued sorts apart none (a ∷ rest) h = (sort-cue sorts apart none a h.0, all-uncued sorts apart none rest h.1)
+all_uncued : (sorts : List Sort) → no_near sorts ≡ true → is_in Taking sorts ≡ false → (acts : List Act) → AllOf sorts acts → Uncued acts
+all_uncued sorts apart none [] h = tt
+all_uncued sorts apart none (a ∷ rest) h = (sort_cue sorts apart none a h.0, all_uncued sorts apart none rest h.1)
 
 pub emit : (sorts : List Sort) (row : Row) → no_near sorts ≡ true → is_in Taking sorts ≡ false → Emits sorts row → Plain row
-emit sorts row apart none e = record { run = λ x past. all-uncued sorts apart none (row x past) (e.only x past) }
+emit sorts row apart none e = record { run = λ x past. all_uncued sorts apart none (row x past) (e.only x past) }
 
 pub calm : {sorts : List Sort} {k c : ℕ} {r r' : Row} → is_part sorts sorts ≡ true → no_near sorts ≡ true → is_in Taking sorts ≡ false →
     Built unchanged nothing_owed sorts k c r r' → Plain r
 calm {sorts} {r = r} own apart none d = emit sorts r apart none (emits_built own d)
 
-pub to-others : (kind : Kind) → is_in (sort_of_kind kind) (Posting ∷ Numbering ∷ []) ≡ true → Plain (posts_to_others kind 0)
-to-others kind e = emit (Posting ∷ Numbering ∷ []) (posts_to_others kind 0) refl refl (Emits_posts_to_others kind 0 e)
+pub to_others : (kind : Kind) → is_in (sort_of_kind kind) (Posting ∷ Numbering ∷ []) ≡ true → Plain (posts_to_others kind 0)
+to_others kind e = emit (Posting ∷ Numbering ∷ []) (posts_to_others kind 0) refl refl (Emits_posts_to_others kind 0 e)
 
 post : (p : PeerId) (kind : Kind) (number : ℕ) → is_in (sort_of_kind kind) (Posting ∷ Numbering ∷ []) ≡ true → Plain (posts p kind number)
 post p kind number e = emit (Posting ∷ Numbering ∷ []) (posts p kind number) refl refl (Emits_posts p kind number e)
@@ -136,7 +136,7 @@ follow p = Plain_then (puts (Become (Follow p))) (arms_elect followed_by tells_t
 
 pub search : Plain searches
 unfolding searches
-search = Plain_then (arms Search WINDOW) (posts_to_others MasterReq 0) (Plain_arms Search WINDOW) (to-others MasterReq refl)
+search = Plain_then (arms Search WINDOW) (posts_to_others MasterReq 0) (Plain_arms Search WINDOW) (to_others MasterReq refl)
 
 unless : (p : PeerId) (r : Role) → Plain (follows_unless p r)
 unfolding follows_unless
@@ -249,7 +249,7 @@ candidate p m _ = Plain_nothing
 resolve : Plain resolves
 unfolding resolves
 resolve = Plain_either (is_armed ResolveAlarm) nothing (arms ResolveAlarm WINDOW followed_by posts_to_others ResolveKind 0) Plain_nothing
-    (Plain_then (arms ResolveAlarm WINDOW) (posts_to_others ResolveKind 0) (Plain_arms ResolveAlarm WINDOW) (to-others ResolveKind refl))
+    (Plain_then (arms ResolveAlarm WINDOW) (posts_to_others ResolveKind 0) (Plain_arms ResolveAlarm WINDOW) (to_others ResolveKind refl))
 
 master : (p : PeerId) (m : MessageValue) (k : Kind) → Plain (master_takes_kind p m k)
 unfolding master_takes_kind
@@ -286,9 +286,9 @@ unfolding from_peer
 peer (Peer p) row d = Plain_either (is_heard p) (row p) nothing (d p) Plain_nothing
 peer Stranger row d = Plain_nothing
 
-peer-says : (m : MessageValue) (p : PeerId) → Plain (peer_says m p)
+peer_says_holds : (m : MessageValue) (p : PeerId) → Plain (peer_says m p)
 unfolding peer_says
-peer-says m p = Plain_reading role_at (says_in p m) (says p m)
+peer_says_holds m p = Plain_reading role_at (says_in p m) (says p m)
 
 kind : (charge : Bool) (from : Place) (m : MessageValue) (k : Kind) → Plain (handles_kind charge from m k)
 unfolding handles_kind
@@ -305,7 +305,7 @@ kind charge from m SetDateReq = peer from (date_request_of charge m) (λ p. calm
     (built_date_request_of charge m tt tt p tt))
 kind charge from m DateAck = peer from (date_acked m) (λ p. calm {sorts = Acking ∷ []} refl refl refl (built_date_acked m p tt))
 kind charge from m LoopKind = Plain_nothing
-kind charge from m _ = peer from (peer_says m) (peer-says m)
+kind charge from m _ = peer from (peer_says m) (peer_says_holds m)
 
 pub handled : (steer charge : Bool) (from : Place) (t : Taken) → Plain (handles steer charge from t)
 unfolding handles

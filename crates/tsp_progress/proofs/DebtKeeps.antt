@@ -61,8 +61,8 @@ module _ {sort : Sort} {debt : Deed → Did → List Seen → Type 0} (owed : Ow
   abbrev paid : Manner → ℕ → List Seen → Type 0
   paid m x seen = Owes debt seen
 
-  calm-pays : {row : Row} → Emits quiet_sorts row → Leads (Paid debt) row (Paid debt)
-  calm-pays {row} e = pays owed quiet_sorts row apart e
+  calm_pays : {row : Row} → Emits quiet_sorts row → Leads (Paid debt) row (Paid debt)
+  calm_pays {row} e = pays owed quiet_sorts row apart e
 
   family : Family paid
   family = record {
@@ -77,23 +77,23 @@ module _ {sort : Sort} {debt : Deed → Did → List Seen → Type 0} (owed : Ow
     sends = sends;
     rings = rung;
     takes = λ steer charge from t ok. took steer charge from t;
-    took = λ from m is ok. calm-pays (Emits_puts (Took from (Good (Message m))) refl);
-    gives_up = calm-pays (emits_built refl built_loosens_master);
-    abandons = calm-pays (Emits_puts Abandon refl);
-    loops = λ q. calm-pays (emits_built refl (built_sends_loops q tt));
-    reposts = λ m is. calm-pays (emits_built (let part : is_part (sort_of_kind m.kind ∷ []) quiet_sorts ≡ true = rw is refl in part) (built_reposts m tt));
+    took = λ from m is ok. calm_pays (Emits_puts (Took from (Good (Message m))) refl);
+    gives_up = calm_pays (emits_built refl built_loosens_master);
+    abandons = calm_pays (Emits_puts Abandon refl);
+    loops = λ q. calm_pays (emits_built refl (built_sends_loops q tt));
+    reposts = λ m is. calm_pays (emits_built (let part : is_part (sort_of_kind m.kind ∷ []) quiet_sorts ≡ true = rw is refl in part) (built_reposts m tt));
   }
 
-  answers-paid : (g : NodeGiven) → LeadsAll (Each paid) (answers_all g) (Each paid)
-  answers-paid g = answers_keep paid paid Anything keeps g (any_given g)
+  answers_paid : (g : NodeGiven) → LeadsAll (Each paid) (answers_all g) (Each paid)
+  answers_paid g = answers_keep paid paid Anything keeps g (any_given g)
 
-  boots-paid : LeadsAll (Each paid) boots_all (Each paid)
+  boots_paid : LeadsAll (Each paid) boots_all (Each paid)
   unfolding boots_all boots_on
-  boots-paid = All_after (on first_port (puts Boot)) (reading_all all_ports (for_ports (λ q. on q (puts (Become Starting) followed_by arms Quiet QUIET))))
-      (on_each paid family first_port (puts Boot) (calm-pays (Emits_puts Boot refl)))
+  boots_paid = All_after (on first_port (puts Boot)) (reading_all all_ports (for_ports (λ q. on q (puts (Become Starting) followed_by arms Quiet QUIET))))
+      (on_each paid family first_port (puts Boot) (calm_pays (Emits_puts Boot refl)))
       (All_reading all_ports (for_ports (λ q. on q (puts (Become Starting) followed_by arms Quiet QUIET))) (λ ports.
       list_each paid family (λ q. on q (puts (Become Starting) followed_by arms Quiet QUIET)) ports (λ q.
-      on_each paid family q (puts (Become Starting) followed_by arms Quiet QUIET) (calm-pays (emits_built refl built_starts)))))
+      on_each paid family q (puts (Become Starting) followed_by arms Quiet QUIET) (calm_pays (emits_built refl built_starts)))))
 
   -- of each port of each node
   abbrev All : List Line → Type 0
@@ -103,9 +103,9 @@ module _ {sort : Sort} {debt : Deed → Did → List Seen → Type 0} (owed : Ow
   marked step x past all r = subst (λ b. Owes debt (seen_as b (line_of step x first_port Begins).did ∷ view r past.lines))
       (sym (or_right (first_port.0 == r.0) true refl)) (owed.mark (line_of step x first_port Begins).did (view r past.lines), all r)
 
-  stepped-paid : (past : NodePast) (step : Step) (x : ℕ) (row : NodeRow) (h : List Line) → past.lines ≡ of step.node h →
+  stepped_paid : (past : NodePast) (step : Step) (x : ℕ) (row : NodeRow) (h : List Line) → past.lines ≡ of step.node h →
       LeadsAll (Each paid) row (Each paid) → All h → All (stepped step x (row x (in_node_step step x past)) h)
-  stepped-paid past step x row h own leads all = λ n q. by_case n q (step.node == n) refl where
+  stepped_paid past step x row h own leads all = λ n q. by_case n q (step.node == n) refl where
     acts : List Placed
     acts = row x (in_node_step step x past)
 
@@ -122,19 +122,19 @@ module _ {sort : Sort} {debt : Deed → Did → List Seen → Type 0} (owed : Ow
     steps-paid : (h : List Line) (row : NodeRow) (step : Step) → LeadsAll (Each paid) row (Each paid) → All h →
         All (joins (Some (steps_by clocks header h row step)) h)
     unfolding steps_by
-    steps-paid h row step leads all = stepped-paid (past_of header step h) step (tick_by clocks step) row h refl leads all
+    steps-paid h row step leads all = stepped_paid (past_of header step h) step (tick_by clocks step) row h refl leads all
 
     event-paid : (h : List Line) (e : Event) → All h → All (joins (happening_by clocks header h e) h)
-    event-paid h (BootAt at node word) all = steps-paid h boots_all (boot_by clocks h at node word) boots-paid all
-    event-paid h (Turn at node) all = steps-paid h (answers_all NodeTurn) (record { at = at; node = node; cause = Turned }) (answers-paid NodeTurn) all
+    event-paid h (BootAt at node word) all = steps-paid h boots_all (boot_by clocks h at node word) boots_paid all
+    event-paid h (Turn at node) all = steps-paid h (answers_all NodeTurn) (record { at = at; node = node; cause = Turned }) (answers_paid NodeTurn) all
     event-paid h (Take at k) all = arrived (arrives (networks header) (slice_get (posts h) k)) where
       arrived : (o : Option Arrival) → All (joins (reaches_by clocks header h at k o) h)
       arrived None = all
       arrived (Some a) = steps-paid h (answers_all (GotOn a.port a.from a.taken)) (record { at = at; node = a.node; cause = Came k })
-          (answers-paid (GotOn a.port a.from a.taken)) all
+          (answers_paid (GotOn a.port a.from a.taken)) all
     event-paid h (Bytes at node port from octets) all =
         steps-paid h (answers_all (GotOn port from (taken_of octets))) (record { at = at; node = node; cause = Handed })
-        (answers-paid (GotOn port from (taken_of octets))) all
+        (answers_paid (GotOn port from (taken_of octets))) all
 
   pub runs_pay : (clocks : Clocks) (header : HeaderValue) (events : List Event) (n : ℕ) (q : Port) → Owes debt (view q (of n (run_by clocks header events)))
   runs_pay clocks header [] = λ n q. tt

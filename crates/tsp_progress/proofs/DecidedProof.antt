@@ -18,7 +18,7 @@ use Rattle.tsp_base.specs.Words.{Acts, Did, Here, Leads, MessageValue, Past, Row
 use Rattle.tsp_base.specs.Words.{posts, posts_of, puts, sending_at, taken, time_in, ◌followed_by◌}
 use Rattle.tsp_base.proofs.LeadsLemmas.{Leads_either, Leads_from, Leads_nothing, Leads_puts, Leads_reading, Leads_then}
 use Rattle.tsp_rules.proofs.Emits.{Sort, Acking, Correcting, Numbering, Posting, Rivalling, Sampling, Tabling, Tracing, Emits_posts}
-use Rattle.tsp_rules.proofs.Emits.{is_in, is_in-own, is_part, sort_of, sort_of_kind}
+use Rattle.tsp_rules.proofs.Emits.{is_in, is_in_own, is_part, sort_of, sort_of_kind}
 use Rattle.tsp_rules.proofs.{BuiltSends.built_due_sends, BuiltSends.send_sorts, EmitsBuilt.emits_built, EmitsBuilt.nothing_owed}
 use Rattle.tsp_rules.proofs.{Built.Built, Unchanged.place_unchanged, Unchanged.unchanged}
 use Rattle.tsp_rules.proofs.BuiltAnswers.{built_new_date, built_passes_on, built_peer_replies, built_rings, pass_sorts, ring_sorts, set_sorts}
@@ -37,41 +37,41 @@ unacked : (sorts : List Sort) → is_in Acking sorts ≡ false → (a : Act) →
 unacked sorts none (Acked p) e d before = absurd (true≢false (sym e ∙ none))
 unacked sorts none _ e d before = tt
 
-by-acking : OwedBy Acking DecidedFits
-by-acking = record { mark = λ d before. tt; free = unacked }
+by_acking : OwedBy Acking DecidedFits
+by_acking = record { mark = λ d before. tt; free = unacked }
 
 calm : {sorts : List Sort} {k c : ℕ} {r r' : Row} → is_in Acking sorts ≡ false → is_part sorts sorts ≡ true → Built unchanged nothing_owed sorts k c r r' →
     Leads (Paid DecidedFits) r (Paid DecidedFits)
-calm {sorts} {r = r} none part d = pays by-acking sorts r none (emits_built part d)
+calm {sorts} {r = r} none part d = pays by_acking sorts r none (emits_built part d)
 
-ring-part : (a : Alarm) → is_part (ring_sorts a) (ring_sorts a) ≡ true
-ring-part CloseAlarm = refl
-ring-part _ = refl
+ring_part : (a : Alarm) → is_part (ring_sorts a) (ring_sorts a) ≡ true
+ring_part CloseAlarm = refl
+ring_part _ = refl
 
-ring-apart : (a : Alarm) → is_in Acking (ring_sorts a) ≡ false
-ring-apart CloseAlarm = refl
-ring-apart _ = refl
+ring_apart : (a : Alarm) → is_in Acking (ring_sorts a) ≡ false
+ring_apart CloseAlarm = refl
+ring_apart _ = refl
 
 rung : (own wait : Bool) (a : Alarm) → Leads (Paid DecidedFits) (rings own wait a) (Paid DecidedFits)
-rung own wait a = calm (ring-apart a) (ring-part a) (built_rings own wait a)
+rung own wait a = calm (ring_apart a) (ring_part a) (built_rings own wait a)
 
 sends : Leads (Paid DecidedFits) due_sends (Paid DecidedFits)
 sends = calm {sorts = send_sorts} refl refl built_due_sends
 
 -- the open send that an ELECTION is
-open-election : (p : PeerId) (seen : List Seen) (first : Did) (older : List Seen) (m : MessageValue) → open_to p seen ≡ Here first ∷ older → first.deed ≡
+open_election : (p : PeerId) (seen : List Seen) (first : Did) (older : List Seen) (m : MessageValue) → open_to p seen ≡ Here first ∷ older → first.deed ≡
     Acts (Post (Peer p) (Message m)) → open_send p seen ≡ Some (record { began = first.tick; posts = posts_of p seen; message = m })
-open-election p seen first older m e is = ap (λ s. sending_at s (posts_of p seen)) e ∙ rw is refl
+open_election p seen first older m e is = ap (λ s. sending_at s (posts_of p seen)) e ∙ rw is refl
 
 -- an ACK and a DATEACK end no ELECTION
-no-other : (p : PeerId) (number : ℕ) (seen : List Seen) → answers_other number (open_send p seen) ≡ true → (d : Did) → DecidedFits (Acts (Acked p)) d seen
-no-other p number seen has d first older m e is kind =
-    let other : answers_other number (open_send p seen) ≡ false = ap (answers_other number) (open-election p seen first older m e is) ∙ rw kind refl in
+no_other : (p : PeerId) (number : ℕ) (seen : List Seen) → answers_other number (open_send p seen) ≡ true → (d : Did) → DecidedFits (Acts (Acked p)) d seen
+no_other p number seen has d first older m e is kind =
+    let other : answers_other number (open_send p seen) ≡ false = ap (answers_other number) (open_election p seen first older m e is) ∙ rw kind refl in
     absurd (true≢false (sym has ∙ other))
 
-no-date : (p : PeerId) (number : ℕ) (seen : List Seen) → answers_date number (open_send p seen) ≡ true → (d : Did) → DecidedFits (Acts (Acked p)) d seen
-no-date p number seen has d first older m e is kind =
-    let other : answers_date number (open_send p seen) ≡ false = ap (answers_date number) (open-election p seen first older m e is) ∙ rw kind refl in
+no_date : (p : PeerId) (number : ℕ) (seen : List Seen) → answers_date number (open_send p seen) ≡ true → (d : Did) → DecidedFits (Acts (Acked p)) d seen
+no_date p number seen has d first older m e is kind =
+    let other : answers_date number (open_send p seen) ≡ false = ap (answers_date number) (open_election p seen first older m e is) ∙ rw kind refl in
     absurd (true≢false (sym has ∙ other))
 
 -- the step has taken this message of p
@@ -82,7 +82,7 @@ decided : (p : PeerId) (m : MessageValue) (x : ℕ) (past : Past) → (m.kind �
     true → (d : Did) → DecidedFits (Acts (Acked p)) d past.seen
 decided p m x past kind h has d first older asked e is election =
     let own : answers_election m.number (open_send p past.seen) ≡ (asked.number == m.number) =
-    ap (answers_election m.number) (open-election p past.seen first older asked e is) ∙ rw election refl in
+    ap (answers_election m.number) (open_election p past.seen first older asked e is) ∙ rw election refl in
     record { answer = m; took = h.1; kind = kind; number_is = sym (eqb-true asked.number m.number (sym own ∙ has)) }
 
 accepts : (p : PeerId) (m : MessageValue) → m.kind ≡ Accept → Leads (Taking p m) (accepted_by p m.number) (Paid DecidedFits)
@@ -106,7 +106,7 @@ refuses p m kind = Leads_either (has_election p m.number) (puts (Acked p) follow
 acks : (p : PeerId) (number : ℕ) → Leads (Paid DecidedFits) (acknowledges p number) (Paid DecidedFits)
 unfolding acknowledges
 acks p number = Leads_either (has_other p number) (puts (Acked p)) nothing (Leads_puts (Acked p)
-    (λ x past h. (no-other p number past.seen h.1 (record { step = past.step; tick = x; deed = Acts (Acked p) }), h.0)))
+    (λ x past h. (no_other p number past.seen h.1 (record { step = past.step; tick = x; deed = Acts (Acked p) }), h.0)))
     (Leads_from (λ x past h. h.0) Leads_nothing)
 
 -- by the role
@@ -133,7 +133,7 @@ candidate p m QuitKind is = Leads_from (λ x past h. h.0) (calm {sorts = quit_so
 candidate p m _ is = Leads_from (λ x past h. h.0) Leads_nothing
 
 posted : (p : PeerId) (k : Kind) (number : ℕ) → is_in Acking (sort_of_kind k ∷ []) ≡ false → Leads (Paid DecidedFits) (posts p k number) (Paid DecidedFits)
-posted p k number none = pays by-acking (sort_of_kind k ∷ []) (posts p k number) none (Emits_posts p k number (is_in-own (sort_of_kind k)))
+posted p k number none = pays by_acking (sort_of_kind k ∷ []) (posts p k number) none (Emits_posts p k number (is_in_own (sort_of_kind k)))
 
 resolve : Leads (Paid DecidedFits) resolves (Paid DecidedFits)
 resolve = calm {sorts = question_sorts} refl refl built_resolves
@@ -159,49 +159,49 @@ says p m Master = Leads_from (λ x past h. h.0) (master p m m.kind)
 says p m _ = Leads_from (λ x past h. h.0) (slave p m m.kind)
 
 -- dates
-date-where : (from : Place) (number : ℕ) (time : ℤ) → Leads (Paid DecidedFits) (sets_date_where from number time) (Paid DecidedFits)
+date_where : (from : Place) (number : ℕ) (time : ℤ) → Leads (Paid DecidedFits) (sets_date_where from number time) (Paid DecidedFits)
 unfolding sets_date_where
-date-where from number time = Leads_either (may_date time) (new_date from number time) nothing
+date_where from number time = Leads_either (may_date time) (new_date from number time) nothing
     (Leads_from (λ x past h. h.0) (calm {sorts = set_sorts} refl refl (built_new_date number time tt tt from (place_unchanged from) tt)))
     (Leads_from (λ x past h. h.0) Leads_nothing)
 
-date-in : (from : Place) (number : ℕ) (time : ℤ) (r : Role) → Leads (Paid DecidedFits) (date_in from number time r) (Paid DecidedFits)
+date_in_holds : (from : Place) (number : ℕ) (time : ℤ) (r : Role) → Leads (Paid DecidedFits) (date_in from number time r) (Paid DecidedFits)
 unfolding date_in
-date-in from number time (Follow q) = calm {sorts = pass_sorts} refl refl (built_passes_on number time tt tt from q (place_unchanged from) tt tt)
-date-in from number time Master = date-where from number time
-date-in from number time _ = Leads_nothing
+date_in_holds from number time (Follow q) = calm {sorts = pass_sorts} refl refl (built_passes_on number time tt tt from q (place_unchanged from) tt tt)
+date_in_holds from number time Master = date_where from number time
+date_in_holds from number time _ = Leads_nothing
 
-date-of : (charge : Bool) (from : Place) (m : MessageValue) → Leads (Paid DecidedFits) (date_of charge from m) (Paid DecidedFits)
+date_of_holds : (charge : Bool) (from : Place) (m : MessageValue) → Leads (Paid DecidedFits) (date_of charge from m) (Paid DecidedFits)
 unfolding date_of
-date-of true from m = Leads_reading role_at (date_in from m.number (time_in m.body)) (λ r. Leads_from (λ x past h. h.0)
-    (date-in from m.number (time_in m.body) r))
-date-of false from m = Leads_nothing
+date_of_holds true from m = Leads_reading role_at (date_in from m.number (time_in m.body)) (λ r. Leads_from (λ x past h. h.0)
+    (date_in_holds from m.number (time_in m.body) r))
+date_of_holds false from m = Leads_nothing
 
-in-charge : (charge : Bool) (p : PeerId) (m : MessageValue) → Leads (Paid DecidedFits) (sets_in_charge charge p m) (Paid DecidedFits)
+in_charge : (charge : Bool) (p : PeerId) (m : MessageValue) → Leads (Paid DecidedFits) (sets_in_charge charge p m) (Paid DecidedFits)
 unfolding sets_in_charge
-in-charge true p m = date-where (Peer p) m.number (time_in m.body)
-in-charge false p m = Leads_nothing
+in_charge true p m = date_where (Peer p) m.number (time_in m.body)
+in_charge false p m = Leads_nothing
 
-request-in : (charge : Bool) (m : MessageValue) (p : PeerId) (r : Role) → Leads (Paid DecidedFits) (date_request_in charge m p r) (Paid DecidedFits)
+request_in : (charge : Bool) (m : MessageValue) (p : PeerId) (r : Role) → Leads (Paid DecidedFits) (date_request_in charge m p r) (Paid DecidedFits)
 unfolding date_request_in
-request-in charge m p Master = Leads_either (is_dated p m.number) (posts p DateAck m.number) (sets_in_charge charge p m)
-    (Leads_from (λ x past h. h.0) (posted p DateAck m.number refl)) (Leads_from (λ x past h. h.0) (in-charge charge p m))
-request-in charge m p _ = Leads_nothing
+request_in charge m p Master = Leads_either (is_dated p m.number) (posts p DateAck m.number) (sets_in_charge charge p m)
+    (Leads_from (λ x past h. h.0) (posted p DateAck m.number refl)) (Leads_from (λ x past h. h.0) (in_charge charge p m))
+request_in charge m p _ = Leads_nothing
 
 request : (charge : Bool) (m : MessageValue) (p : PeerId) → Leads (Paid DecidedFits) (date_request_of charge m p) (Paid DecidedFits)
 unfolding date_request_of
-request charge m p = Leads_reading role_at (date_request_in charge m p) (λ r. Leads_from (λ x past h. h.0) (request-in charge m p r))
+request charge m p = Leads_reading role_at (date_request_in charge m p) (λ r. Leads_from (λ x past h. h.0) (request_in charge m p r))
 
-date-acked : (m : MessageValue) (p : PeerId) (r : Role) → Leads (Paid DecidedFits) (date_acked_in m p r) (Paid DecidedFits)
+date_acked_holds : (m : MessageValue) (p : PeerId) (r : Role) → Leads (Paid DecidedFits) (date_acked_in m p r) (Paid DecidedFits)
 unfolding date_acked_in
-date-acked m p (Follow q) = Leads_either (has_date p m.number) (puts (Acked p)) nothing
-    (Leads_puts (Acked p) (λ x past h. (no-date p m.number past.seen h.1 (record { step = past.step; tick = x; deed = Acts (Acked p) }), h.0)))
+date_acked_holds m p (Follow q) = Leads_either (has_date p m.number) (puts (Acked p)) nothing
+    (Leads_puts (Acked p) (λ x past h. (no_date p m.number past.seen h.1 (record { step = past.step; tick = x; deed = Acts (Acked p) }), h.0)))
     (Leads_from (λ x past h. h.0) Leads_nothing)
-date-acked m p _ = Leads_nothing
+date_acked_holds m p _ = Leads_nothing
 
 dated : (m : MessageValue) (p : PeerId) → Leads (Paid DecidedFits) (date_acked m p) (Paid DecidedFits)
 unfolding date_acked
-dated m p = Leads_reading role_at (date_acked_in m p) (λ r. Leads_from (λ x past h. h.0) (date-acked m p r))
+dated m p = Leads_reading role_at (date_acked_in m p) (λ r. Leads_from (λ x past h. h.0) (date_acked_holds m p r))
 
 -- what is taken
 abbrev pub TookFrom : Place → Taken → ℕ → Past → Type 0
@@ -213,9 +213,9 @@ unfolding from_peer
 peer (Peer p) m row d = Leads_either (is_heard p) (row p) nothing (Leads_from (λ x past h. h.0) (d p)) (Leads_from (λ x past h. h.0.0) Leads_nothing)
 peer Stranger m row d = Leads_from (λ x past h. h.0) Leads_nothing
 
-peer-says : (m : MessageValue) (p : PeerId) → Leads (Taking p m) (peer_says m p) (Paid DecidedFits)
+peer_says_holds : (m : MessageValue) (p : PeerId) → Leads (Taking p m) (peer_says m p) (Paid DecidedFits)
 unfolding peer_says
-peer-says m p = Leads_reading role_at (says_in p m) (λ r. Leads_from (λ x past h. h.0) (says p m r))
+peer_says_holds m p = Leads_reading role_at (says_in p m) (λ r. Leads_from (λ x past h. h.0) (says p m r))
 
 just : {row : Row} (from : Place) (t : Taken) → Leads (Paid DecidedFits) row (Paid DecidedFits) → Leads (TookFrom from t) row (Paid DecidedFits)
 just from t d = Leads_from (λ x past h. h.0) d
@@ -228,13 +228,13 @@ kinds charge from m MsiteReq = just from _ (calm {sorts = Posting ∷ []} refl r
 kinds charge from m TraceOn = just from _ (calm {sorts = Tracing ∷ Posting ∷ []} refl refl (built_traces from m.number (place_unchanged from) tt tt true))
 kinds charge from m TraceOff = just from _ (calm {sorts = Tracing ∷ Posting ∷ []} refl refl (built_traces from m.number (place_unchanged from) tt tt false))
 kinds charge from m Test = just from _ (calm {sorts = standing_sorts} refl refl (built_tests from m.number (place_unchanged from) tt tt))
-kinds charge from m Date = just from _ (date-of charge from m)
-kinds charge from m SetDate = just from _ (date-of charge from m)
+kinds charge from m Date = just from _ (date_of_holds charge from m)
+kinds charge from m SetDate = just from _ (date_of_holds charge from m)
 kinds charge from m DateReq = peer from m (date_request_of charge m) (λ p. Leads_from (λ x past h. h.0) (request charge m p))
 kinds charge from m SetDateReq = peer from m (date_request_of charge m) (λ p. Leads_from (λ x past h. h.0) (request charge m p))
 kinds charge from m DateAck = peer from m (date_acked m) (λ p. Leads_from (λ x past h. h.0) (dated m p))
 kinds charge from m LoopKind = just from _ Leads_nothing
-kinds charge from m _ = peer from m (peer_says m) (peer-says m)
+kinds charge from m _ = peer from m (peer_says m) (peer_says_holds m)
 
 replied : (from : Place) (r : ReplyValue) → Leads (Paid DecidedFits) (from_peer from (peer_replies r)) (Paid DecidedFits)
 unfolding from_peer
@@ -259,7 +259,7 @@ took steer charge from t = Leads_then {Q = TookFrom from t} (puts (Took from t))
     (Leads_from (λ x past h. h.0) (handled steer charge from t)))
 
 pub clocked_runs_decide : ClockedRunsDecide
-clocked_runs_decide clocks header events n q = runs_pay by-acking refl sends rung took clocks header events n q
+clocked_runs_decide clocks header events n q = runs_pay by_acking refl sends rung took clocks header events n q
 
 pub runs_decide : RunsDecide
 runs_decide header events = subst (λ h. AllDecided h) (runs_by_own_clocks header events) (clocked_runs_decide (clocks_of header) header events)

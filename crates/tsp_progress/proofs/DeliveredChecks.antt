@@ -4,9 +4,9 @@ use Rattle.std.proofs.Common.{false, List, [], ◌∷◌, length, leb-true, le-l
 use Rattle.std.proofs.lemmas.Bool.{and_parts, lt-ltb}
 use Rattle.tsp_rules.specs.Values.{Took, Post, Good, Datagram, PeerId, Peer, Place, Taken}
 use Rattle.tsp_base.specs.Words.{Acts, Came, Cause, Deed, Line, Within, dids, peer_of, posted}
-use Rattle.tsp_base.proofs.PlaceLemmas.{Within-length, Within-through}
+use Rattle.tsp_base.proofs.PlaceLemmas.{Within_length, Within_through}
 use Rattle.tsp_promises.specs.{Fits.Fits, Fits.LineFits, Fits.Posted, Fits.TookFits, Fits.node_of, Setting.Setting}
-use Rattle.tsp_promises.proofs.shared.EverywhereLemmas.{Everywhere-at}
+use Rattle.tsp_promises.proofs.shared.EverywhereLemmas.{Everywhere_at}
 use Rattle.tsp_promises.proofs.shared.SendPlaces.{post_unique}
 use Rattle.tsp_progress.specs.Delivered.{Arrives, Delivered, PostsTo}
 
@@ -37,13 +37,13 @@ pub record Taking (k by : ℕ) (world : List Line) : Type 0 where
   pub cause : line.did.step.cause ≡ Came k
   pub soon : line.did.step.at ≤ by
 
-took-is : (d : Deed) → is_took d ≡ true → (from : Place) × ((t : Taken) × (d ≡ Acts (Took from t)))
-took-is (Acts (Took from t)) e = (from, (t, refl))
-took-is _ e = absurd (true≢false (sym e))
+took_is : (d : Deed) → is_took d ≡ true → (from : Place) × ((t : Taken) × (d ≡ Acts (Took from t)))
+took_is (Acts (Took from t)) e = (from, (t, refl))
+took_is _ e = absurd (true≢false (sym e))
 
-comes-is : (k : ℕ) (c : Cause) → comes k c ≡ true → c ≡ Came k
-comes-is k (Came j) e = ap Came (eqb-true j k e)
-comes-is k _ e = absurd (true≢false (sym e))
+comes_is : (k : ℕ) (c : Cause) → comes k c ≡ true → c ≡ Came k
+comes_is k (Came j) e = ap Came (eqb-true j k e)
+comes_is k _ e = absurd (true≢false (sym e))
 
 found : (k by : ℕ) (world : List Line) → taken_in k by world ≡ true → Taking k by world
 found k by [] e = absurd (true≢false (sym e))
@@ -53,7 +53,7 @@ found k by (l ∷ before) e = by_case (takes_number k by l) refl e (λ f. found 
   by_case true h f rest =
       let both = and_parts (is_took l.did.deed) (comes k l.did.step.cause && nat_le l.did.step.at by) h in
       let more = and_parts (comes k l.did.step.cause) (nat_le l.did.step.at by) both.1 in
-      let t = took-is l.did.deed both.0 in
+      let t = took_is l.did.deed both.0 in
       record {
         line = l;
         before = before;
@@ -61,7 +61,7 @@ found k by (l ∷ before) e = by_case (takes_number k by l) refl e (λ f. found 
         from = t.0;
         taken = t.1.0;
         deed = t.1.1;
-        cause = comes-is k l.did.step.cause more.0;
+        cause = comes_is k l.did.step.cause more.0;
         soon = leb-true l.did.step.at by more.1;
       }
   by_case false h f rest = let t = rest f in record {
@@ -78,14 +78,14 @@ found k by (l ∷ before) e = by_case (takes_number k by l) refl e (λ f. found 
 -- what is taken under the number of a post is that post
 module _ (setting : Setting) (long : ℕ) (l : Line) (older world : List Line) (p : PeerId) (d : Datagram) (fits : Fits setting world)
     (posts : PostsTo setting l older world p d) (t : Taking (posted (dids older)) (l.did.step.at + long) world) where
-  post-of : Posted setting t.line t.before (posted (dids older)) t.from t.taken
-  post-of =
-      let fit : LineFits setting t.line t.before = Everywhere-at (LineFits setting) t.line t.before world fits t.place in
+  post_of : Posted setting t.line t.before (posted (dids older)) t.from t.taken
+  post_of =
+      let fit : LineFits setting t.line t.before = Everywhere_at (LineFits setting) t.line t.before world fits t.place in
       subst (λ c. TookFits c setting t.line t.before t.from t.taken) t.cause (fit.took t.from t.taken t.deed)
 
-  abbrev first-line : List Line → Line
-  first-line [] = l
-  first-line (k ∷ rest) = k
+  abbrev first_line : List Line → Line
+  first_line [] = l
+  first_line (k ∷ rest) = k
 
   abbrev peer_in : Deed → PeerId
   peer_in (Acts (Post (Peer q) e)) = q
@@ -97,11 +97,11 @@ module _ (setting : Setting) (long : ℕ) (l : Line) (older world : List Line) (
 
   pub arrives : Arrives setting long l older world p d
   arrives =
-      let o = post-of in
+      let o = post_of in
       let in_world : Within (o.post ∷ o.older) world = within (o.post ∷ o.older) o.place in
       let same : (o.post ∷ o.older) ≡ (l ∷ older) = post_unique world o.post l o.older older (Peer (peer_of (node_of t.line))) (Peer p) o.datagram d in_world
       posts.place o.deed posts.deed o.number in
-      let line_is : o.post ≡ l = ap first-line same in
+      let line_is : o.post ≡ l = ap first_line same in
       let deed : Acts (Post (Peer (peer_of (node_of t.line))) o.datagram) ≡ Acts (Post (Peer p) d) = sym o.deed ∙ ap (λ (k : Line). k.did.deed) line_is ∙
       posts.deed in
       let peer : peer_of (node_of t.line) ≡ p = ap peer_in deed in
@@ -121,7 +121,7 @@ module _ (setting : Setting) (long : ℕ) (l : Line) (older world : List Line) (
       }
     where
       within : (s : List Line) → Within s t.before → Within s world
-      within s w = Within-through s (t.line ∷ t.before) world (inr w) t.place
+      within s w = Within_through s (t.line ∷ t.before) world (inr w) t.place
 
 -- a post that has to be taken
 abbrev has_to : ℕ → ℕ → (ℕ → Bool) → ℕ → PeerId → Line → List Line → Bool
@@ -137,30 +137,30 @@ abbrev pub all_taken : ℕ → ℕ → (ℕ → Bool) → ℕ → List Line → 
 all_taken long t stays first world [] = true
 all_taken long t stays first world (l ∷ older) = post_taken long t stays first l.did.deed l older world && all_taken long t stays first world older
 
-taken-at : (long t : ℕ) (stays : ℕ → Bool) (first : ℕ) (world part : List Line) (l : Line) (older : List Line) → all_taken long t stays first world part ≡
+taken_at : (long t : ℕ) (stays : ℕ → Bool) (first : ℕ) (world part : List Line) (l : Line) (older : List Line) → all_taken long t stays first world part ≡
     true →
     Within (l ∷ older) part → post_taken long t stays first l.did.deed l older world ≡ true
-taken-at long t stays first world [] l older e w = let bad : ⊥ = cc in absurd bad
-taken-at long t stays first world (k ∷ rest) l older e (inl same) = subst (λ (ls : List Line). at ls) (sym same) (and_parts
+taken_at long t stays first world [] l older e w = let bad : ⊥ = cc in absurd bad
+taken_at long t stays first world (k ∷ rest) l older e (inl same) = subst (λ (ls : List Line). at ls) (sym same) (and_parts
     (post_taken long t stays first k.did.deed k rest world) (all_taken long t stays first world rest) e).0 where
       at : List Line → Type 0
       at [] = Unit {0}
       at (j ∷ js) = post_taken long t stays first j.did.deed j js world ≡ true
-taken-at long t stays first world (k ∷ rest) l older e (inr w) = taken-at long t stays first world rest l older
+taken_at long t stays first world (k ∷ rest) l older e (inr w) = taken_at long t stays first world rest l older
     ((and_parts (post_taken long t stays first k.did.deed k rest world) (all_taken long t stays first world rest) e).1) w
 
-or-not : (a b : Bool) → a ≡ true → (not a || b) ≡ true → b ≡ true
-or-not true b e f = f
-or-not false b e f = absurd (true≢false (sym e))
+or_not : (a b : Bool) → a ≡ true → (not a || b) ≡ true → b ≡ true
+or_not true b e f = f
+or_not false b e f = absurd (true≢false (sym e))
 
 pub delivered_by : (setting : Setting) (long t : ℕ) (stays : ℕ → Bool) (s world : List Line) → Fits setting world →
     all_taken long t stays (length s) world world ≡ true → Delivered setting long t stays s world
 delivered_by setting long t stays s world fits all l older p d posts since there early =
     let at_line = subst (λ deed. post_taken long t stays (length s) deed l older world ≡ true) posts.deed
-    (taken-at long t stays (length s) world world l older all posts.place) in
+    (taken_at long t stays (length s) world world l older all posts.place) in
     let has : has_to long t stays (length s) p l older ≡ true =
-    let first = le-leb (length s) (length older) (Within-length s older since) in
+    let first = le-leb (length s) (length older) (Within_length s older since) in
     let soon = lt-ltb (l.did.step.at + long) t early in
     rw (first, there, soon) refl in
     arrives setting long l older world p d fits posts (found (posted (dids older)) (l.did.step.at + long) world
-    (or-not (has_to long t stays (length s) p l older) (taken_in (posted (dids older)) (l.did.step.at + long) world) has at_line))
+    (or_not (has_to long t stays (length s) p l older) (taken_in (posted (dids older)) (l.did.step.at + long) world) has at_line))

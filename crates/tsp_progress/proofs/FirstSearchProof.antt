@@ -5,7 +5,7 @@ use Rattle.tsp_rules.specs.Values.{Act, Become, Arm, Ring, Quiet, Search, Master
 use Rattle.tsp_rules.specs.{Answers.alarm_rings, CommonRows.searches, SlaveRows.quiet_rings}
 use Rattle.tsp_base.specs.Words.{Acts, HeaderValue, Line, Past, Step, Within, arms, armed, bare, is_among, joined, line_of, of, others, placed}
 use Rattle.tsp_base.specs.Words.{post_of, posts_to_others, puts, role, view, ◌followed_by◌}
-use Rattle.tsp_base.proofs.PlaceLemmas.{Within-all, Within-through}
+use Rattle.tsp_base.proofs.PlaceLemmas.{Within_all, Within_through}
 use Rattle.tsp_promises.specs.{Fits.Fits, Fits.node_of, Setting.Setting}
 use Rattle.tsp_run.specs.{Clocked.Clocks, Clocked.SetByClocks, Clocked.clocks_of, Clocked.run_by}
 use Rattle.tsp_run.proofs.{OwnClocks.possible_own, OwnClocks.runs_by_own_clocks, OwnClocks.set_own, RunFits.clocked_runs_fit}
@@ -29,10 +29,10 @@ record AskedIn (name : List ℕ) (p : PeerId) (acts : List Act) : Type 0 where
   pub back : List Act
   pub is : acts ≡ map (Asking name) front ++ Asking name p ∷ back
 
-asked-in : (name : List ℕ) (p own : PeerId) (ps : List PeerId) → is_among p ps ≡ true → (p.0 == own.0) ≡ false →
+asked_in : (name : List ℕ) (p own : PeerId) (ps : List PeerId) → is_among p ps ≡ true → (p.0 == own.0) ≡ false →
     AskedIn name p (map (Asking name) (others own ps))
-asked-in name p own [] member other = absurd (true≢false (sym member))
-asked-in name p own (q ∷ rest) member other = by_case (q.0 == p.0) refl (λ m. asked-in name p own rest m other) member where
+asked_in name p own [] member other = absurd (true≢false (sym member))
+asked_in name p own (q ∷ rest) member other = by_case (q.0 == p.0) refl (λ m. asked_in name p own rest m other) member where
   more : (b : Bool) → AskedIn name p (map (Asking name) (others own rest)) →
       AskedIn name p (map (Asking name) (if b then q ∷ others own rest else others own rest))
   more true a = record { front = q ∷ a.front; back = a.back; is = ap (λ acts. Asking name q ∷ acts) a.is }
@@ -51,20 +51,20 @@ module _ (step : Step) (x : ℕ) (q : Port) (name : List ℕ) where
   abbrev After : List PeerId → List Line → List Line
   After front lines = joined step x (placed q (map (Asking name) front)) lines
 
-  own-port : (q.0 == q.0) ≡ true
-  own-port = eq-eqb q.0 q.0 refl
+  own_port : (q.0 == q.0) ≡ true
+  own_port = eq-eqb q.0 q.0 refl
 
-  asking-role : (front : List PeerId) (lines : List Line) → role (view q (After front lines)) ≡ role (view q lines)
-  asking-role [] lines = refl
-  asking-role (p ∷ rest) lines =
-      let one : role (view q (line_of step x q (Acts (Asking name p)) ∷ lines)) ≡ role (view q lines) = rw own-port refl in
-      asking-role rest (line_of step x q (Acts (Asking name p)) ∷ lines) ∙ one
+  asking_role : (front : List PeerId) (lines : List Line) → role (view q (After front lines)) ≡ role (view q lines)
+  asking_role [] lines = refl
+  asking_role (p ∷ rest) lines =
+      let one : role (view q (line_of step x q (Acts (Asking name p)) ∷ lines)) ≡ role (view q lines) = rw own_port refl in
+      asking_role rest (line_of step x q (Acts (Asking name p)) ∷ lines) ∙ one
 
-  asking-armed : (front : List PeerId) (lines : List Line) → (armed (view q (After front lines))).search ≡ (armed (view q lines)).search
-  asking-armed [] lines = refl
-  asking-armed (p ∷ rest) lines =
-      let one : (armed (view q (line_of step x q (Acts (Asking name p)) ∷ lines))).search ≡ (armed (view q lines)).search = rw own-port refl in
-      asking-armed rest (line_of step x q (Acts (Asking name p)) ∷ lines) ∙ one
+  asking_armed : (front : List PeerId) (lines : List Line) → (armed (view q (After front lines))).search ≡ (armed (view q lines)).search
+  asking_armed [] lines = refl
+  asking_armed (p ∷ rest) lines =
+      let one : (armed (view q (line_of step x q (Acts (Asking name p)) ∷ lines))).search ≡ (armed (view q lines)).search = rw own_port refl in
+      asking_armed rest (line_of step x q (Acts (Asking name p)) ∷ lines) ∙ one
 
 module _ {clocks : Clocks} {header : HeaderValue} {setting : Setting} (set : SetByClocks clocks header setting) (world : List Line)
     (table : ByTable header world) (fits : Fits setting world) (wakes : AllWake (manner_of header) world) (long t : ℕ) (stays : ℕ → Bool) (s : List Line)
@@ -80,11 +80,11 @@ module _ {clocks : Clocks} {header : HeaderValue} {setting : Setting} (set : Set
     abbrev X : ℕ
     X = k.did.tick
 
-    port-is : PortIs header setting N k.port
-    port-is = member_port set N k.port p a.member (differ p.0 N a.other)
+    port_is : PortIs header setting N k.port
+    port_is = member_port set N k.port p a.member (differ p.0 N a.other)
 
     asked : AskedIn There.name p (map (Asking There.name) (others There.own There.peers))
-    asked = asked-in There.name p There.own There.peers (ap (is_among p) port-is.peers ∙ a.member) (ap (λ n. p.0 == n) port-is.own ∙ a.other)
+    asked = asked_in There.name p There.own There.peers (ap (is_among p) port_is.peers ∙ a.member) (ap (λ n. p.0 == n) port_is.own ∙ a.other)
 
     acts-are : alarm_row (node_in header N) k (of N older) Quiet X There ≡
         Ring Quiet ∷ Become Loose ∷ Arm Search (X + WINDOW) ∷ map (Asking There.name) (others There.own There.peers)
@@ -125,19 +125,19 @@ module _ {clocks : Clocks} {header : HeaderValue} {setting : Setting} (set : Set
         let loose : role (view k.port lines) ≡ Loose = rw own refl in
         let armed_at : (armed (view k.port lines)).search ≡ Some (X + WINDOW) = rw own refl in
         record {
-          loose = ap (λ ls. role (view k.port ls)) ask-place.own_is ∙ (asking-role k.did.step X k.port There.name asked.front lines ∙ loose);
+          loose = ap (λ ls. role (view k.port ls)) ask-place.own_is ∙ (asking_role k.did.step X k.port There.name asked.front lines ∙ loose);
           armed_is = ap (λ ls. (armed (view k.port ls)).search) ask-place.own_is ∙
-              (asking-armed k.did.step X k.port There.name asked.front lines ∙ armed_at);
+              (asking_armed k.did.step X k.port There.name asked.front lines ∙ armed_at);
         }
 
     order : Within (k ∷ older) ask-place.older
     order = in_order N k older Ask ask-place.older world a.place ask-place.place (subst (λ ls. Within Base ls) (sym ask-place.own_is)
-        (within_joined k.did.step X (placed k.port Front) Base Base (Within-all Base)))
+        (within_joined k.did.step X (placed k.port Front) Base Base (Within_all Base)))
 
     asks : Asks setting long t stays s Ask ask-place.older world p (Message (bare MasterReq 0 There.name))
     asks = record {
       posts = record { place = ask-place.place; deed = refl; member = a.member; other = a.other };
-      since = Within-through s (k ∷ older) ask-place.older (inr a.since) order;
+      since = Within_through s (k ∷ older) ask-place.older (inr a.since) order;
       there = a.there;
       here = a.here;
       early = a.early;
@@ -152,7 +152,7 @@ module _ {clocks : Clocks} {header : HeaderValue} {setting : Setting} (set : Set
       port = refl;
       searches = searching;
       finds = found_in_time set world table fits wakes long t stays s delivered quick Ask ask-place.older p (bare MasterReq 0 There.name) asks refl searching
-          (λ line before place later node net soon. leads line before place (Within-through (k ∷ older) (Ask ∷ ask-place.older) before (inr order) later) node
+          (λ line before place later node net soon. leads line before place (Within_through (k ∷ older) (Ask ∷ ask-place.older) before (inr order) later) node
           net soon);
     }
 

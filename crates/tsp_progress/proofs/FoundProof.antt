@@ -5,9 +5,9 @@ use Rattle.tsp_rules.specs.Values.{PeerId, Message, MasterAck, Loose, Port, WIND
 use Rattle.tsp_rules.specs.{Guards.is_starting_role}
 use Rattle.tsp_base.specs.Words.{HeaderValue, Here, Line, MessageValue, Seen, Within, armed, armed_after, bare, of}
 use Rattle.tsp_base.specs.Words.{plain, role, role_after, tick_of, view}
-use Rattle.tsp_base.proofs.{PlaceLemmas.Within-tail, Views.plain_view}
+use Rattle.tsp_base.proofs.{PlaceLemmas.Within_tail, Views.plain_view}
 use Rattle.tsp_promises.specs.{Fits.Fits, Fits.LineFits, Fits.node_of, Setting.Setting}
-use Rattle.tsp_promises.proofs.{shared.Clocks.tick-mono, shared.EverywhereLemmas.Everywhere-at, promised.OwnFitsProof.own_fits}
+use Rattle.tsp_promises.proofs.{shared.Clocks.tick_mono, shared.EverywhereLemmas.Everywhere_at, promised.OwnFitsProof.own_fits}
 use Rattle.tsp_run.specs.{Clocked.SetByClocks, Clocked.Clocks, Clocked.clocks_of, Clocked.run_by}
 use Rattle.tsp_run.proofs.{OwnClocks.possible_own, OwnClocks.runs_by_own_clocks, OwnClocks.set_own, RunFits.clocked_runs_fit}
 use Rattle.tsp_progress.specs.{ByTable.ByTable, ByTable.node_in, ByTable.port_before, Delivered.Delivered}
@@ -21,15 +21,15 @@ use Rattle.tsp_progress.proofs.SearchKept.{Seeks, alarms_within, kept, rising_wi
 use Rattle.tsp_progress.proofs.{StandsProof.Rising, StandsProof.rising, TableProof.clocked_runs_by_table, WorldPlaces.own_place}
 
 -- a port's own line
-view-own : (l : Line) (lines : List Line) → view l.port (l ∷ lines) ≡ Here l.did ∷ view l.port lines
-view-own l lines = let same : (l.port.0 == l.port.0) ≡ true = eq-eqb l.port.0 l.port.0 refl in rw same refl
+view_own : (l : Line) (lines : List Line) → view l.port (l ∷ lines) ≡ Here l.did ∷ view l.port lines
+view_own l lines = let same : (l.port.0 == l.port.0) ≡ true = eq-eqb l.port.0 l.port.0 refl in rw same refl
 
-of-own : (l : Line) (lines : List Line) → of (node_of l) (l ∷ lines) ≡ l ∷ of (node_of l) lines
-of-own l lines = let same : (node_of l == node_of l) ≡ true = eq-eqb (node_of l) (node_of l) refl in rw same refl
+of_own : (l : Line) (lines : List Line) → of (node_of l) (l ∷ lines) ≡ l ∷ of (node_of l) lines
+of_own l lines = let same : (node_of l == node_of l) ≡ true = eq-eqb (node_of l) (node_of l) refl in rw same refl
 
 -- the tick of a port's past is that of its newest line
-pub view-tick : (q : Port) (l : Line) (lines : List Line) → tick_of (plain (view q (l ∷ lines))) ≡ l.did.tick
-view-tick q l lines = ap tick_of (plain_view q (l ∷ lines))
+pub view_tick : (q : Port) (l : Line) (lines : List Line) → tick_of (plain (view q (l ∷ lines))) ≡ l.did.tick
+view_tick q l lines = ap tick_of (plain_view q (l ∷ lines))
 
 module _ {clocks : Clocks} {header : HeaderValue} {setting : Setting} (set : SetByClocks clocks header setting) (world : List Line)
     (table : ByTable header world) (fits : Fits setting world) (wakes : AllWake (manner_of header) world) (long t : ℕ) (stays : ℕ → Bool) (s : List Line)
@@ -44,7 +44,7 @@ module _ {clocks : Clocks} {header : HeaderValue} {setting : Setting} (set : Set
     Later = view l.port (of (node_of l) answer.before)
 
     early-is : Early ≡ Here l.did ∷ view l.port (of (node_of l) older)
-    early-is = ap (view l.port) (of-own l older) ∙ view-own l (of (node_of l) older)
+    early-is = ap (view l.port) (of_own l older) ∙ view_own l (of (node_of l) older)
 
     seeks : Seeks Loose (l.did.tick + WINDOW) Early
     seeks = subst (λ e. Seeks Loose (l.did.tick + WINDOW) e) (sym early-is) (record {
@@ -59,7 +59,7 @@ module _ {clocks : Clocks} {header : HeaderValue} {setting : Setting} (set : Set
 
     within : Within Early Later
     within = view_within l.port (of (node_of l) (l ∷ older)) (of (node_of l) answer.before)
-        (subst (λ ls. Within ls (of (node_of l) answer.before)) (sym (of-own l older)) (own_place (node_of l) l older answer.before refl answer.later))
+        (subst (λ ls. Within ls (of (node_of l) answer.before)) (sym (of_own l older)) (own_place (node_of l) l older answer.before refl answer.later))
 
     there : Within (answer.line ∷ of (node_of l) answer.before) (of (node_of l) world)
     there = own_place (node_of l) answer.line answer.before world answer.node answer.place
@@ -67,10 +67,10 @@ module _ {clocks : Clocks} {header : HeaderValue} {setting : Setting} (set : Set
     -- when it hears of p Search isn't due
     soon : answer.line.did.tick < l.did.tick + WINDOW
     soon =
-        let first : l.did.tick ≡ setting.tick (node_of l) l.did.step.at = (Everywhere-at (LineFits setting) l older world fits asks.posts.place).tick in
+        let first : l.did.tick ≡ setting.tick (node_of l) l.did.step.at = (Everywhere_at (LineFits setting) l older world fits asks.posts.place).tick in
         let last : answer.line.did.tick ≡ setting.tick (node_of l) answer.line.did.step.at = subst (λ n. answer.line.did.tick ≡
-        setting.tick n answer.line.did.step.at) answer.node (Everywhere-at (LineFits setting) answer.line answer.before world fits answer.place).tick in
-        let mono = tick-mono setting (node_of l) answer.line.did.step.at (l.did.step.at + 2 * long) answer.soon in
+        setting.tick n answer.line.did.step.at) answer.node (Everywhere_at (LineFits setting) answer.line answer.before world fits answer.place).tick in
+        let mono = tick_mono setting (node_of l) answer.line.did.step.at (l.did.step.at + 2 * long) answer.soon in
         let fast = (setting.ticks (node_of l)).fast l.did.step.at (2 * long) in
         omega (arith, first, last, mono, fast, quick)
 
@@ -82,11 +82,11 @@ module _ {clocks : Clocks} {header : HeaderValue} {setting : Setting} (set : Set
         let up = rising_within (view l.port (answer.line ∷ of (node_of l) answer.before)) (view l.port (of (node_of l) world))
         (view_within l.port (answer.line ∷ of (node_of l) answer.before) (of (node_of l) world) there) rises in
         let le : tick_of (plain Later) ≤ tick_of (plain (view l.port (answer.line ∷ of (node_of l) answer.before))) = up.0 in
-        let same = view-tick l.port answer.line (of (node_of l) answer.before) in
+        let same = view_tick l.port answer.line (of (node_of l) answer.before) in
         omega (arith, le, same, soon)
 
     tail : Within Later (view l.port (of (node_of l) world))
-    tail = view_within l.port (of (node_of l) answer.before) (of (node_of l) world) (Within-tail answer.line (of (node_of l) answer.before)
+    tail = view_within l.port (of (node_of l) answer.before) (of (node_of l) world) (Within_tail answer.line (of (node_of l) answer.before)
         (of (node_of l) world)
         there)
 

@@ -8,7 +8,8 @@ use Rattle.tsp_rules.specs.{Guards.is_master}
 use Rattle.tsp_base.specs.Words.{Acts, Begins, Deadlines, Deed, Did, Line, Seen, Here, Elsewhere, armed, armed_after, deadline, held, held_after, is_past}
 use Rattle.tsp_base.specs.Words.{none_armed, of, plain, role, role_after, stood, taken, taken_after, tick_of, view, word}
 use Rattle.tsp_promises.specs.{Fits.Fits, Fits.node_of, Setting.Setting}
-use Rattle.tsp_promises.proofs.{shared.EverywhereLemmas.Everywhere-at, shared.EverywhereLemmas.Everywhere-from, shared.EverywhereLemmas.Everywhere-within, promised.OwnFitsProof.own_fits}
+use Rattle.tsp_promises.proofs.{shared.EverywhereLemmas.Everywhere_at, shared.EverywhereLemmas.Everywhere_from, shared.EverywhereLemmas.Everywhere_within}
+use Rattle.tsp_promises.proofs.{promised.OwnFitsProof.own_fits}
 use Rattle.tsp_progress.specs.AlarmsFit.{AlarmFits, AlarmsFit, ArmFits, LateFits, Manner, NextFits, NextTo, RingFits, newest_is, stands_by, stands_now}
 use Rattle.tsp_progress.specs.CausesFit.{CausesFit, Heard, Unheard, backs_by, backs_itself_now, elects_by, loosens_by, searches_by, seeks_by, starts_by}
 use Rattle.tsp_progress.specs.CausesFit.{stirred, stirs_in, wins_by}
@@ -88,11 +89,11 @@ none : {A : Type 0} {at : ℕ} → None ≡ Some at → A
 none e = none_some refl e
 
 -- which of a few deeds was the newest
-one-of : (test : Deed → Bool) (p q : Deed → Bool) (seen : List Seen) → ((deed : Deed) → test deed ≡ true → (p deed ≡ true) ⊎ (q deed ≡ true)) →
+one_of : (test : Deed → Bool) (p q : Deed → Bool) (seen : List Seen) → ((deed : Deed) → test deed ≡ true → (p deed ≡ true) ⊎ (q deed ≡ true)) →
     newest_is test seen ≡ true → (newest_is p seen ≡ true) ⊎ (newest_is q seen ≡ true)
-one-of test p q [] k e = wrong e
-one-of test p q (Here d ∷ older) k e = k d.deed e
-one-of test p q (Elsewhere d ∷ older) k e = wrong e
+one_of test p q [] k e = wrong e
+one_of test p q (Here d ∷ older) k e = k d.deed e
+one_of test p q (Elsewhere d ∷ older) k e = wrong e
 
 module _ (late : ℕ) (slack : late ≤ SLACK) (m : Manner) (may : m.may ≡ true) (strict : m.strict ≡ false) (d : Did) (before : List Seen) (level : d.tick ≡
     tick_of (plain before)) (pace : Paced late before) (inv : Fresh late before) where
@@ -114,16 +115,16 @@ module _ (late : ℕ) (slack : late ≤ SLACK) (m : Manner) (may : m.may ≡ tru
   unheard (inl heard) k = clash inv.heard heard
   unheard (inr c) k = k c
 
-  in-phase : (rl : Role) (dl : Deadlines) (moved waited ended started elected sought searched loosened won stood : Bool) →
+  in_phase : (rl : Role) (dl : Deadlines) (moved waited ended started elected sought searched loosened won stood : Bool) →
       (Before late (held before).boot d.tick rl dl moved waited elected ended stood ⊎
       Behind late (held before).boot d.tick rl dl started elected sought searched loosened won stood) →
       FreshIn late (held before).boot d.tick (held before).quit (stirred (taken before)) rl dl moved waited ended started elected sought searched loosened won
       stood
-  in-phase rl dl moved waited ended started elected sought searched loosened won stood p = record { heard = inv.heard; quit_is = inv.quit_is; phase = p }
+  in_phase rl dl moved waited ended started elected sought searched loosened won stood p = record { heard = inv.heard; quit_is = inv.quit_is; phase = p }
 
   -- Elect that rang is followed by a candidature
-  elect-stands : (deed : Deed) → AfterElect m before deed → newest_is elects_by before ≡ true → deed ≡ Acts (Become Candidate)
-  elect-stands deed after e = stands-by before deed after e (ap (λ o. is_past o ELECT_MIN (tick_of (plain before))) inv.quit_is) where
+  elect_stands : (deed : Deed) → AfterElect m before deed → newest_is elects_by before ≡ true → deed ≡ Acts (Become Candidate)
+  elect_stands deed after e = stands-by before deed after e (ap (λ o. is_past o ELECT_MIN (tick_of (plain before))) inv.quit_is) where
     ring-is : (deed : Deed) → elects_by deed ≡ true → deed ≡ Acts (Ring Elect)
     ring-is (Acts (Ring Elect)) e = refl
     ring-is _ e = wrong e
@@ -136,10 +137,10 @@ module _ (late : ℕ) (slack : late ≤ SLACK) (m : Manner) (may : m.may ≡ tru
         true) (ap (λ deed. held_after deed k.tick (held older)) is) past)
 
   -- a won election is followed by the lead
-  won-next : (seen : List Seen) → newest_is wins_by seen ≡ true → NextTo m seen (Acts (Become Loose)) → ⊥
-  won-next [] e n = true≢false (sym e)
-  won-next (Elsewhere k ∷ older) e n = true≢false (sym e)
-  won-next (Here k ∷ older) e n = by_deed k.deed e n where
+  won_next : (seen : List Seen) → newest_is wins_by seen ≡ true → NextTo m seen (Acts (Become Loose)) → ⊥
+  won_next [] e n = true≢false (sym e)
+  won_next (Elsewhere k ∷ older) e n = true≢false (sym e)
+  won_next (Here k ∷ older) e n = by_deed k.deed e n where
     by_deed : (last : Deed) → wins_by last ≡ true → NextFits m last k.tick older (Acts (Become Loose)) → ⊥
     by_deed (Acts (Ring Window)) e n = let is = n.wins strict in let bad : ⊥ = cc in bad
     by_deed _ e n = true≢false (sym e)
@@ -159,13 +160,13 @@ module _ (late : ℕ) (slack : late ≤ SLACK) (m : Manner) (may : m.may ≡ tru
   off o p e k = gone o (λ at is. none_some e (k at is))
 
   -- before it stood
-  before-act : (dl : Deadlines) → Kept dl → Before late (held before).boot (tick_of (plain before)) (role before) (armed before) (newest_is moves_by before)
+  before_act : (dl : Deadlines) → Kept dl → Before late (held before).boot (tick_of (plain before)) (role before) (armed before) (newest_is moves_by before)
       (newest_is waits_by before) (newest_is elects_by before) (newest_is ends_by before) (stands_now before || backs_itself_now before) →
       (moved waited elected stood : Bool) → (moved ≡ true → d.tick ≤ (held before).boot + (QUIET + late)) →
       (waited ≡ true → d.tick ≤ (held before).boot + (boot_search late + late)) →
       (elected ≡ true → d.tick ≤ (held before).boot + (boot_elect late + late)) → stood ≡ false →
       Before late (held before).boot d.tick (role before) dl moved waited elected false stood
-  before-act dl k p moved waited elected stood mv wt el st = record {
+  before_act dl k p moved waited elected stood mv wt el st = record {
     quiet = λ at e. p.quiet at (k.quiet at e);
     search = λ at e. p.search at (k.search at e);
     elect = λ at e. p.elect at (k.elect at e);
@@ -179,12 +180,12 @@ module _ (late : ℕ) (slack : late ≤ SLACK) (m : Manner) (may : m.may ≡ tru
   }
 
   -- and behind
-  behind-act : (dl : Deadlines) → Kept dl → Behind late (held before).boot (tick_of (plain before)) (role before) (armed before) (newest_is starts_by before)
+  behind_act : (dl : Deadlines) → Kept dl → Behind late (held before).boot (tick_of (plain before)) (role before) (armed before) (newest_is starts_by before)
       (newest_is elects_by before) (newest_is seeks_by before) (newest_is searches_by before) (newest_is loosens_by before) (newest_is wins_by before)
       (stands_now before || backs_itself_now before) →
       (loosened won stood : Bool) → (loosened ≡ true → won ≡ true) → (stood ≡ true → d.tick ≤ (held before).boot + (boot_elect late + late)) →
       Behind late (held before).boot d.tick (role before) dl false false false false loosened won stood
-  behind-act dl k p loosened won stood wn st = record {
+  behind_act dl k p loosened won stood wn st = record {
     quiet = off dl.quiet (armed before).quiet p.quiet k.quiet;
     search = off dl.search (armed before).search p.search k.search;
     elect = off dl.elect (armed before).elect p.elect k.elect;
@@ -199,15 +200,15 @@ module _ (late : ℕ) (slack : late ≤ SLACK) (m : Manner) (may : m.may ≡ tru
   }
 
   -- an act that arms nothing
-  goes-on : (dl : Deadlines) → Kept dl → FreshIn late (held before).boot d.tick (held before).quit (stirred (taken before)) (role before) dl false false false
+  goes_on : (dl : Deadlines) → Kept dl → FreshIn late (held before).boot d.tick (held before).quit (stirred (taken before)) (role before) dl false false false
       false false false false false false false
-  goes-on dl k = in-phase (role before) dl false false false false false false false false false false (elim inv.phase [
-    | inl p ↦ inl (before-act dl k p false false false false wrong wrong wrong refl)
-    | inr p ↦ inr (behind-act dl k p false false false wrong wrong)
+  goes_on dl k = in_phase (role before) dl false false false false false false false false false false (elim inv.phase [
+    | inl p ↦ inl (before_act dl k p false false false false wrong wrong wrong refl)
+    | inr p ↦ inr (behind_act dl k p false false false wrong wrong)
   ])
 
-  as-it-was : Kept (armed before)
-  as-it-was = record { quiet = λ at e. e; search = λ at e. e; elect = λ at e. e; window = λ at e. e }
+  as_it_was : Kept (armed before)
+  as_it_was = record { quiet = λ at e. e; search = λ at e. e; elect = λ at e. e; window = λ at e. e }
 
   -- a change of the role that isn't yet behind a candidature
   unarmed : (rl : Role) → is_leading rl ≡ false → (moved : Bool) → (moved ≡ true → d.tick ≤ (held before).boot + (QUIET + late)) →
@@ -243,11 +244,11 @@ module _ (late : ℕ) (slack : late ≤ SLACK) (m : Manner) (may : m.may ≡ tru
 
   becomes : (r : Role) → AfterElect m before (Acts (Become r)) → NextTo m before (Acts (Become r)) → (Heard before ⊎ Unheard (Acts (Become r)) d before) →
       After (Acts (Become r))
-  becomes Candidate a n c = unheard c (λ by. in-phase Candidate none_armed false false false false false false false false false true (elim inv.phase [
+  becomes Candidate a n c = unheard c (λ by. in_phase Candidate none_armed false false false false false false false false false true (elim inv.phase [
     | inl p ↦ inr (leading Candidate refl true (λ e. let le = p.elects by in omega (arith, le, level)))
     | inr p ↦ clash p.elected_not by
   ]))
-  becomes Master a n c = unheard c (λ by. in-phase Master none_armed false false false false false false false false false false (elim inv.phase [
+  becomes Master a n c = unheard c (λ by. in_phase Master none_armed false false false false false false false false false false (elim inv.phase [
     | inl p ↦ clash p.ended_not (wins-end before by)
     | inr p ↦ inr (leading Master refl false wrong)
   ])) where
@@ -258,15 +259,15 @@ module _ (late : ℕ) (slack : late ≤ SLACK) (m : Manner) (may : m.may ≡ tru
       by_deed : (last : Deed) → wins_by last ≡ true → ends_by last ≡ true
       by_deed (Acts (Ring Window)) e = refl
       by_deed _ e = wrong e
-  becomes Loose a n c = unheard c (λ by. in-phase Loose none_armed true false false false false true true false false false (elim inv.phase [
-    | inl p ↦ inl (unarmed Loose refl true (λ e. elim (one-of loosens_by or-moves elects_by before which by) [
-      | inl moved ↦ elim (one-of or-moves moves_by ends_by before split moved) [
+  becomes Loose a n c = unheard c (λ by. in_phase Loose none_armed true false false false false true true false false false (elim inv.phase [
+    | inl p ↦ inl (unarmed Loose refl true (λ e. elim (one_of loosens_by or-moves elects_by before which by) [
+      | inl moved ↦ elim (one_of or-moves moves_by ends_by before split moved) [
         | inl k ↦ let le = p.moves k in omega (arith, le, level)
         | inr k ↦ clash p.ended_not k
       ]
-      | inr rang ↦ let is = elect-stands (Acts (Become Loose)) a rang in let bad : ⊥ = cc in absurd bad
+      | inr rang ↦ let is = elect_stands (Acts (Become Loose)) a rang in let bad : ⊥ = cc in absurd bad
     ]))
-    | inr p ↦ absurd (won-next before (p.wins by) n)
+    | inr p ↦ absurd (won_next before (p.wins by) n)
   ])) where
     or-moves : Deed → Bool
     or-moves deed = moves_by deed || ends_by deed
@@ -281,7 +282,7 @@ module _ (late : ℕ) (slack : late ≤ SLACK) (m : Manner) (may : m.may ≡ tru
     split : (deed : Deed) → or-moves deed ≡ true → (moves_by deed ≡ true) ⊎ (ends_by deed ≡ true)
     split deed e = or_cases (moves_by deed) (ends_by deed) e
   becomes (Follow p) a n c = unheard c (λ by. absurd by)
-  becomes Starting a n c = unheard c (λ by. in-phase Starting none_armed false false false true false false false false false false (elim inv.phase [
+  becomes Starting a n c = unheard c (λ by. in_phase Starting none_armed false false false true false false false false false false (elim inv.phase [
     | inl p ↦ inl (unarmed Starting refl false wrong)
     | inr p ↦ clash (ap is_leading by) p.leads
   ]))
@@ -289,7 +290,7 @@ module _ (late : ℕ) (slack : late ≤ SLACK) (m : Manner) (may : m.may ≡ tru
   -- arming
   arms : (a : Alarm) (at : ℕ) → AfterElect m before (Acts (Arm a at)) → ArmFits a d before at → (Heard before ⊎ Unheard (Acts (Arm a at)) d before) →
       After (Acts (Arm a at))
-  arms Quiet at a f c = unheard c (λ by. in-phase (role before) _ false false false false false false false false false false (elim inv.phase [
+  arms Quiet at a f c = unheard c (λ by. in_phase (role before) _ false false false false false false false false false false (elim inv.phase [
     | inl p ↦ let boot = by.0 in inl (record {
       quiet = λ to e. let same : at ≡ to = value_of e in omega (arith, same, f, boot);
       search = p.search;
@@ -304,12 +305,12 @@ module _ (late : ℕ) (slack : late ≤ SLACK) (m : Manner) (may : m.may ≡ tru
     })
     | inr p ↦ clash p.started_not by.1
   ]))
-  arms Search at a f c = unheard c (λ by. in-phase (role before) _ false false false false false false false false false false (elim inv.phase [
+  arms Search at a f c = unheard c (λ by. in_phase (role before) _ false false false false false false false false false false (elim inv.phase [
     | inl p ↦ inl (record {
       quiet = p.quiet;
-      search = λ to e. let same : at ≡ to = value_of e in elim (one-of searches_by moves_by elects_by before which by) [
+      search = λ to e. let same : at ≡ to = value_of e in elim (one_of searches_by moves_by elects_by before which by) [
         | inl moved ↦ let le = p.moves moved in omega (arith, same, f, le, level)
-        | inr rang ↦ let is = elect-stands (Acts (Arm Search at)) a rang in let bad : ⊥ = cc in absurd bad
+        | inr rang ↦ let is = elect_stands (Acts (Arm Search at)) a rang in let bad : ⊥ = cc in absurd bad
       ];
       elect = p.elect;
       window = p.window;
@@ -326,11 +327,11 @@ module _ (late : ℕ) (slack : late ≤ SLACK) (m : Manner) (may : m.may ≡ tru
     which (Acts (Become Loose)) e = inl refl
     which (Acts (Ring Elect)) e = inr refl
     which _ e = wrong e
-  arms Elect at a f c = unheard c (λ by. in-phase (role before) _ false false false false false false false false false false (elim inv.phase [
+  arms Elect at a f c = unheard c (λ by. in_phase (role before) _ false false false false false false false false false false (elim inv.phase [
     | inl p ↦ inl (record {
       quiet = p.quiet;
       search = p.search;
-      elect = λ to e. let same : at ≡ to = value_of e in elim (one-of seeks_by moves_by waits_by before which by) [
+      elect = λ to e. let same : at ≡ to = value_of e in elim (one_of seeks_by moves_by waits_by before which by) [
         | inl moved ↦ let le = p.moves moved in omega (arith, same, f, le, level, less)
         | inr waited ↦ let le = p.waits waited in omega (arith, same, f, le, level, less)
       ];
@@ -353,7 +354,7 @@ module _ (late : ℕ) (slack : late ≤ SLACK) (m : Manner) (may : m.may ≡ tru
     which (Acts (Late Search)) e = inr refl
     which (Acts (Late Elect)) e = inr refl
     which _ e = wrong e
-  arms Window at a f c = unheard c (λ by. in-phase (role before) _ false false false false false false false false false false (elim inv.phase [
+  arms Window at a f c = unheard c (λ by. in_phase (role before) _ false false false false false false false false false false (elim inv.phase [
     | inl p ↦ clash p.stood_not (or_right (stands_now before) (backs_itself_now before) by)
     | inr p ↦ let le = p.stands (or_right (stands_now before) (backs_itself_now before) by) in inr (record {
       quiet = p.quiet;
@@ -369,47 +370,47 @@ module _ (late : ℕ) (slack : late ≤ SLACK) (m : Manner) (may : m.may ≡ tru
       stands = wrong;
     })
   ]))
-  arms Probe at a f c = goes-on _ (record { quiet = λ to e. e; search = λ to e. e; elect = λ to e. e; window = λ to e. e })
-  arms CloseAlarm at a f c = goes-on _ (record { quiet = λ to e. e; search = λ to e. e; elect = λ to e. e; window = λ to e. e })
-  arms ResolveAlarm at a f c = goes-on _ (record { quiet = λ to e. e; search = λ to e. e; elect = λ to e. e; window = λ to e. e })
-  arms Round at a f c = goes-on _ (record { quiet = λ to e. e; search = λ to e. e; elect = λ to e. e; window = λ to e. e })
+  arms Probe at a f c = goes_on _ (record { quiet = λ to e. e; search = λ to e. e; elect = λ to e. e; window = λ to e. e })
+  arms CloseAlarm at a f c = goes_on _ (record { quiet = λ to e. e; search = λ to e. e; elect = λ to e. e; window = λ to e. e })
+  arms ResolveAlarm at a f c = goes_on _ (record { quiet = λ to e. e; search = λ to e. e; elect = λ to e. e; window = λ to e. e })
+  arms Round at a f c = goes_on _ (record { quiet = λ to e. e; search = λ to e. e; elect = λ to e. e; window = λ to e. e })
 
   -- ringing
   rings : (a : Alarm) → RingFits a d before → After (Acts (Ring a))
-  rings Quiet f = in-phase (role before) _ true false false false false false false true false false (elim inv.phase [
+  rings Quiet f = in_phase (role before) _ true false false false false false false true false false (elim inv.phase [
     | inl p ↦ let due = rung Quiet f.at f.armed_is in let le = p.quiet f.at f.armed_is in
-        inl (before-act _ (record { quiet = λ at e. none e; search = λ at e. e; elect = λ at e. e; window = λ at e. e }) p true false false false
+        inl (before_act _ (record { quiet = λ at e. none e; search = λ at e. e; elect = λ at e. e; window = λ at e. e }) p true false false false
         (λ e. omega (arith, due, le)) wrong wrong refl)
     | inr p ↦ none_some p.quiet f.armed_is
   ])
-  rings Search f = in-phase (role before) _ false true false false false true false false false false (elim inv.phase [
+  rings Search f = in_phase (role before) _ false true false false false true false false false false (elim inv.phase [
     | inl p ↦ let due = rung Search f.at f.armed_is in let le = p.search f.at f.armed_is in
-        inl (before-act _ (record { quiet = λ at e. e; search = λ at e. none e; elect = λ at e. e; window = λ at e. e }) p false true false false wrong
+        inl (before_act _ (record { quiet = λ at e. e; search = λ at e. none e; elect = λ at e. e; window = λ at e. e }) p false true false false wrong
         (λ e. omega (arith, due, le)) wrong refl)
     | inr p ↦ none_some p.search f.armed_is
   ])
-  rings Elect f = in-phase (role before) _ false false false false true false true true false false (elim inv.phase [
+  rings Elect f = in_phase (role before) _ false false false false true false true true false false (elim inv.phase [
     | inl p ↦ let due = rung Elect f.at f.armed_is in let le = p.elect f.at f.armed_is in
-        inl (before-act _ (record { quiet = λ at e. e; search = λ at e. e; elect = λ at e. none e; window = λ at e. e }) p false false true false wrong wrong
+        inl (before_act _ (record { quiet = λ at e. e; search = λ at e. e; elect = λ at e. none e; window = λ at e. e }) p false false true false wrong wrong
         (λ e. omega (arith, due, le)) refl)
     | inr p ↦ none_some p.elect f.armed_is
   ])
-  rings Window f = in-phase (role before) _ true false true false false false false true true false (elim inv.phase [
+  rings Window f = in_phase (role before) _ true false true false false false false true true false (elim inv.phase [
     | inl p ↦ none_some p.window f.armed_is
-    | inr p ↦ inr (behind-act _ (record { quiet = λ at e. e; search = λ at e. e; elect = λ at e. e; window = λ at e. none e }) p true true false (λ e. refl)
+    | inr p ↦ inr (behind_act _ (record { quiet = λ at e. e; search = λ at e. e; elect = λ at e. e; window = λ at e. none e }) p true true false (λ e. refl)
         wrong)
   ])
-  rings Probe f = goes-on _ (record { quiet = λ to e. e; search = λ to e. e; elect = λ to e. e; window = λ to e. e })
-  rings CloseAlarm f = goes-on _ (record { quiet = λ to e. e; search = λ to e. e; elect = λ to e. e; window = λ to e. e })
-  rings ResolveAlarm f = goes-on _ (record { quiet = λ to e. e; search = λ to e. e; elect = λ to e. e; window = λ to e. e })
-  rings Round f = goes-on _ (record { quiet = λ to e. e; search = λ to e. e; elect = λ to e. e; window = λ to e. e })
+  rings Probe f = goes_on _ (record { quiet = λ to e. e; search = λ to e. e; elect = λ to e. e; window = λ to e. e })
+  rings CloseAlarm f = goes_on _ (record { quiet = λ to e. e; search = λ to e. e; elect = λ to e. e; window = λ to e. e })
+  rings ResolveAlarm f = goes_on _ (record { quiet = λ to e. e; search = λ to e. e; elect = λ to e. e; window = λ to e. e })
+  rings Round f = goes_on _ (record { quiet = λ to e. e; search = λ to e. e; elect = λ to e. e; window = λ to e. e })
 
   backs : (p : PeerId) → FreshIn late (held before).boot d.tick (held before).quit (stirred (taken before)) (role before) (armed before) false false false false
       false false false false false (stands_now before)
-  backs p = in-phase (role before) (armed before) false false false false false false false false false (stands_now before) (elim inv.phase [
-    | inl k ↦ inl (before-act (armed before) as-it-was k false false false (stands_now before) wrong wrong wrong
+  backs p = in_phase (role before) (armed before) false false false false false false false false false (stands_now before) (elim inv.phase [
+    | inl k ↦ inl (before_act (armed before) as_it_was k false false false (stands_now before) wrong wrong wrong
         (or_parts (stands_now before) (backs_itself_now before) k.stood_not).0)
-    | inr k ↦ inr (behind-act (armed before) as-it-was k false false (stands_now before) wrong (λ e. let le = k.stands (rw e refl) in omega (arith, le, level)))
+    | inr k ↦ inr (behind_act (armed before) as_it_was k false false (stands_now before) wrong (λ e. let le = k.stands (rw e refl) in omega (arith, le, level)))
   ])
 
 -- what is so after a deed
@@ -492,13 +493,13 @@ module _ (late : ℕ) (slack : late ≤ SLACK) (m : Manner) (may : m.may ≡ tru
     by_act (Late al) is a n f c e = never late slack m may strict d before (p.level _ is) pace (older e) al f
     by_act (Back q) is a n f c e = backs late slack m may strict d before (p.level _ is) pace (older e) q
     by_act (Quit q) is a n f c e = unheard late slack m may strict d before (p.level _ is) pace (older e) c (λ by. absurd by)
-    by_act Abandon is a n f c e = goes-on late slack m may strict d before (p.level _ is) pace (older e) _ (record {
+    by_act Abandon is a n f c e = goes_on late slack m may strict d before (p.level _ is) pace (older e) _ (record {
       quiet = λ to k. k;
       search = λ to k. k;
       elect = λ to k. k;
       window = λ to k. k;
     })
-    by_act _ is a n f c e = goes-on late slack m may strict d before (p.level _ is) pace (older e) _ (record {
+    by_act _ is a n f c e = goes_on late slack m may strict d before (p.level _ is) pace (older e) _ (record {
       quiet = λ to k. k;
       search = λ to k. k;
       elect = λ to k. k;
@@ -552,14 +553,14 @@ module _ (late : ℕ) (slack : late ≤ SLACK) (m : Manner) (may : m.may ≡ tru
 
 pub fresh_leads : (m : ℕ → Manner) (setting : Setting) (late : ℕ) (world : List Line) → Fits setting world → Woken m world → Attended late world →
     late ≤ SLACK → FreshLeads m late world
-fresh_leads m setting late world f w a slack = Everywhere-from (FreshLeadsAt m late) world (λ l before within begins may strict q start idle stood-is other
+fresh_leads m setting late world f w a slack = Everywhere_from (FreshLeadsAt m late) world (λ l before within begins may strict q start idle stood-is other
     free.
     let n = node_of l in
-    let whole = Everywhere-within _ (l ∷ before) world f within in
-    let attended = Everywhere-within _ (l ∷ before) world a within in
-    let wakes = Everywhere-at (WokenAt m) l before world w within begins q in
+    let whole = Everywhere_within _ (l ∷ before) world f within in
+    let attended = Everywhere_within _ (l ∷ before) world a within in
+    let wakes = Everywhere_at (WokenAt m) l before world w within begins q in
     let seen = view q (of n before) in
     leads_first late slack (m n) may strict seen l.did.tick wakes
     (stands_on (m n) seen wakes.acts (rising setting q (of n before) (own_fits setting n before whole.1)))
     (paced setting late before whole.1 attended.1 (m n) n q wakes.acts)
-    (Everywhere-at (AttendedAt late) l before world a within begins q) start idle stood-is other free)
+    (Everywhere_at (AttendedAt late) l before world a within begins q) start idle stood-is other free)

@@ -19,24 +19,24 @@ ungiven : (sorts : List Sort) → is_in Giving sorts ≡ false → (a : Act) →
 ungiven sorts none (Gave p) e d before = absurd (true≢false (sym e ∙ none))
 ungiven sorts none _ e d before = tt
 
-by-giving : OwedBy Giving GaveFits
-by-giving = record { mark = λ d before. tt; free = ungiven }
+by_giving : OwedBy Giving GaveFits
+by_giving = record { mark = λ d before. tt; free = ungiven }
 
-ring-part : (a : Alarm) → is_part (ring_sorts a) (ring_sorts a) ≡ true
-ring-part CloseAlarm = refl
-ring-part _ = refl
+ring_part : (a : Alarm) → is_part (ring_sorts a) (ring_sorts a) ≡ true
+ring_part CloseAlarm = refl
+ring_part _ = refl
 
-ring-apart : (a : Alarm) → is_in Giving (ring_sorts a) ≡ false
-ring-apart CloseAlarm = refl
-ring-apart _ = refl
+ring_apart : (a : Alarm) → is_in Giving (ring_sorts a) ≡ false
+ring_apart CloseAlarm = refl
+ring_apart _ = refl
 
 rung : (own wait : Bool) (a : Alarm) → Leads (Paid GaveFits) (rings own wait a) (Paid GaveFits)
-rung own wait a = pays by-giving (ring_sorts a) (rings own wait a) (ring-apart a) (emits_built (ring-part a) (built_rings own wait a))
+rung own wait a = pays by_giving (ring_sorts a) (rings own wait a) (ring_apart a) (emits_built (ring_part a) (built_rings own wait a))
 
 -- a send that is due, and is given up
-spent-old : (s : Sending) (x : ℕ) → nat_le (deadline_of s) x ≡ true → (nat_lt (s.began + LAST) x || nat_le TRIES s.posts) ≡ true →
+spent_old : (s : Sending) (x : ℕ) → nat_le (deadline_of s) x ≡ true → (nat_lt (s.began + LAST) x || nat_le TRIES s.posts) ≡ true →
     s.began + TRIES * RETRY ≤ x
-spent-old s x due spent = by_case (nat_lt (s.began + LAST) x) refl spent where
+spent_old s x due spent = by_case (nat_lt (s.began + LAST) x) refl spent where
   by_case : (b : Bool) → nat_lt (s.began + LAST) x ≡ b → (b || nat_le TRIES s.posts) ≡ true → s.began + TRIES * RETRY ≤ x
   by_case true e k = let long = leb-true _ _ e in omega (arith, long)
   by_case false e k = let many = leb-true TRIES s.posts k in let after = leb-true (deadline_of s) x due in omega (arith, many, after)
@@ -56,7 +56,7 @@ due p (Some s) =
     Leads_either (is_send_due s) (either_by (is_spent s) gives again) nothing
     (Leads_either (is_spent s) gives again
     (Leads_then {Q = Paid GaveFits} (puts (Gave p)) (leaves_after p s.message.kind)
-    (Leads_puts (Gave p) (λ x past h. (record { sending = s; open_is = h.0.0.1; old = spent-old s x h.0.1 h.1 }, h.0.0.0))) (left p s.message.kind))
+    (Leads_puts (Gave p) (λ x past h. (record { sending = s; open_is = h.0.0.1; old = spent_old s x h.0.1 h.1 }, h.0.0.0))) (left p s.message.kind))
     (Leads_puts (Post (Peer p) (Message s.message)) (λ x past h. (tt, h.0.0.0))))
     (Leads_from (λ x past h. h.0.0) Leads_nothing)
 
@@ -66,7 +66,7 @@ sends = Leads_reading peers_at (for_each (λ p. reading (open_at p) (repeats_sen
     (Leads_each (λ p. reading (open_at p) (repeats_send p)) ps (λ p. Leads_reading (open_at p) (repeats_send p) (due p))))
 
 pub clocked_runs_give_up : ClockedRunsGiveUpLate
-clocked_runs_give_up clocks header events n q = runs_pay by-giving refl sends rung (takes_calmly by-giving refl) clocks header events n q
+clocked_runs_give_up clocks header events n q = runs_pay by_giving refl sends rung (takes_calmly by_giving refl) clocks header events n q
 
 pub runs_give_up : RunsGiveUpLate
 runs_give_up header events = subst (λ h. GivesUpLate h) (runs_by_own_clocks header events) (clocked_runs_give_up (clocks_of header) header events)

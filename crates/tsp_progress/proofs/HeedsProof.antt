@@ -43,39 +43,39 @@ is_said LoopKind = false
 is_said _ = true
 
 -- the row of a role for a message of this kind
-says-kind : PeerId → MessageValue → Kind → Role → Row
-says-kind p m k Starting = nothing
-says-kind p m k Loose = slave_takes_kind p m k
-says-kind p m k (Follow q) = slave_takes_kind p m k
-says-kind p m k Candidate = candidate_takes_kind p m k
-says-kind p m k Master = master_takes_kind p m k
+says_kind : PeerId → MessageValue → Kind → Role → Row
+says_kind p m k Starting = nothing
+says_kind p m k Loose = slave_takes_kind p m k
+says_kind p m k (Follow q) = slave_takes_kind p m k
+says_kind p m k Candidate = candidate_takes_kind p m k
+says_kind p m k Master = master_takes_kind p m k
 
-says-in : (p : PeerId) (m : MessageValue) (r : Role) → says_in p m r ≡ says-kind p m m.kind r
-unfolding says_in says-kind slave_takes candidate_takes master_takes
-says-in p m Starting = refl
-says-in p m Loose = refl
-says-in p m (Follow q) = refl
-says-in p m Candidate = refl
-says-in p m Master = refl
+says_in_holds : (p : PeerId) (m : MessageValue) (r : Role) → says_in p m r ≡ says_kind p m m.kind r
+unfolding says_in says_kind slave_takes candidate_takes master_takes
+says_in_holds p m Starting = refl
+says_in_holds p m Loose = refl
+says_in_holds p m (Follow q) = refl
+says_in_holds p m Candidate = refl
+says_in_holds p m Master = refl
 
-said-row : (charge : Bool) (p : PeerId) (m : MessageValue) (k : Kind) → is_said k ≡ true → handles_kind charge (Peer p) m k ≡ from_peer (Peer p) (peer_says m)
+said_row : (charge : Bool) (p : PeerId) (m : MessageValue) (k : Kind) → is_said k ≡ true → handles_kind charge (Peer p) m k ≡ from_peer (Peer p) (peer_says m)
 unfolding handles_kind
-said-row charge p m Msite e = absurd (true≢false (sym e))
-said-row charge p m MsiteReq e = absurd (true≢false (sym e))
-said-row charge p m TraceOn e = absurd (true≢false (sym e))
-said-row charge p m TraceOff e = absurd (true≢false (sym e))
-said-row charge p m Test e = absurd (true≢false (sym e))
-said-row charge p m Date e = absurd (true≢false (sym e))
-said-row charge p m SetDate e = absurd (true≢false (sym e))
-said-row charge p m DateReq e = absurd (true≢false (sym e))
-said-row charge p m SetDateReq e = absurd (true≢false (sym e))
-said-row charge p m DateAck e = absurd (true≢false (sym e))
-said-row charge p m LoopKind e = absurd (true≢false (sym e))
-said-row charge p m _ e = refl
+said_row charge p m Msite e = absurd (true≢false (sym e))
+said_row charge p m MsiteReq e = absurd (true≢false (sym e))
+said_row charge p m TraceOn e = absurd (true≢false (sym e))
+said_row charge p m TraceOff e = absurd (true≢false (sym e))
+said_row charge p m Test e = absurd (true≢false (sym e))
+said_row charge p m Date e = absurd (true≢false (sym e))
+said_row charge p m SetDate e = absurd (true≢false (sym e))
+said_row charge p m DateReq e = absurd (true≢false (sym e))
+said_row charge p m SetDateReq e = absurd (true≢false (sym e))
+said_row charge p m DateAck e = absurd (true≢false (sym e))
+said_row charge p m LoopKind e = absurd (true≢false (sym e))
+said_row charge p m _ e = refl
 
-said-loop : (k : Kind) → is_said k ≡ true → is_loop_kind k ≡ false
-said-loop LoopKind e = absurd (true≢false (sym e))
-said-loop _ e = refl
+said_loop : (k : Kind) → is_said k ≡ true → is_loop_kind k ≡ false
+said_loop LoopKind e = absurd (true≢false (sym e))
+said_loop _ e = refl
 
 -- a correction at a follower that doesn't steer the clock is left alone; nothing else is
 abbrev Heard : Bool → Kind → Type 0
@@ -97,26 +97,27 @@ module _ (node : NodePast) (lines : List Line) (table : KeepsTable node lines) (
   abbrev After : Past
   After = grown l.did.tick Before (Took (Peer p) (Good (Message m)) ∷ [])
 
-  said-acts : (k : Kind) (r : Role) → m.kind ≡ k → role_before node l older ≡ r → is_said k ≡ true → (steer charge : Bool) → Heard steer k →
-      takes steer charge (Peer p) (Good (Message m)) l.did.tick Before ≡ Took (Peer p) (Good (Message m)) ∷ says-kind p m k r l.did.tick After
+  said_acts : (k : Kind) (r : Role) → m.kind ≡ k → role_before node l older ≡ r → is_said k ≡ true → (steer charge : Bool) → Heard steer k →
+      takes steer charge (Peer p) (Good (Message m)) l.did.tick Before ≡ Took (Peer p) (Good (Message m)) ∷ says_kind p m k r l.did.tick After
   unfolding takes ◌followed_by◌ puts either_by handles from_peer peer_says reading
-  said-acts k r kind_is role_is said steer charge heard =
+  said_acts k r kind_is role_is said steer charge heard =
       let x = l.did.tick in
       let left : is_left steer m.kind x After ≡ false = unleft steer m.kind x After (λ e. heard (sym (ap is_correction kind_is) ∙ e)) in
-      let row : handles_kind charge (Peer p) m m.kind ≡ from_peer (Peer p) (peer_says m) = said-row charge p m m.kind (ap is_said kind_is ∙ said) in
-      let says : says_in p m (role Before.seen) ≡ says-kind p m k r = says-in p m (role Before.seen) ∙ ap (λ j. says-kind p m j (role Before.seen)) kind_is ∙
-      ap (says-kind p m k) role_is in
+      let row : handles_kind charge (Peer p) m m.kind ≡ from_peer (Peer p) (peer_says m) = said_row charge p m m.kind (ap is_said kind_is ∙ said) in
+      let says : says_in p m (role Before.seen) ≡ says_kind p m k r = says_in_holds p m (role Before.seen) ∙
+      ap (λ j. says_kind p m j (role Before.seen)) kind_is ∙
+      ap (says_kind p m k) role_is in
       rw (hears.other, left, row, hears.peer, says) refl
 
   -- what the port's role has for this kind comes next
   next : (k : Kind) (r : Role) → m.kind ≡ k → role_before node l older ≡ r → is_said k ≡ true → Heard (steers l.port l.did.tick (before_line node l older)) k →
-      (acts : List Act) → says-kind p m k r l.did.tick After ≡ acts → DoesNext acts l older lines
+      (acts : List Act) → says_kind p m k r l.did.tick After ≡ acts → DoesNext acts l older lines
   next k r kind_is role_is said heard acts same =
       let took = Took (Peer p) (Good (Message m)) in
       let row = taking_row node l older (Peer p) (Good (Message m)) in
       let stands : RowStands row node l older lines = subst (λ d. TableAt d node l older lines) hears.took (table l older hears.place)
-      (ap is_loop_kind kind_is ∙ said-loop k said) in
-      let acts_are : row l.did.tick Before ≡ took ∷ acts = said-acts k r kind_is role_is said (steers l.port l.did.tick (before_line node l older))
+      (ap is_loop_kind kind_is ∙ said_loop k said) in
+      let acts_are : row l.did.tick Before ≡ took ∷ acts = said_acts k r kind_is role_is said (steers l.port l.did.tick (before_line node l older))
       (in_charge l.port l.did.tick (before_line node l older)) heard ∙ ap (λ acts. took ∷ acts) same in
       let whole : Within (joined l.did.step l.did.tick (placed l.port (took ∷ acts)) older) lines =
       subst (λ acts. Within (joined l.did.step l.did.tick (placed l.port acts) older) lines) acts_are stands in
@@ -126,22 +127,22 @@ unsteered : (steer : Bool) (k : Kind) → is_correction k ≡ false → Heard st
 unsteered steer k e c = absurd (true≢false (sym c ∙ e))
 
 -- a role that is Loose, and so on
-loose-is : (r : Role) → is_loose r ≡ true → r ≡ Loose
-loose-is Loose e = refl
-loose-is _ e = absurd (true≢false (sym e))
+loose_is : (r : Role) → is_loose r ≡ true → r ≡ Loose
+loose_is Loose e = refl
+loose_is _ e = absurd (true≢false (sym e))
 
-candidate-is : (r : Role) → is_candidate_role r ≡ true → r ≡ Candidate
-candidate-is Candidate e = refl
-candidate-is _ e = absurd (true≢false (sym e))
+candidate_is : (r : Role) → is_candidate_role r ≡ true → r ≡ Candidate
+candidate_is Candidate e = refl
+candidate_is _ e = absurd (true≢false (sym e))
 
-master-is : (r : Role) → is_master_role r ≡ true → r ≡ Master
-master-is Master e = refl
-master-is _ e = absurd (true≢false (sym e))
+master_is : (r : Role) → is_master_role r ≡ true → r ≡ Master
+master_is Master e = refl
+master_is _ e = absurd (true≢false (sym e))
 
 module _ (node : NodePast) (lines : List Line) (table : KeepsTable node lines) where
   -- by the role
   masterup : Heeds MasterUp has_no_master always (λ p m x past. follow_acts p x past) node lines
-  unfolding says-kind slave_takes_kind candidate_takes_kind reading masterup_in follow_row puts ◌followed_by◌ arms_elect arms tells_ticket posts
+  unfolding says_kind slave_takes_kind candidate_takes_kind reading masterup_in follow_row puts ◌followed_by◌ arms_elect arms tells_ticket posts
   masterup l older p m h kind in_role so = by_role (role_before node l older) refl in_role where
     by_role : (r : Role) → role_before node l older ≡ r → has_no_master r ≡ true → DoesNext (follow_acts p l.did.tick (port_before node l older)) l older lines
     by_role Loose is e = next node lines table l older p m h MasterUp Loose kind is refl (unsteered _ MasterUp refl)
@@ -153,66 +154,66 @@ module _ (node : NodePast) (lines : List Line) (table : KeepsTable node lines) w
     by_role Master is e = absurd (true≢false (sym e))
 
   masterack : Heeds MasterAck is_candidate_role always (λ p m x past. follow_acts p x past) node lines
-  unfolding says-kind candidate_takes_kind follow_row puts ◌followed_by◌ arms_elect reading arms tells_ticket posts
-  masterack l older p m h kind in_role so = next node lines table l older p m h MasterAck Candidate kind (candidate-is (role_before node l older) in_role) refl
+  unfolding says_kind candidate_takes_kind follow_row puts ◌followed_by◌ arms_elect reading arms tells_ticket posts
+  masterack l older p m h kind in_role so = next node lines table l older p m h MasterAck Candidate kind (candidate_is (role_before node l older) in_role) refl
       (unsteered _ MasterAck refl) (follow_acts p l.did.tick (port_before node l older)) refl
 
   found : Heeds MasterAck is_loose (λ p m x past. is_armed Search x past) (λ p m x past. follow_acts p x past) node lines
-  unfolding says-kind slave_takes_kind reading masterack_in either_by follow_row puts ◌followed_by◌ arms_elect arms tells_ticket posts
+  unfolding says_kind slave_takes_kind reading masterack_in either_by follow_row puts ◌followed_by◌ arms_elect arms tells_ticket posts
   found l older p m h kind in_role so =
-      let is = loose-is (role_before node l older) in_role in
+      let is = loose_is (role_before node l older) in_role in
       next node lines table l older p m h MasterAck Loose kind is refl (unsteered _ MasterAck refl) (follow_acts p l.did.tick (port_before node l older))
       (rw (is, so) refl)
 
   -- a QUIT, at a port that follows nobody
-  quits-by : (r : Role) → is_follow r ≡ false → is_up_role r ≡ true → (l : Line) (older : List Line) (p : PeerId) (m : MessageValue) →
+  quits_by : (r : Role) → is_follow r ≡ false → is_up_role r ≡ true → (l : Line) (older : List Line) (p : PeerId) (m : MessageValue) →
       Hears node lines l older p m → m.kind ≡ QuitKind → role_before node l older ≡ r →
       DoesNext (Quit p ∷ posts_bare Ack m.number (port_before node l older) p ∷ follow_acts p l.did.tick (port_before node l older)) l older lines
-  unfolding says-kind slave_takes_kind candidate_takes_kind master_takes_kind quits puts ◌followed_by◌ posts reading follows_unless follow_row arms_elect arms
+  unfolding says_kind slave_takes_kind candidate_takes_kind master_takes_kind quits puts ◌followed_by◌ posts reading follows_unless follow_row arms_elect arms
       tells_ticket
-  quits-by Loose f u l older p m h kind is = next node lines table l older p m h QuitKind Loose kind is refl (unsteered _ QuitKind refl) (Quit p ∷
+  quits_by Loose f u l older p m h kind is = next node lines table l older p m h QuitKind Loose kind is refl (unsteered _ QuitKind refl) (Quit p ∷
       posts_bare Ack m.number (port_before node l older) p ∷ follow_acts p l.did.tick (port_before node l older)) (rw is refl)
-  quits-by Candidate f u l older p m h kind is = next node lines table l older p m h QuitKind Candidate kind is refl (unsteered _ QuitKind refl) (Quit p ∷
+  quits_by Candidate f u l older p m h kind is = next node lines table l older p m h QuitKind Candidate kind is refl (unsteered _ QuitKind refl) (Quit p ∷
       posts_bare Ack m.number (port_before node l older) p ∷ follow_acts p l.did.tick (port_before node l older)) (rw is refl)
-  quits-by Master f u l older p m h kind is = next node lines table l older p m h QuitKind Master kind is refl (unsteered _ QuitKind refl) (Quit p ∷
+  quits_by Master f u l older p m h kind is = next node lines table l older p m h QuitKind Master kind is refl (unsteered _ QuitKind refl) (Quit p ∷
       posts_bare Ack m.number (port_before node l older) p ∷ follow_acts p l.did.tick (port_before node l older)) (rw is refl)
-  quits-by Starting f u l older p m h kind is = absurd (true≢false (sym u))
-  quits-by (Follow q) f u l older p m h kind is = absurd (true≢false f)
+  quits_by Starting f u l older p m h kind is = absurd (true≢false (sym u))
+  quits_by (Follow q) f u l older p m h kind is = absurd (true≢false f)
 
-  no-follow : (r : Role) → has_no_master r ≡ true → is_follow r ≡ false
-  no-follow (Follow q) e = absurd (true≢false (sym e))
-  no-follow _ e = refl
+  no_follow : (r : Role) → has_no_master r ≡ true → is_follow r ≡ false
+  no_follow (Follow q) e = absurd (true≢false (sym e))
+  no_follow _ e = refl
 
-  is-up : (r : Role) → has_no_master r ≡ true → is_up_role r ≡ true
-  is-up Loose e = refl
-  is-up Candidate e = refl
-  is-up Starting e = absurd (true≢false (sym e))
-  is-up _ e = absurd (true≢false (sym e))
+  is_up : (r : Role) → has_no_master r ≡ true → is_up_role r ≡ true
+  is_up Loose e = refl
+  is_up Candidate e = refl
+  is_up Starting e = absurd (true≢false (sym e))
+  is_up _ e = absurd (true≢false (sym e))
 
   quit : Heeds QuitKind has_no_master always (λ p m x past. Quit p ∷ posts_bare Ack m.number past p ∷ follow_acts p x past) node lines
-  quit l older p m h kind in_role so = let r = role_before node l older in quits-by r (no-follow r in_role) (is-up r in_role) l older p m h kind refl
+  quit l older p m h kind in_role so = let r = role_before node l older in quits_by r (no_follow r in_role) (is_up r in_role) l older p m h kind refl
 
-  quits-lead : Heeds QuitKind is_master_role always (λ p m x past. Quit p ∷ posts_bare Ack m.number past p ∷ follow_acts p x past) node lines
-  quits-lead l older p m h kind in_role so = quits-by Master refl refl l older p m h kind (master-is (role_before node l older) in_role)
+  quits_lead : Heeds QuitKind is_master_role always (λ p m x past. Quit p ∷ posts_bare Ack m.number past p ∷ follow_acts p x past) node lines
+  quits_lead l older p m h kind in_role so = quits_by Master refl refl l older p m h kind (master_is (role_before node l older) in_role)
 
-  follow-is : (r : Role) → is_follow r ≡ true → (q : PeerId) × (r ≡ Follow q)
-  follow-is (Follow q) e = (q, refl)
-  follow-is _ e = absurd (true≢false (sym e))
+  follow_is : (r : Role) → is_follow r ≡ true → (q : PeerId) × (r ≡ Follow q)
+  follow_is (Follow q) e = (q, refl)
+  follow_is _ e = absurd (true≢false (sym e))
 
   stays : Heeds QuitKind is_follow always (λ p m x past. Quit p ∷ posts_bare Ack m.number past p ∷ []) node lines
-  unfolding says-kind slave_takes_kind quits puts ◌followed_by◌ posts reading follows_unless nothing
-  stays l older p m h kind in_role so = let f = follow-is (role_before node l older) in_role in let is = f.1 in
+  unfolding says_kind slave_takes_kind quits puts ◌followed_by◌ posts reading follows_unless nothing
+  stays l older p m h kind in_role so = let f = follow_is (role_before node l older) in_role in let is = f.1 in
       next node lines table l older p m h QuitKind (Follow f.0) kind is refl (unsteered _ QuitKind refl)
       (Quit p ∷ posts_bare Ack m.number (port_before node l older) p ∷ []) (rw is refl)
 
   follows : Follows node lines
-  follows = record { masterup = masterup; masterack = masterack; found = found; quit = quit; quits = quits-lead; stays = stays }
+  follows = record { masterup = masterup; masterack = masterack; found = found; quit = quit; quits = quits_lead; stays = stays }
 
   -- a candidate's ELECTION
 
   backs : Heeds Election is_idle (λ p m x past. may_back_at p x past) (λ p m x past. Back p ∷ arms_for_delay x past ∷ posts_bare Accept m.number past p ∷ [])
       node lines
-  unfolding says-kind slave_takes_kind election_of either_by puts ◌followed_by◌ arms_elect reading arms posts
+  unfolding says_kind slave_takes_kind election_of either_by puts ◌followed_by◌ arms_elect reading arms posts
   backs l older p m h kind in_role so = by_role (role_before node l older) refl in_role where
     by_role : (r : Role) → role_before node l older ≡ r → is_idle r ≡ true →
         DoesNext (Back p ∷ arms_for_delay l.did.tick (port_before node l older) ∷ posts_bare Accept m.number (port_before node l older) p ∷ []) l older lines
@@ -225,12 +226,12 @@ module _ (node : NodePast) (lines : List Line) (table : KeepsTable node lines) w
     by_role Master is e = absurd (true≢false (sym e))
 
   refuses : Heeds Election is_candidate_role always (λ p m x past. posts_bare Refuse m.number past p ∷ []) node lines
-  unfolding says-kind candidate_takes_kind posts
-  refuses l older p m h kind in_role so = next node lines table l older p m h Election Candidate kind (candidate-is (role_before node l older) in_role) refl
+  unfolding says_kind candidate_takes_kind posts
+  refuses l older p m h kind in_role so = next node lines table l older p m h Election Candidate kind (candidate_is (role_before node l older) in_role) refl
       (unsteered _ Election refl) (posts_bare Refuse m.number (port_before node l older) p ∷ []) refl
 
   pub idle_refuses : Heeds Election is_idle (λ p m x past. not (may_back_at p x past)) (λ p m x past. posts_bare Refuse m.number past p ∷ []) node lines
-  unfolding says-kind slave_takes_kind election_of either_by posts
+  unfolding says_kind slave_takes_kind election_of either_by posts
   idle_refuses l older p m h kind in_role so = by_role (role_before node l older) refl in_role where
     holds : may_back_at p l.did.tick (port_before node l older) ≡ false
     holds = not-true (may_back_at p l.did.tick (port_before node l older)) so
@@ -245,104 +246,104 @@ module _ (node : NodePast) (lines : List Line) (table : KeepsTable node lines) w
     by_role Candidate is e = absurd (true≢false (sym e))
     by_role Master is e = absurd (true≢false (sym e))
 
-  not-quit : (b : Bool) → (if b then false else true) ≡ true → b ≡ false
-  not-quit true e = absurd (true≢false (sym e))
-  not-quit false e = refl
+  not_quit : (b : Bool) → (if b then false else true) ≡ true → b ≡ false
+  not_quit true e = absurd (true≢false (sym e))
+  not_quit false e = refl
 
-  sends-away : Heeds Election is_master_role (λ p m x past. if has_quit p x past then false else true)
+  sends_away_holds : Heeds Election is_master_role (λ p m x past. if has_quit p x past then false else true)
       (λ p m x past. posts_bare QuitKind (next_number x past) past p ∷ []) node lines
-  unfolding says-kind master_takes_kind sends_away either_by begins reading posts
-  sends-away l older p m h kind in_role so = next node lines table l older p m h Election Master kind (master-is (role_before node l older) in_role) refl
+  unfolding says_kind master_takes_kind sends_away either_by begins reading posts
+  sends_away_holds l older p m h kind in_role so = next node lines table l older p m h Election Master kind (master_is (role_before node l older) in_role) refl
       (unsteered _ Election refl) (posts_bare QuitKind (next_number l.did.tick (port_before node l older)) (port_before node l older) p ∷
-      []) (let open_is = not-quit (has_quit p l.did.tick (port_before node l older)) so in rw open_is refl)
+      []) (let open_is = not_quit (has_quit p l.did.tick (port_before node l older)) so in rw open_is refl)
 
   votes : Votes node lines
-  votes = record { backs = backs; refuses = refuses; sends_away = sends-away }
+  votes = record { backs = backs; refuses = refuses; sends_away = sends_away_holds }
 
   -- what a master does
 
   masterreq : Heeds MasterReq is_master_role always (λ p m x past. posts_bare MasterAck m.number past p ∷ []) node lines
-  unfolding says-kind master_takes_kind posts
-  masterreq l older p m h kind in_role so = next node lines table l older p m h MasterReq Master kind (master-is (role_before node l older) in_role) refl
+  unfolding says_kind master_takes_kind posts
+  masterreq l older p m h kind in_role so = next node lines table l older p m h MasterReq Master kind (master_is (role_before node l older) in_role) refl
       (unsteered _ MasterReq refl) (posts_bare MasterAck m.number (port_before node l older) p ∷ []) refl
 
   resolve : Heeds ResolveKind is_master_role always (λ p m x past. posts_bare MasterAck m.number past p ∷ []) node lines
-  unfolding says-kind master_takes_kind posts
-  resolve l older p m h kind in_role so = next node lines table l older p m h ResolveKind Master kind (master-is (role_before node l older) in_role) refl
+  unfolding says_kind master_takes_kind posts
+  resolve l older p m h kind in_role so = next node lines table l older p m h ResolveKind Master kind (master_is (role_before node l older) in_role) refl
       (unsteered _ ResolveKind refl) (posts_bare MasterAck m.number (port_before node l older) p ∷ []) refl
 
   -- a follower's CONFLICT is acknowledged, whatever else comes of it
   pub conflict_acks : Heeds Conflict is_master_role always (λ p m x past. posts_bare Ack m.number past p ∷ []) node lines
-  unfolding says-kind master_takes_kind ◌followed_by◌ posts
+  unfolding says_kind master_takes_kind ◌followed_by◌ posts
   conflict_acks l older p m h kind in_role so =
       let ack = posts_bare Ack m.number (port_before node l older) p in
       let after = grown l.did.tick (After node lines table l older p m h) (ack ∷ []) in
       let rest = resolves l.did.tick after in
       act_place l.did.step l.did.tick l.port ack (ack ∷ rest) (l ∷ older) lines (record { front = []; back = rest; is = refl })
-      (next node lines table l older p m h Conflict Master kind (master-is (role_before node l older) in_role) refl (unsteered _ Conflict refl) (ack ∷
+      (next node lines table l older p m h Conflict Master kind (master_is (role_before node l older) in_role) refl (unsteered _ Conflict refl) (ack ∷
       rest) refl)
 
-  joins-next : Heeds SlaveUp is_master_role (λ p m x past. may_join p m.number x past)
+  joins_next : Heeds SlaveUp is_master_role (λ p m x past. may_join p m.number x past)
       (λ p m x past. Join p ∷ (if may_set p m.number x past then Post (Peer p) (Message (timed SetTime m.number (target_at x past) past.name)) ∷ [] else []))
       node lines
-  unfolding says-kind master_takes_kind joins either_by puts ◌followed_by◌ begins_settime reading posts_time nothing
-  joins-next l older p m h kind in_role so = next node lines table l older p m h SlaveUp Master kind (master-is (role_before node l older) in_role) refl
+  unfolding says_kind master_takes_kind joins either_by puts ◌followed_by◌ begins_settime reading posts_time nothing
+  joins_next l older p m h kind in_role so = next node lines table l older p m h SlaveUp Master kind (master_is (role_before node l older) in_role) refl
       (unsteered _ SlaveUp refl) (Join p ∷ (if may_set p m.number l.did.tick (port_before node l older) then Post (Peer p)
       (Message (timed SetTime m.number (target_at l.did.tick (port_before node l older)) node.name)) ∷ [] else [])) (rw so refl)
 
   serves : Serves node lines
-  serves = record { masterreq = masterreq; resolve = resolve; joins = joins-next }
+  serves = record { masterreq = masterreq; resolve = resolve; joins = joins_next }
 
   -- what a follower does
 
-  own-master : (p : PeerId) → (p.0 == p.0) ≡ true
-  own-master p = eq-eqb p.0 p.0 refl
+  own_master : (p : PeerId) → (p.0 == p.0) ≡ true
+  own_master p = eq-eqb p.0 p.0 refl
 
   adjtime : HeedsMaster AdjTime (λ p m x past. takes_amount m.number (time_in m.body) x past)
       (λ p m x past. moved_by (time_in m.body) x past ∷ arms_for_delay x past ∷ posts_bare Ack m.number past p ∷ []) node lines
-  unfolding says-kind slave_takes_kind reading from_master adjtime_of either_by adjusts ◌followed_by◌ confirms arms_elect arms posts
+  unfolding says_kind slave_takes_kind reading from_master adjtime_of either_by adjusts ◌followed_by◌ confirms arms_elect arms posts
   adjtime l older p m h kind is steer so = next node lines table l older p m h AdjTime (Follow p) kind is refl (λ c. steer)
       (moved_by (time_in m.body) l.did.tick (port_before node l older) ∷ arms_for_delay l.did.tick (port_before node l older) ∷
       posts_bare Ack m.number (port_before node l older) p ∷ [])
-      (let own = own-master p in rw (is, own, so) refl)
+      (let own = own_master p in rw (is, own, so) refl)
 
   settime : HeedsMaster SetTime (λ p m x past. takes_value m.number (time_in m.body) x past)
       (λ p m x past. set_to (time_in m.body) x past ∷ arms_for_delay x past ∷ posts_bare Ack m.number past p ∷ []) node lines
-  unfolding says-kind slave_takes_kind reading from_master settime_of either_by sets ◌followed_by◌ confirms arms_elect arms posts
+  unfolding says_kind slave_takes_kind reading from_master settime_of either_by sets ◌followed_by◌ confirms arms_elect arms posts
   settime l older p m h kind is steer so = next node lines table l older p m h SetTime (Follow p) kind is refl (λ c. steer)
       (set_to (time_in m.body) l.did.tick (port_before node l older) ∷ arms_for_delay l.did.tick (port_before node l older) ∷
       posts_bare Ack m.number (port_before node l older) p ∷ [])
-      (let own = own-master p in rw (is, own, so) refl)
+      (let own = own_master p in rw (is, own, so) refl)
 
   -- a repeat of the last correction is acknowledged again
   pub adjtime_again : HeedsMaster AdjTime (λ p m x past. not (takes_amount m.number (time_in m.body) x past) && is_repeated p m.number x past)
       (λ p m x past. posts_bare Ack m.number past p ∷ []) node lines
-  unfolding says-kind slave_takes_kind reading from_master adjtime_of either_by acks_repeat posts
+  unfolding says_kind slave_takes_kind reading from_master adjtime_of either_by acks_repeat posts
   adjtime_again l older p m h kind is steer so =
       let both = and_parts (not (takes_amount m.number (time_in m.body) l.did.tick (port_before node l older)))
       (is_repeated p m.number l.did.tick (port_before node l older)) so in
       let not_taken = not-true (takes_amount m.number (time_in m.body) l.did.tick (port_before node l older)) both.0 in
       let repeated = both.1 in
       next node lines table l older p m h AdjTime (Follow p) kind is refl (λ c. steer) (posts_bare Ack m.number (port_before node l older) p ∷ [])
-      (let own = own-master p in rw (is, own, not_taken, repeated) refl)
+      (let own = own_master p in rw (is, own, not_taken, repeated) refl)
 
   pub settime_again : HeedsMaster SetTime (λ p m x past. not (takes_value m.number (time_in m.body) x past) && is_repeated p m.number x past)
       (λ p m x past. posts_bare Ack m.number past p ∷ []) node lines
-  unfolding says-kind slave_takes_kind reading from_master settime_of either_by acks_repeat posts
+  unfolding says_kind slave_takes_kind reading from_master settime_of either_by acks_repeat posts
   settime_again l older p m h kind is steer so =
       let both = and_parts (not (takes_value m.number (time_in m.body) l.did.tick (port_before node l older)))
       (is_repeated p m.number l.did.tick (port_before node l older)) so in
       let not_taken = not-true (takes_value m.number (time_in m.body) l.did.tick (port_before node l older)) both.0 in
       let repeated = both.1 in
       next node lines table l older p m h SetTime (Follow p) kind is refl (λ c. steer) (posts_bare Ack m.number (port_before node l older) p ∷ [])
-      (let own = own-master p in rw (is, own, not_taken, repeated) refl)
+      (let own = own_master p in rw (is, own, not_taken, repeated) refl)
 
   again : HeedsMaster MasterUp always (λ p m x past. arms_for_delay x past ∷ posts_bare SlaveUp (ticket_at x past) past p ∷ []) node lines
-  unfolding says-kind slave_takes_kind reading masterup_in ◌followed_by◌ arms_elect arms tells_ticket posts
+  unfolding says_kind slave_takes_kind reading masterup_in ◌followed_by◌ arms_elect arms tells_ticket posts
   again l older p m h kind is steer so = next node lines table l older p m h MasterUp (Follow p) kind is refl (λ c. steer)
       (arms_for_delay l.did.tick (port_before node l older) ∷ posts_bare SlaveUp (ticket_at l.did.tick (port_before node l older)) (port_before node l older) p
       ∷ [])
-      (let own = own-master p in rw (is, own) refl)
+      (let own = own_master p in rw (is, own) refl)
 
   obeys : Obeys node lines
   obeys = record { adjtime = adjtime; settime = settime; masterup = again }
@@ -350,7 +351,7 @@ module _ (node : NodePast) (lines : List Line) (table : KeepsTable node lines) w
   -- the ends of sends
 
   ack : Heeds Ack is_up_role (λ p m x past. has_other p m.number x past) (λ p m x past. Acked p ∷ []) node lines
-  unfolding says-kind slave_takes_kind candidate_takes_kind master_takes_kind acknowledges either_by puts
+  unfolding says_kind slave_takes_kind candidate_takes_kind master_takes_kind acknowledges either_by puts
   ack l older p m h kind in_role so = by_role (role_before node l older) refl in_role where
     by_role : (r : Role) → role_before node l older ≡ r → is_up_role r ≡ true → DoesNext (Acked p ∷ []) l older lines
     by_role Loose is e = next node lines table l older p m h Ack Loose kind is refl (unsteered _ Ack refl) (Acked p ∷ []) (rw so refl)
@@ -360,14 +361,14 @@ module _ (node : NodePast) (lines : List Line) (table : KeepsTable node lines) w
     by_role Starting is e = absurd (true≢false (sym e))
 
   accept : Heeds Accept is_candidate_role (λ p m x past. has_election p m.number x past) (λ p m x past. Acked p ∷ Backer p ∷ []) node lines
-  unfolding says-kind candidate_takes_kind accepted_by either_by puts ◌followed_by◌
-  accept l older p m h kind in_role so = next node lines table l older p m h Accept Candidate kind (candidate-is (role_before node l older) in_role) refl
+  unfolding says_kind candidate_takes_kind accepted_by either_by puts ◌followed_by◌
+  accept l older p m h kind in_role so = next node lines table l older p m h Accept Candidate kind (candidate_is (role_before node l older) in_role) refl
       (unsteered _ Accept refl) (Acked p ∷ Backer p ∷ []) (rw so refl)
 
   refuse : Heeds Refuse is_candidate_role (λ p m x past. has_election p m.number x past) (λ p m x past. Acked p ∷ Become Loose ∷ arms_for_delay x past ∷ [])
       node lines
-  unfolding says-kind candidate_takes_kind refused_by yields either_by puts ◌followed_by◌ arms_elect reading arms
-  refuse l older p m h kind in_role so = next node lines table l older p m h Refuse Candidate kind (candidate-is (role_before node l older) in_role) refl
+  unfolding says_kind candidate_takes_kind refused_by yields either_by puts ◌followed_by◌ arms_elect reading arms
+  refuse l older p m h kind in_role so = next node lines table l older p m h Refuse Candidate kind (candidate_is (role_before node l older) in_role) refl
       (unsteered _ Refuse refl) (Acked p ∷ Become Loose ∷ arms_for_delay l.did.tick (port_before node l older) ∷ []) (rw so refl)
 
   ends : Ends node lines

@@ -22,8 +22,8 @@ module _ (c : ℕ) where
   lifted : {row : Row} → Leads (Meek c) row (Meek c) → Leads (At (humbly c)) row (At (humbly c))
   lifted d = record { run = λ x past h may. (d.run x past (record { may = may; humble = h may })).humble }
 
-  humble-family : Family (humbly c)
-  humble-family = record {
+  humble_family : Family (humbly c)
+  humble_family = record {
     boots = λ m step x seen h may. let k = h may in record {
       role_is = refl;
       window = refl;
@@ -46,9 +46,9 @@ module _ (c : ℕ) where
     };
   }
 
-  gives-up : Leads (Meek c) loosens_master (Meek c)
+  gives_up_holds : Leads (Meek c) loosens_master (Meek c)
   unfolding loosens_master
-  gives-up = Leads_either is_master_at yields nothing (record {
+  gives_up_holds = Leads_either is_master_at yields nothing (record {
     run = λ x past h. absurd (true≢false (sym (leading (role past.seen) h.1) ∙ h.0.humble.role_is));
   }) (Leads_from (λ x past h. h.0) Leads_nothing) where
     leading : (r : Role) → is_master r ≡ true → leads_in r ≡ true
@@ -75,34 +75,34 @@ module _ (c : ℕ) where
       humble = meek_keeps c (repost m p) (ap is_humble is) x past h.humble;
     })
 
-  humble-keeps : Keeps (humbly c) (humbly c) (Mild c)
-  humble-keeps = record {
-    family = humble-family;
+  humble_keeps : Keeps (humbly c) (humbly c) (Mild c)
+  humble_keeps = record {
+    family = humble_family;
     weaken = λ x past h. h;
     sends = lifted (meek_sends c);
     rings = λ own wait a. lifted (meek_rings c own wait a);
     takes = λ steer charge from t ok. lifted (meek_takes c steer charge from t ok);
     took = λ from m is ok. lifted (meek_puts c (Took from (Good (Message m))) refl);
-    gives_up = lifted gives-up;
+    gives_up = lifted gives_up_holds;
     abandons = lifted (meek_puts c Abandon refl);
     loops = λ q. lifted (loops q);
     reposts = λ m is. lifted (passes m is);
   }
 
   pub answers_humble : (g : NodeGiven) → OkGiven (Mild c) g → LeadsAll (Each (humbly c)) (answers_all g) (Each (humbly c))
-  answers_humble = answers_keep (humbly c) (humbly c) (Mild c) humble-keeps
+  answers_humble = answers_keep (humbly c) (humbly c) (Mild c) humble_keeps
 
-  boots-on : (q : Port) → LeadsAll (Each (humbly c)) (boots_on q) (Each (humbly c))
+  boots_on_holds : (q : Port) → LeadsAll (Each (humbly c)) (boots_on q) (Each (humbly c))
   unfolding boots_on
-  boots-on q = on_each (humbly c) humble-family q (puts (Become Starting) followed_by arms Quiet QUIET)
+  boots_on_holds q = on_each (humbly c) humble_family q (puts (Become Starting) followed_by arms Quiet QUIET)
       (lifted (Leads_then {Q = Meek c} (puts (Become Starting)) (arms Quiet QUIET) (meek_puts c (Become Starting) refl) (meek_arms c Quiet QUIET (λ at. refl))))
 
   pub boots_humble : LeadsAll (Each (humbly c)) boots_all (Each (humbly c))
   unfolding boots_all reading_all
   boots_humble = All_after {P = Each (humbly c)} {Q = Each (humbly c)} {R = Each (humbly c)} (on first_port (puts Boot))
       (reading_all all_ports (for_ports boots_on))
-      (on_each (humbly c) humble-family first_port (puts Boot) (lifted (meek_puts c Boot refl)))
-      (record { run = λ x past all. (list_each (humbly c) humble-family boots_on (all_ports x past) boots-on).run x past all })
+      (on_each (humbly c) humble_family first_port (puts Boot) (lifted (meek_puts c Boot refl)))
+      (record { run = λ x past all. (list_each (humbly c) humble_family boots_on (all_ports x past) boots_on_holds).run x past all })
 
   pub begins_humble : (step : Step) (x : ℕ) (past : NodePast) → Each (humbly c) x past → Each (humbly c) x (in_node_step step x past)
   begins_humble step x past all r = subst (λ b. humbly c (node_manner past) x (seen_as b (line_of step x first_port Begins).did ∷ view r past.lines))

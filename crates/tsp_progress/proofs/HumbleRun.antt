@@ -9,12 +9,12 @@ use Rattle.tsp_base.specs.Words.{Acts, Begins, Did, HeaderValue, Handed, Line, M
 use Rattle.tsp_base.specs.Words.{of, peer_of, seen_as, stepped, view}
 use Rattle.tsp_codec.specs.{Taken.taken_of}
 use Rattle.tsp_promises.specs.{Fits.node_of, Setting.Setting, Sound.IsSound, Sound.IsSoundDeed}
-use Rattle.tsp_promises.proofs.{shared.EverywhereLemmas.Everywhere-at, shared.EverywhereLemmas.Everywhere-from, leads.GateSteps.LeadsAll}
+use Rattle.tsp_promises.proofs.{shared.EverywhereLemmas.Everywhere_at, shared.EverywhereLemmas.Everywhere_from, leads.GateSteps.LeadsAll}
 use Rattle.tsp_run.specs.{Networks.address_of, Networks.networks, Premised.Sealed, Setup.past_of, declared.address.Address.Address}
 use Rattle.tsp_run.specs.{declared.posted.Posted.Posted}
 use Rattle.tsp_run.specs.{Run.joins, Run.posts}
 use Rattle.tsp_run.specs.Clocked.{Clocks, PossibleBy, SetByClocks, boot_by, happening_by, run_by, tick_by}
-use Rattle.tsp_run.proofs.{HappensBy.stepping, HappensBy.steps-are, HappensBy.taken_in, HappensBy.takes-or, HappensBy.taking, HappensBy.taking_row}
+use Rattle.tsp_run.proofs.{HappensBy.stepping, HappensBy.steps_are, HappensBy.taken_in, HappensBy.takes_or, HappensBy.taking, HappensBy.taking_row}
 use Rattle.tsp_run.proofs.{HappensBy.taking_step, PossibleRun.possible_before, PostPlaces.PostAt, PostPlaces.post_at, RunFits.clocked_runs_fit, RunFits.ran}
 use Rattle.tsp_run.proofs.{RunLemmas.stepped_other, RunLemmas.stepped_own, SoundLemmas.line_sound, SoundLemmas.sound_read, SoundAll.AreSoundLines}
 use Rattle.tsp_progress.specs.{AlarmsFit.Manner, CausesFit.stirs, Humble.HumblePost, Humble.HumblePosts, Humble.Humble, Humble.Mild, Humble.is_humble}
@@ -50,48 +50,48 @@ row_humble c m past step x row h own same leads all n q = by_case (step.node == 
   by_case false e = subst (λ l. (m n).may ≡ false → Humble c (view q l)) (sym (stepped_other n step x (row x (in_node_step step x past)) h e)) (all n q)
 
 -- each post of a humble port is humble
-older-posts : (own : Bool) (d : Did) (before : List Seen) → HumblePosts (seen_as own d ∷ before) → HumblePosts before
-older-posts true d before h = h.1
-older-posts false d before h = h
+older_posts : (own : Bool) (d : Did) (before : List Seen) → HumblePosts (seen_as own d ∷ before) → HumblePosts before
+older_posts true d before h = h.1
+older_posts false d before h = h
 
-post-humble : (h : List Line) (l : Line) (older : List Line) → Within (l ∷ older) h → HumblePosts (view l.port (of l.did.step.node h)) → HumblePost l.did.deed
-post-humble [] l older w s = let bad : ⊥ = cc in absurd bad
-post-humble (k ∷ before) l older (inl e) s =
+post_humble : (h : List Line) (l : Line) (older : List Line) → Within (l ∷ older) h → HumblePosts (view l.port (of l.did.step.node h)) → HumblePost l.did.deed
+post_humble [] l older w s = let bad : ⊥ = cc in absurd bad
+post_humble (k ∷ before) l older (inl e) s =
     let n = l.did.step.node in
     let node : (n == n) ≡ true = eq-eqb n n refl in
     let port : (l.port.0 == l.port.0) ≡ true = eq-eqb l.port.0 l.port.0 refl in
     let now : HumblePosts (view l.port (of n (l ∷ older))) = subst (λ h. HumblePosts (view l.port (of n h))) (sym e) s in
     let mine = subst (λ b. HumblePosts (view l.port (if b then l ∷ of n older else of n older))) node now in
     (subst (λ b. HumblePosts (seen_as (b || is_shared l.did.deed) l.did ∷ view l.port (of n older))) port mine).0
-post-humble (k ∷ before) l older (inr w) s = post-humble before l older w (by_node (k.did.step.node == l.did.step.node) s) where
+post_humble (k ∷ before) l older (inr w) s = post_humble before l older w (by_node (k.did.step.node == l.did.step.node) s) where
   by_node : (b : Bool) → HumblePosts (view l.port (if b then k ∷ of l.did.step.node before else of l.did.step.node before)) →
       HumblePosts (view l.port (of l.did.step.node before))
-  by_node true s = older-posts ((k.port.0 == l.port.0) || is_shared k.did.deed) k.did (view l.port (of l.did.step.node before)) s
+  by_node true s = older_posts ((k.port.0 == l.port.0) || is_shared k.did.deed) k.did (view l.port (of l.did.step.node before)) s
   by_node false s = s
 
 -- what a humble port posts, and isn't a LOOP, doesn't stir
-mild-kind : (k : Kind) → is_humble k ≡ true → (k ≡ LoopKind → ⊥) → stirs k ≡ false
-mild-kind AdjTime e n = absurd (true≢false (sym e))
-mild-kind SetTime e n = absurd (true≢false (sym e))
-mild-kind Election e n = absurd (true≢false (sym e))
-mild-kind MasterUp e n = absurd (true≢false (sym e))
-mild-kind MasterAck e n = absurd (true≢false (sym e))
-mild-kind QuitKind e n = absurd (true≢false (sym e))
-mild-kind Refuse e n = absurd (true≢false (sym e))
-mild-kind Test e n = absurd (true≢false (sym e))
-mild-kind LoopKind e n = absurd (n refl)
-mild-kind _ e n = refl
+mild_kind : (k : Kind) → is_humble k ≡ true → (k ≡ LoopKind → ⊥) → stirs k ≡ false
+mild_kind AdjTime e n = absurd (true≢false (sym e))
+mild_kind SetTime e n = absurd (true≢false (sym e))
+mild_kind Election e n = absurd (true≢false (sym e))
+mild_kind MasterUp e n = absurd (true≢false (sym e))
+mild_kind MasterAck e n = absurd (true≢false (sym e))
+mild_kind QuitKind e n = absurd (true≢false (sym e))
+mild_kind Refuse e n = absurd (true≢false (sym e))
+mild_kind Test e n = absurd (true≢false (sym e))
+mild_kind LoopKind e n = absurd (n refl)
+mild_kind _ e n = refl
 
 module _ (clocks : Clocks) (header : HeaderValue) (setting : Setting) (c : ℕ) (set : SetByClocks clocks header setting) (one : OneMayBe c header) where
   -- a step by a row
-  stepping-humble : (h : List Line) (row : NodeRow) (step : Step) → LeadsAll (Each (humbly c)) row (Each (humbly c)) → AllHumble c (manner_of header) h →
+  stepping_humble : (h : List Line) (row : NodeRow) (step : Step) → LeadsAll (Each (humbly c)) row (Each (humbly c)) → AllHumble c (manner_of header) h →
       AllHumble c (manner_of header) (joins (Some (stepping clocks header h row step)) h)
-  stepping-humble h row step leads all = row_humble c (manner_of header) (past_of header step h) step (tick_by clocks step) row h refl refl leads all
+  stepping_humble h row step leads all = row_humble c (manner_of header) (past_of header step h) step (tick_by clocks step) row h refl refl leads all
 
   -- an ELECTION comes from node c
-  mild-arrival : (h : List Line) (k : ℕ) (p : Posted) (to : Address) → ((n : ℕ) → AreSoundLines (of n h)) → AllHumble c (manner_of header) h →
+  mild_arrival : (h : List Line) (k : ℕ) (p : Posted) (to : Address) → ((n : ℕ) → AreSoundLines (of n h)) → AllHumble c (manner_of header) h →
       slice_get (posts h) k ≡ Some p → address_of (networks header) p.from p.port p.to ≡ Some to → Mild c (Peer (peer_of p.from)) (taken_in p)
-  mild-arrival h k p to sound all there goes = subst (λ t. Mild c (Peer (peer_of p.from)) t) (sym (sound_read p.datagram is)) (by_datagram p.datagram refl)
+  mild_arrival h k p to sound all there goes = subst (λ t. Mild c (Peer (peer_of p.from)) t) (sym (sound_read p.datagram is)) (by_datagram p.datagram refl)
     where
       o : PostAt h k p
       o = post_at h k p there
@@ -100,7 +100,7 @@ module _ (clocks : Clocks) (header : HeaderValue) (setting : Setting) (c : ℕ) 
       is = subst IsSoundDeed o.deed (line_sound h o.post o.older o.place (sound o.post.did.step.node))
 
       humble : (p.from == c) ≡ false → HumblePost (Acts (Post p.to p.datagram))
-      humble other = subst HumblePost o.deed (post-humble h o.post o.older o.place
+      humble other = subst HumblePost o.deed (post_humble h o.post o.older o.place
           (all o.post.did.step.node o.post.port (one o.post.did.step.node (subst (λ n. (n == c) ≡ false) (sym o.from) other))).posts)
 
       from_c : (m : MessageValue) → p.datagram ≡ Message m → m.kind ≡ Election → (place : Place) → p.to ≡ place → (b : Bool) → (p.from == c) ≡ b → p.from ≡ c
@@ -116,33 +116,33 @@ module _ (clocks : Clocks) (header : HeaderValue) (setting : Setting) (c : ℕ) 
       by_datagram (Message m) message = λ kind. from_c m message kind p.to refl (p.from == c) refl
       by_datagram (Stamp s) message = tt
 
-  event-humble : (h : List Line) (e : Event) → Sealed (e ∷ []) → ((n : ℕ) → AreSoundLines (of n h)) → AllHumble c (manner_of header) h →
+  event_humble : (h : List Line) (e : Event) → Sealed (e ∷ []) → ((n : ℕ) → AreSoundLines (of n h)) → AllHumble c (manner_of header) h →
       AllHumble c (manner_of header) (joins (happening_by clocks header h e) h)
-  event-humble h (BootAt at node word) sealed sound all =
-      subst (λ k. AllHumble c (manner_of header) (joins (Some k) h)) (sym (steps-are clocks header h boots_all (boot_by clocks h at node word)))
-      (stepping-humble h boots_all (boot_by clocks h at node word) (boots_humble c) all)
-  event-humble h (Turn at node) sealed sound all =
-      subst (λ k. AllHumble c (manner_of header) (joins (Some k) h)) (sym (steps-are clocks header h (answers_all NodeTurn) (record {
+  event_humble h (BootAt at node word) sealed sound all =
+      subst (λ k. AllHumble c (manner_of header) (joins (Some k) h)) (sym (steps_are clocks header h boots_all (boot_by clocks h at node word)))
+      (stepping_humble h boots_all (boot_by clocks h at node word) (boots_humble c) all)
+  event_humble h (Turn at node) sealed sound all =
+      subst (λ k. AllHumble c (manner_of header) (joins (Some k) h)) (sym (steps_are clocks header h (answers_all NodeTurn) (record {
         at = at;
         node = node;
         cause = Turned;
       })))
-      (stepping-humble h (answers_all NodeTurn) (record { at = at; node = node; cause = Turned }) (answers_humble c NodeTurn tt) all)
-  event-humble h (Bytes at node port (Peer p) octets) sealed sound all = absurd sealed.0
-  event-humble h (Bytes at node port Stranger octets) sealed sound all =
-      subst (λ k. AllHumble c (manner_of header) (joins (Some k) h)) (sym (steps-are clocks header h (answers_all (GotOn port Stranger (taken_of octets)))
+      (stepping_humble h (answers_all NodeTurn) (record { at = at; node = node; cause = Turned }) (answers_humble c NodeTurn tt) all)
+  event_humble h (Bytes at node port (Peer p) octets) sealed sound all = absurd sealed.0
+  event_humble h (Bytes at node port Stranger octets) sealed sound all =
+      subst (λ k. AllHumble c (manner_of header) (joins (Some k) h)) (sym (steps_are clocks header h (answers_all (GotOn port Stranger (taken_of octets)))
       (record { at = at; node = node; cause = Handed })))
-      (stepping-humble h (answers_all (GotOn port Stranger (taken_of octets))) (record { at = at; node = node; cause = Handed })
+      (stepping_humble h (answers_all (GotOn port Stranger (taken_of octets))) (record { at = at; node = node; cause = Handed })
       (answers_humble c (GotOn port Stranger (taken_of octets)) tt) all)
-  event-humble h (Take at k) sealed sound all = elim (takes-or clocks header h at k) [
+  event_humble h (Take at k) sealed sound all = elim (takes_or clocks header h at k) [
     | inl a ↦ subst (λ o. AllHumble c (manner_of header) (joins o h)) (sym (taking clocks header h at k a))
-        (stepping-humble h (taking_row a.post a.to) (taking_step at k a.to)
-        (answers_humble c (GotOn a.to.port (Peer (peer_of a.post.from)) (taken_in a.post)) (mild-arrival h k a.post a.to sound all a.there a.goes)) all)
+        (stepping_humble h (taking_row a.post a.to) (taking_step at k a.to)
+        (answers_humble c (GotOn a.to.port (Peer (peer_of a.post.from)) (taken_in a.post)) (mild_arrival h k a.post a.to sound all a.there a.goes)) all)
     | inr e ↦ subst (λ o. AllHumble c (manner_of header) (joins o h)) (sym e.1) all
   ]
 
-  all-humble : (events : List Event) → PossibleBy clocks header events → Sealed events → AllHumble c (manner_of header) (run_by clocks header events)
-  all-humble [] p sealed = λ n q may. record {
+  all_humble : (events : List Event) → PossibleBy clocks header events → Sealed events → AllHumble c (manner_of header) (run_by clocks header events)
+  all_humble [] p sealed = λ n q may. record {
     role_is = refl;
     window = refl;
     probe = refl;
@@ -152,31 +152,31 @@ module _ (clocks : Clocks) (header : HeaderValue) (setting : Setting) (c : ℕ) 
     posts = tt;
     backs = λ b p e. let bad : ⊥ = cc in absurd bad;
   }
-  all-humble (e ∷ before) p sealed =
+  all_humble (e ∷ before) p sealed =
       let earlier = possible_before clocks header e before p in
-      event-humble (run_by clocks header before) e (sealed.0, tt) (λ n. ((ran earlier.header_is set before earlier).sound n).lines)
-      (all-humble before earlier sealed.1)
+      event_humble (run_by clocks header before) e (sealed.0, tt) (λ n. ((ran earlier.header_is set before earlier).sound n).lines)
+      (all_humble before earlier sealed.1)
 
   -- so node c is alone
   lone : (h : List Line) → AllHumble c (manner_of header) h → LeftAlone c h → Lone c h
   lone h all left = record {
-    unsent = Everywhere-from _ h (λ l before within m deed. by_node l before within m deed (node_of l == c) refl);
+    unsent = Everywhere_from _ h (λ l before within m deed. by_node l before within m deed (node_of l == c) refl);
     unhanded = left.unhanded;
   } where
     by_node : (l : Line) (before : List Line) → Within (l ∷ before) h → (m : MessageValue) → l.did.deed ≡ Acts (Post (Peer (peer_of c)) (Message m)) →
         (b : Bool) →
         (node_of l == c) ≡ b → stirs m.kind ≡ false
-    by_node l before within m deed true e = Everywhere-at _ l before h left.unsent within (eqb-true (node_of l) c e) m deed
+    by_node l before within m deed true e = Everywhere_at _ l before h left.unsent within (eqb-true (node_of l) c e) m deed
     by_node l before within m deed false e =
         let post : HumblePost (Acts (Post (Peer (peer_of c)) (Message m))) =
-        subst HumblePost deed (post-humble h l before within (all (node_of l) l.port (one (node_of l) e)).posts) in
-        mild-kind m.kind post (Everywhere-at _ l before h left.unlooped within m deed)
+        subst HumblePost deed (post_humble h l before within (all (node_of l) l.port (one (node_of l) e)).posts) in
+        mild_kind m.kind post (Everywhere_at _ l before h left.unlooped within m deed)
 
 pub one_leads : OneLeads
 one_leads clocks header setting events late c set p sealed attended slack may strict one left =
     let f = (clocked_runs_fit clocks header setting events set p).0 in
     let w = clocked_runs_wake clocks header events in
-    let alone = lone clocks header setting c set one (run_by clocks header events) (all-humble clocks header setting c set one events p sealed) left in (
+    let alone = lone clocks header setting c set one (run_by clocks header events) (all_humble clocks header setting c set one events p sealed) left in (
       lone_leads (manner_of header) setting late c (run_by clocks header events) f w.0 attended slack may strict alone,
       λ t told. lone_led (manner_of header) setting late c t (run_by clocks header events) f w.1 attended slack may strict alone told,
     )

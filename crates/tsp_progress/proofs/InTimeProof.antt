@@ -7,7 +7,7 @@ use Rattle.tsp_rules.specs.Values.{ELECT_MIN, ELECT_SPREAD}
 use Rattle.tsp_base.specs.Words.{Acts, did_of, Deadlines, Deed, Did, Line, Seen, Here, Elsewhere, armed, armed_after, deadline, none_armed, of, plain, started}
 use Rattle.tsp_base.specs.Words.{started_after, view, with_deadline, word}
 use Rattle.tsp_promises.specs.{Fits.node_of, Setting.Setting}
-use Rattle.tsp_promises.proofs.{shared.EverywhereLemmas.Everywhere-at, shared.EverywhereLemmas.Everywhere-from}
+use Rattle.tsp_promises.proofs.{shared.EverywhereLemmas.Everywhere_at, shared.EverywhereLemmas.Everywhere_from}
 use Rattle.tsp_progress.specs.AlarmsFit.{AlarmFits, AlarmsFit, ArmFits, Manner}
 use Rattle.tsp_progress.specs.InTime.{AlarmEnds, AllInTime, ArmedWithin, CandidatureEnds, EndsInTime, InTime, LooseSeeks, RoundCloses, StartEnds, is_alarm}
 use Rattle.tsp_progress.specs.InTime.{last_arm, last_arm_after, longest}
@@ -54,9 +54,9 @@ same_alarm Round Round e = refl
 same_alarm _ _ e = absurd (true≢false (sym e))
 
 pub none_some : {A : Type 0} {o : Option ℕ} {at : ℕ} → o ≡ None → o ≡ Some at → A
-none_some n e = let bad : None ≡ Some _ = sym n ∙ e in absurd (no-none bad) where
-  no-none : {at : ℕ} → None ≡ Some at → ⊥
-  no-none e = cc
+none_some n e = let bad : None ≡ Some _ = sym n ∙ e in absurd (no_none bad) where
+  no_none : {at : ℕ} → None ≡ Some at → ⊥
+  no_none e = cc
 
 pub value_of : {a b : ℕ} → Some a ≡ Some b → a ≡ b
 value_of {a} e = ap (λ (o : Option ℕ). value o a) e where
@@ -73,47 +73,47 @@ pub record PlaceOf (a : Alarm) (at : ℕ) (place : List Seen) : Type 0 where
 
 -- what is armed for this tick was armed at its last arming
 module _ (a : Alarm) (at : ℕ) (d : Did) (before : List Seen) (older : deadline (armed before) a ≡ Some at → PlaceOf a at (last_arm a before)) where
-  by-arm : (b : Alarm) (to : ℕ) → ArmFits b d before to → deadline (with_deadline (armed before) b (Some to)) a ≡ Some at → (same : Bool) → is_alarm a b ≡
+  by_arm : (b : Alarm) (to : ℕ) → ArmFits b d before to → deadline (with_deadline (armed before) b (Some to)) a ≡ Some at → (same : Bool) → is_alarm a b ≡
       same →
       PlaceOf a at (if same then Here d ∷ before else last_arm a before)
-  by-arm b to f e true s = record {
+  by_arm b to f e true s = record {
     arm = d;
     idle = before;
     last = refl;
     fits = subst (λ c. ArmFits c d before at) (sym (same_alarm a b s)) (subst (λ n. ArmFits b d before n)
         (value_of (sym (with_same (armed before) a b (Some to) s) ∙ e)) f);
   }
-  by-arm b to f e false s = older (sym (with_other (armed before) a b (Some to) s) ∙ e)
+  by_arm b to f e false s = older (sym (with_other (armed before) a b (Some to) s) ∙ e)
 
-  by-off : (b : Alarm) → deadline (with_deadline (armed before) b None) a ≡ Some at → (same : Bool) → is_alarm a b ≡ same → PlaceOf a at (last_arm a before)
-  by-off b e true s = none_some (with_same (armed before) a b None s) e
-  by-off b e false s = older (sym (with_other (armed before) a b None s) ∙ e)
+  by_off : (b : Alarm) → deadline (with_deadline (armed before) b None) a ≡ Some at → (same : Bool) → is_alarm a b ≡ same → PlaceOf a at (last_arm a before)
+  by_off b e true s = none_some (with_same (armed before) a b None s) e
+  by_off b e false s = older (sym (with_other (armed before) a b None s) ∙ e)
 
-  by-abandon : (same : Bool) → is_alarm a CloseAlarm ≡ same → deadline (with_deadline (with_deadline (armed before) Probe None) CloseAlarm None) a ≡ Some at →
+  by_abandon : (same : Bool) → is_alarm a CloseAlarm ≡ same → deadline (with_deadline (with_deadline (armed before) Probe None) CloseAlarm None) a ≡ Some at →
       PlaceOf a at (last_arm a before)
-  by-abandon true s e = none_some (with_same (with_deadline (armed before) Probe None) a CloseAlarm None s) e
-  by-abandon false s e = by-off Probe (sym (with_other (with_deadline (armed before) Probe None) a CloseAlarm None s) ∙ e) (is_alarm a Probe) refl
+  by_abandon true s e = none_some (with_same (with_deadline (armed before) Probe None) a CloseAlarm None s) e
+  by_abandon false s e = by_off Probe (sym (with_other (with_deadline (armed before) Probe None) a CloseAlarm None s) ∙ e) (is_alarm a Probe) refl
 
-  by-deed : (deed : Deed) → AlarmFits deed d before → deadline (armed_after deed (armed before)) a ≡ Some at →
+  by_deed_holds : (deed : Deed) → AlarmFits deed d before → deadline (armed_after deed (armed before)) a ≡ Some at →
       PlaceOf a at (last_arm_after a deed (Here d ∷ before) (last_arm a before))
-  by-deed (Acts Boot) f e = none_some (none_is a) e
-  by-deed (Acts (Become r)) f e = none_some (none_is a) e
-  by-deed (Acts (Arm b to)) f e = by-arm b to f e (is_alarm a b) refl
-  by-deed (Acts (Ring b)) f e = by-off b e (is_alarm a b) refl
-  by-deed (Acts (Late b)) f e = by-off b e (is_alarm a b) refl
-  by-deed (Acts Abandon) f e = by-abandon (is_alarm a CloseAlarm) refl e
-  by-deed _ f e = older e
+  by_deed_holds (Acts Boot) f e = none_some (none_is a) e
+  by_deed_holds (Acts (Become r)) f e = none_some (none_is a) e
+  by_deed_holds (Acts (Arm b to)) f e = by_arm b to f e (is_alarm a b) refl
+  by_deed_holds (Acts (Ring b)) f e = by_off b e (is_alarm a b) refl
+  by_deed_holds (Acts (Late b)) f e = by_off b e (is_alarm a b) refl
+  by_deed_holds (Acts Abandon) f e = by_abandon (is_alarm a CloseAlarm) refl e
+  by_deed_holds _ f e = older e
 
 pub armed_place : (m : Manner) (a : Alarm) (at : ℕ) (seen : List Seen) → AlarmsFit m seen → deadline (armed seen) a ≡ Some at → PlaceOf a at (last_arm a seen)
 armed_place m a at [] f e = none_some (none_is a) e
-armed_place m a at (Here d ∷ before) f e = by-deed a at d before (armed_place m a at before f.1.1) d.deed f.0 e
+armed_place m a at (Here d ∷ before) f e = by_deed_holds a at d before (armed_place m a at before f.1.1) d.deed f.0 e
 armed_place m a at (Elsewhere d ∷ before) f e = armed_place m a at before f.1 e
 
 -- a round is what Close was armed for
-started-is : (seen : List Seen) → last_arm CloseAlarm seen ≡ started seen
-started-is [] = refl
-started-is (Elsewhere d ∷ before) = started-is before
-started-is (Here d ∷ before) = by_deed d.deed (started-is before) where
+started_is_holds : (seen : List Seen) → last_arm CloseAlarm seen ≡ started seen
+started_is_holds [] = refl
+started_is_holds (Elsewhere d ∷ before) = started_is_holds before
+started_is_holds (Here d ∷ before) = by_deed d.deed (started_is_holds before) where
   by_deed : (deed : Deed) → last_arm CloseAlarm before ≡ started before → last_arm_after CloseAlarm deed (Here d ∷ before) (last_arm CloseAlarm before) ≡
       started_after deed (Here d ∷ before) (started before)
   by_deed (Acts Boot) e = refl
@@ -122,79 +122,79 @@ started-is (Here d ∷ before) = by_deed d.deed (started-is before) where
   by_deed _ e = e
 
 -- how far ahead
-ahead-most : (a : Alarm) (arm : Did) (idle : List Seen) (at : ℕ) → ArmFits a arm idle at → at ≤ arm.tick + longest a
-ahead-most Elect arm idle at f = let less = mod-lt (word (plain idle)) {m = ELECT_SPREAD} (omega arith) in omega (arith, f, less)
-ahead-most Round arm idle at (inl f, by) = omega (arith, f)
-ahead-most Round arm idle at (inr f, by) = omega (arith, f)
-ahead-most Quiet arm idle at f = omega (arith, f)
-ahead-most Search arm idle at f = omega (arith, f)
-ahead-most Window arm idle at f = omega (arith, f)
-ahead-most Probe arm idle at f = omega (arith, f)
-ahead-most CloseAlarm arm idle at f = omega (arith, f)
-ahead-most ResolveAlarm arm idle at f = omega (arith, f)
+ahead_most : (a : Alarm) (arm : Did) (idle : List Seen) (at : ℕ) → ArmFits a arm idle at → at ≤ arm.tick + longest a
+ahead_most Elect arm idle at f = let less = mod-lt (word (plain idle)) {m = ELECT_SPREAD} (omega arith) in omega (arith, f, less)
+ahead_most Round arm idle at (inl f, by) = omega (arith, f)
+ahead_most Round arm idle at (inr f, by) = omega (arith, f)
+ahead_most Quiet arm idle at f = omega (arith, f)
+ahead_most Search arm idle at f = omega (arith, f)
+ahead_most Window arm idle at f = omega (arith, f)
+ahead_most Probe arm idle at f = omega (arith, f)
+ahead_most CloseAlarm arm idle at f = omega (arith, f)
+ahead_most ResolveAlarm arm idle at f = omega (arith, f)
 
 -- each alarm ends in time
 
 module _ (m : Manner) (late x : ℕ) (seen : List Seen) (wakes : Wakes m seen) (watched : Watched late x seen) where
-  alarm-ends : AlarmEnds late x seen
-  alarm-ends a at e =
+  alarm_ends : AlarmEnds late x seen
+  alarm_ends a at e =
       let p = armed_place m a at seen wakes.acts e in
-      let ahead = ahead-most a p.arm p.idle at p.fits in
+      let ahead = ahead_most a p.arm p.idle at p.fits in
       let due = watched.alarms a at e in
       record { arm = p.arm; idle = p.idle; last = p.last; since = omega (arith, ahead, due) }
 
   -- an alarm that is armed, for whatever
-  some-ends : (a : Alarm) → is_some (deadline (armed seen) a) ≡ true → ArmedWithin a (longest a + late) x seen
-  some-ends a some = by_case (deadline (armed seen) a) refl some where
+  some_ends : (a : Alarm) → is_some (deadline (armed seen) a) ≡ true → ArmedWithin a (longest a + late) x seen
+  some_ends a some = by_case (deadline (armed seen) a) refl some where
     by_case : (o : Option ℕ) → deadline (armed seen) a ≡ o → is_some o ≡ true → ArmedWithin a (longest a + late) x seen
     by_case None e some = absurd (true≢false (sym some))
-    by_case (Some at) e some = alarm-ends a at e
+    by_case (Some at) e some = alarm_ends a at e
 
-  start-ends : StartEnds late x seen
-  start-ends r start idle s = let due = watched.alarms Quiet _ (wakes.starting r start idle s) in omega (arith, due)
+  start_ends : StartEnds late x seen
+  start_ends r start idle s = let due = watched.alarms Quiet _ (wakes.starting r start idle s) in omega (arith, due)
 
-  candidature-ends : CandidatureEnds late x seen
-  candidature-ends r =
+  candidature_ends : CandidatureEnds late x seen
+  candidature_ends r =
       let w = wakes.candidate r in
       let due = watched.alarms Window _ w.window_is in
       record { start = w.start; idle = w.idle; stood_is = w.stood_is; since = omega (arith, due) }
 
-  round-closes : RoundCloses late x seen
-  round-closes going = let a = some-ends CloseAlarm going in record {
+  round_closes : RoundCloses late x seen
+  round_closes going = let a = some_ends CloseAlarm going in record {
     start = a.arm;
     idle = a.idle;
-    started_is = sym (started-is seen) ∙ a.last;
+    started_is = sym (started_is_holds seen) ∙ a.last;
     since = a.since;
   }
 
-  loose-seeks : LooseSeeks late x seen
-  loose-seeks r = by_case (is_some (armed seen).search) refl (wakes.loose r) where
+  loose_seeks : LooseSeeks late x seen
+  loose_seeks r = by_case (is_some (armed seen).search) refl (wakes.loose r) where
     by_case : (b : Bool) → is_some (armed seen).search ≡ b → (b || is_some (armed seen).elect) ≡ true → ArmedWithin Search (WINDOW + late) x seen ⊎
         ArmedWithin Elect (ELECT_MIN + ELECT_SPREAD + late) x seen
-    by_case true e some = inl (some-ends Search e)
-    by_case false e some = inr (some-ends Elect some)
+    by_case true e some = inl (some_ends Search e)
+    by_case false e some = inr (some_ends Elect some)
 
-  in-time : InTime late x seen
-  in-time = record {
-    alarm = alarm-ends;
-    start = start-ends;
-    candidature = candidature-ends;
-    round = round-closes;
-    rounds = λ r. some-ends Round (wakes.master r);
-    resolution = λ e. some-ends ResolveAlarm e;
-    search = λ e. some-ends Search e;
-    follower = λ p r. some-ends Elect (wakes.follow p r);
-    loose = loose-seeks;
+  in_time : InTime late x seen
+  in_time = record {
+    alarm = alarm_ends;
+    start = start_ends;
+    candidature = candidature_ends;
+    round = round_closes;
+    rounds = λ r. some_ends Round (wakes.master r);
+    resolution = λ e. some_ends ResolveAlarm e;
+    search = λ e. some_ends Search e;
+    follower = λ p r. some_ends Elect (wakes.follow p r);
+    loose = loose_seeks;
   }
 
 pub attended_in_time : (m : ℕ → Manner) (late : ℕ) (world : List Line) → Woken m world → Attended late world → AllInTime late world
-attended_in_time m late world w a = Everywhere-from (BeginsAt (InTime late)) world (λ l before within begins q.
-    in-time (m (node_of l)) late l.did.tick (view q (of (node_of l) before)) (Everywhere-at (WokenAt m) l before world w within begins q)
-    (Everywhere-at (AttendedAt late) l before world a within begins q))
+attended_in_time m late world w a = Everywhere_from (BeginsAt (InTime late)) world (λ l before within begins q.
+    in_time (m (node_of l)) late l.did.tick (view q (of (node_of l) before)) (Everywhere_at (WokenAt m) l before world w within begins q)
+    (Everywhere_at (AttendedAt late) l before world a within begins q))
 
 pub told_in_time : (m : ℕ → Manner) (late : ℕ) (setting : Setting) (t n : ℕ) (world : List Line) → AllWake m world → Told late setting t n world →
     EndsInTime late setting t n world
-told_in_time m late setting t n world w told q = in-time (m n) late (setting.tick n t) (view q (of n world)) (w n q) (told q)
+told_in_time m late setting t n world w told q = in_time (m n) late (setting.tick n t) (view q (of n world)) (w n q) (told q)
 
 -- the tick of the newest deed at a place
 abbrev pub tick_of : List Seen → ℕ

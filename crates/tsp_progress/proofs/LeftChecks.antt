@@ -27,12 +27,12 @@ abbrev pub is_left : ℕ → List Line → Bool
 is_left c [] = true
 is_left c (l ∷ before) = (leaves_alone c (node_of l) l.did.deed && not_handed l.did.step.cause) && is_left c before
 
-pub left-by : (c : ℕ) (h : List Line) → is_left c h ≡ true → LeftAlone c h
-left-by c [] e = record { unlooped = tt; unsent = tt; unhanded = tt }
-left-by c (l ∷ before) e =
+pub left_by : (c : ℕ) (h : List Line) → is_left c h ≡ true → LeftAlone c h
+left_by c [] e = record { unlooped = tt; unsent = tt; unhanded = tt }
+left_by c (l ∷ before) e =
     let both = and_parts (leaves_alone c (node_of l) l.did.deed && not_handed l.did.step.cause) (is_left c before) e in
     let parts = and_parts (leaves_alone c (node_of l) l.did.deed) (not_handed l.did.step.cause) both.0 in
-    let rest = left-by c before both.1 in
+    let rest = left_by c before both.1 in
     record {
       unlooped = (λ m deed kind. looped m (to_c m deed parts.0) kind, rest.unlooped);
       unsent = (λ node m deed. absurd (own m node (to_c m deed parts.0)), rest.unsent);

@@ -20,29 +20,29 @@ module _ (node : NodePast) (lines : List Line) (table : KeepsTable node lines) w
       subst (λ acts. Within (joined l.did.step l.did.tick (placed l.port acts) older) lines) same stands in
       subst (λ d. Within (joined l.did.step l.did.tick (placed l.port acts) (line_of l.did.step l.did.tick l.port d ∷ older)) lines) (sym took) whole
 
-  reply-row : (l : Line) (older : List Line) (from : Place) (word counter : ℕ) → is_own from l.did.tick (port_before node l older) ≡ false →
+  reply_row : (l : Line) (older : List Line) (from : Place) (word counter : ℕ) → is_own from l.did.tick (port_before node l older) ≡ false →
       is_in_range l.did.tick (port_before node l older) ≡ true →
       taking_row node l older from (Good (Stamp (Request word counter))) l.did.tick (port_before node l older) ≡
       Took from (Good (Stamp (Request word counter))) ∷ stamp_reply from word counter l.did.tick (port_before node l older) ∷ []
   unfolding takes ◌followed_by◌ puts either_by handles replies posts_reply
-  reply-row l older (Peer p) word counter own range = rw (own, range) refl
-  reply-row l older Stranger word counter own range = rw range refl
+  reply_row l older (Peer p) word counter own range = rw (own, range) refl
+  reply_row l older Stranger word counter own range = rw range refl
 
-  sample-row : (l : Line) (older : List Line) (p : PeerId) (r : ReplyValue) (asked : ℤ) → is_heard p l.did.tick (port_before node l older) ≡ true →
+  sample_row : (l : Line) (older : List Line) (p : PeerId) (r : ReplyValue) (asked : ℤ) → is_heard p l.did.tick (port_before node l older) ≡ true →
       is_own (Peer p) l.did.tick (port_before node l older) ≡ false → role_before node l older ≡ Master →
       request_at p r.counter l.did.tick (port_before node l older) ≡ Some (record { word = r.word; target = asked }) →
       taking_row node l older (Peer p) (Good (Stamp (Reply r))) l.did.tick (port_before node l older) ≡
       Took (Peer p) (Good (Stamp (Reply r))) ∷ sample_by p r asked l.did.tick (port_before node l older) ∷ []
   unfolding takes ◌followed_by◌ puts either_by handles from_peer peer_replies reading replies_in samples samples_request
-  sample-row l older p r asked heard own is open_is = let same : (r.word == r.word) ≡ true = eq-eqb r.word r.word refl in
+  sample_row l older p r asked heard own is open_is = let same : (r.word == r.word) ≡ true = eq-eqb r.word r.word refl in
       rw (own, heard, is, open_is, same) refl
 
   pub measures : Measures node lines
   measures = record {
     replies = λ l older from word counter place took own range. taken_next l older from (Good (Stamp (Request word counter))) place took refl
-        (stamp_reply from word counter l.did.tick (port_before node l older) ∷ []) (reply-row l older from word counter own range);
+        (stamp_reply from word counter l.did.tick (port_before node l older) ∷ []) (reply_row l older from word counter own range);
     samples = λ l older p r asked place took heard own is open_is. taken_next l older (Peer p) (Good (Stamp (Reply r))) place took refl
-        (sample_by p r asked l.did.tick (port_before node l older) ∷ []) (sample-row l older p r asked heard own is open_is);
+        (sample_by p r asked l.did.tick (port_before node l older) ∷ []) (sample_row l older p r asked heard own is open_is);
   }
 
 -- wherever the table is kept

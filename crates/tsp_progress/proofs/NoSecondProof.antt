@@ -10,11 +10,11 @@ use Rattle.tsp_progress.specs.Heeds.{arms_for_delay, follow_acts, has_no_master,
 use Rattle.tsp_progress.specs.NoSecondMaster.{ClockedRunsLeadAlone, NoSecondMaster, RunsLeadAlone}
 use Rattle.tsp_progress.specs.{RefusedLoses.WinsAfter, SentAway.SentAway, SentAway.past_there}
 use Rattle.tsp_progress.proofs.{SentAwayProof.sends_away_in_time, TableProof.clocked_runs_by_table, WinsLateProof.clocked_runs_win_late}
-use Rattle.tsp_progress.proofs.{WinsNot.no_change, WinsNot.same-role}
+use Rattle.tsp_progress.proofs.{WinsNot.no_change, WinsNot.same_role}
 
-candidate-alone : (r : Role) → is_candidate_role r ≡ true → has_no_master r ≡ true
-candidate-alone Candidate e = refl
-candidate-alone _ e = absurd (true≢false (sym e))
+candidate_alone : (r : Role) → is_candidate_role r ≡ true → has_no_master r ≡ true
+candidate_alone Candidate e = refl
+candidate_alone _ e = absurd (true≢false (sym e))
 
 module _ {clocks : Clocks} {header : HeaderValue} {setting : Setting} (set : SetByClocks clocks header setting) (world : List Line)
     (table : ByTable header world) (fits : Fits setting world) (wins : WinsLate world) (long t : ℕ) (stays : ℕ → Bool) (s : List Line)
@@ -27,8 +27,8 @@ module _ {clocks : Clocks} {header : HeaderValue} {setting : Setting} (set : Set
       let past = past_there header (node_of l) away.answer.line away.answer.before in
       let same : role_before (node_in header (node_of l)) away.answer.line (of (node_of l) away.answer.before) ≡ role (view l.port (of (node_of l) older)) =
       ap (λ q. role (view q (of (node_of l) away.answer.before))) away.answer.port ∙
-      same-role setting world fits wins long quick l older asks.posts.place p quit away.answer c before w in
-      let alone : has_no_master (role past.seen) ≡ true = candidate-alone (role past.seen) (ap is_candidate_role same ∙ stands) in
+      same_role setting world fits wins long quick l older asks.posts.place p quit away.answer c before w in
+      let alone : has_no_master (role past.seen) ≡ true = candidate_alone (role past.seen) (ap is_candidate_role same ∙ stands) in
       let ack = posts_bare Ack away.number past p in
       no_change setting world fits wins long quick l older asks.posts.place p quit away.answer c before w
       (Quit p ∷ ack ∷ follow_acts p away.answer.line.did.tick past) (Follow p) (record {

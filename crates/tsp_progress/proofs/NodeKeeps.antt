@@ -4,7 +4,7 @@ use Rattle.tsp_rules.specs.Values.{Act, Boot, Took, Abandon, Alarm, Round, Probe
 use Rattle.tsp_rules.specs.Values.{ALL}
 use Rattle.tsp_base.specs.Words.{Acts, Did, Here, Elsewhere, Line, MessageValue, Past, Row, Seen, Step, Leads, is_going, is_shared, joined, line_of, placed}
 use Rattle.tsp_base.specs.Words.{puts, seen_as, view}
-use Rattle.tsp_base.proofs.{LeadsLemmas.Leads_to, ViewPlaces.port-same}
+use Rattle.tsp_base.proofs.{LeadsLemmas.Leads_to, ViewPlaces.port_same}
 use Rattle.tsp_rules.specs.GateRows.{GotOn, NodeGiven, NodeTurn, all_ports, alarm_on, alarms_on, answers_all, begins_round_on, closes_on, each_on, ends_probes}
 use Rattle.tsp_rules.specs.GateRows.{forwards, hears_on, heeds_loop, input_all, is_awake_on, judge, judges, leads_clock, loops_after, loosens_master}
 use Rattle.tsp_rules.specs.GateRows.{other_ports, probes_on, reposts, reposts_on, sends_loops, stirred_ports, steers, in_charge, takes_kind, takes_loop}
@@ -34,17 +34,17 @@ abbrev pub Each : (Manner → ℕ → List Seen → Type 0) → ℕ → NodePast
 Each P x past = (r : Port) → P (node_manner past) x (view r past.lines)
 
 module _ (P : Manner → ℕ → List Seen → Type 0) (family : Family P) where
-  one-beside : (m : Manner) (q r : Port) → (q.0 == r.0) ≡ false → (step : Step) (x : ℕ) (a : Act) (seen : List Seen) → P m x seen →
+  one_beside : (m : Manner) (q r : Port) → (q.0 == r.0) ≡ false → (step : Step) (x : ℕ) (a : Act) (seen : List Seen) → P m x seen →
       P m x (seen_as ((q.0 == r.0) || is_shared (Acts a)) (line_of step x q (Acts a)).did ∷ seen)
-  one-beside m q r n step x Boot seen h = subst (λ b. P m x (seen_as (b || true) (line_of step x q (Acts Boot)).did ∷ seen)) (sym n)
+  one_beside m q r n step x Boot seen h = subst (λ b. P m x (seen_as (b || true) (line_of step x q (Acts Boot)).did ∷ seen)) (sym n)
       (family.boots m step x seen h)
-  one-beside m q r n step x a seen h = subst (λ b. P m x (seen_as (b || false) (line_of step x q (Acts a)).did ∷ seen)) (sym n)
+  one_beside m q r n step x a seen h = subst (λ b. P m x (seen_as (b || false) (line_of step x q (Acts a)).did ∷ seen)) (sym n)
       (family.aside m (line_of step x q (Acts a)).did x seen h)
 
   pub beside : (m : Manner) (q r : Port) → (q.0 == r.0) ≡ false → (step : Step) (x : ℕ) (acts : List Act) (lines : List Line) → P m x (view r lines) →
       P m x (view r (joined step x (placed q acts) lines))
   beside m q r n step x [] lines h = h
-  beside m q r n step x (a ∷ rest) lines h = beside m q r n step x rest (line_of step x q (Acts a) ∷ lines) (one-beside m q r n step x a (view r lines) h)
+  beside m q r n step x (a ∷ rest) lines h = beside m q r n step x rest (line_of step x q (Acts a) ∷ lines) (one_beside m q r n step x a (view r lines) h)
 
   -- a port's row
   pub on_each : (q : Port) (row : Row) → Leads (λ x past. P (manner past) x past.seen) row (λ x past. P (manner past) x past.seen) →
@@ -53,7 +53,7 @@ module _ (P : Manner → ℕ → List Seen → Type 0) (family : Family P) where
   on_each q row d = record { run = λ x past all r. by_case x past all r (q.0 == r.0) refl } where
     by_case : (x : ℕ) (past : NodePast) → Each P x past → (r : Port) (b : Bool) → (q.0 == r.0) ≡ b →
         P (node_manner past) x (on_port r (spread x past (placed q (row x (on_port q past))))).seen
-    by_case x past all r true e = subst (λ p. P (node_manner past) x (on_port p (spread x past (placed q (row x (on_port q past))))).seen) (port-same q r e)
+    by_case x past all r true e = subst (λ p. P (node_manner past) x (on_port p (spread x past (placed q (row x (on_port q past))))).seen) (port_same q r e)
         (subst (λ (z : Past). P (node_manner past) x z.seen) (sym (on_own q x past (row x (on_port q past)))) (d.run x (on_port q past) (all q)))
     by_case x past all r false e = beside (node_manner past) q r e past.step x (row x (on_port q past)) past.lines (all r)
 
@@ -84,14 +84,14 @@ abbrev IsLoop : LoopStep → Type 0
 IsLoop (Forward m) = m.kind ≡ LoopKind
 IsLoop _ = Unit {0}
 
-loop-if : (b : Bool) (s t : LoopStep) → IsLoop s → IsLoop t → IsLoop (if b then s else t)
-loop-if true s t p q = p
-loop-if false s t p q = q
+loop_if : (b : Bool) (s t : LoopStep) → IsLoop s → IsLoop t → IsLoop (if b then s else t)
+loop_if true s t p q = p
+loop_if false s t p q = q
 
-judge-loop : (own : List ℕ) (ports : ℕ) (port : Port) (m : MessageValue) → m.kind ≡ LoopKind → IsLoop (judge own ports port m)
-judge-loop own ports port m kind =
-    loop-if (nat_le 2 ports) _ _ (loop-if (same_name m.name own) _ _ (loop-if (nat_lt m.number port.0) GiveUp PassOver tt tt)
-    (loop-if (nat_le 1 (hops_in m.body) && nat_le (hops_in m.body) HOPS) (Forward (one_hop_less m)) PassOver kind tt)) tt
+judge_loop : (own : List ℕ) (ports : ℕ) (port : Port) (m : MessageValue) → m.kind ≡ LoopKind → IsLoop (judge own ports port m)
+judge_loop own ports port m kind =
+    loop_if (nat_le 2 ports) _ _ (loop_if (same_name m.name own) _ _ (loop_if (nat_lt m.number port.0) GiveUp PassOver tt tt)
+    (loop_if (nat_le 1 (hops_in m.body) && nat_le (hops_in m.body) HOPS) (Forward (one_hop_less m)) PassOver kind tt)) tt
 
 -- what a step is given is as Ok says
 abbrev pub OkGiven : (Place → Taken → Type 0) → NodeGiven → Type 0
@@ -186,7 +186,7 @@ module _ (P H : Manner → ℕ → List Seen → Type 0) (Ok : Place → Taken �
     by_case : (x : ℕ) (past : NodePast) → TookOn q x past → (r : Port) (b : Bool) → (q.0 == r.0) ≡ b →
         P (node_manner past) x (on_port r (spread x past (placed q (loosens_master x (on_port q past))))).seen
     by_case x past h r true e = subst (λ p. P (node_manner past) x (on_port p (spread x past (placed q (loosens_master x (on_port q past))))).seen)
-        (port-same q r e)
+        (port_same q r e)
         (subst (λ (z : Past). P (node_manner past) x z.seen) (sym (on_own q x past (loosens_master x (on_port q past))))
         (k.gives_up.run x (on_port q past) h.1))
     by_case x past h r false e = beside P k.family (node_manner past) q r e past.step x (loosens_master x (on_port q past)) past.lines (h.0 r)
@@ -196,7 +196,7 @@ module _ (P H : Manner → ℕ → List Seen → Type 0) (Ok : Place → Taken �
   unfolding heeds_loop judges nothing_at_all
   heeds_keep q m is true = record {
     run = λ x past h. (loop_keep q (judge past.name (length past.ports) q m)
-        (judge-loop past.name (length past.ports) q m is)).run x past h;
+        (judge_loop past.name (length past.ports) q m is)).run x past h;
   }
   heeds_keep q m is false = record { run = λ x past h. h.0 }
 

@@ -19,9 +19,9 @@ use Rattle.tsp_progress.proofs.Waking.{Awake, Begun, Settled, becomes, far, free
 abbrev pub awake : Manner → ℕ → List Seen → Type 0
 awake m x seen = Settled m true true seen
 
-after-boot : (m : Manner) (step : Step) (x : ℕ) (seen : List Seen) → Settled m true true seen →
+after_boot : (m : Manner) (step : Step) (x : ℕ) (seen : List Seen) → Settled m true true seen →
     Settled m true true (Here (record { step = step; tick = x; deed = Acts Boot }) ∷ seen)
-after-boot m step x seen s = record {
+after_boot m step x seen s = record {
   waking = record {
     acts = (tt, (free_to m seen (Acts Boot) s.free, s.waking.acts));
     starting = λ r start before s. let bad : ⊥ = cc in absurd bad;
@@ -33,8 +33,8 @@ after-boot m step x seen s = record {
   free = refl;
 }
 
-after-aside : (m : Manner) (d : Did) (seen : List Seen) → Settled m true true seen → Settled m true true (Elsewhere d ∷ seen)
-after-aside m d seen s = let w = s.waking in record {
+after_aside : (m : Manner) (d : Did) (seen : List Seen) → Settled m true true seen → Settled m true true (Elsewhere d ∷ seen)
+after_aside m d seen s = let w = s.waking in record {
   waking = record {
     acts = (s.free, w.acts);
     starting = w.starting;
@@ -46,8 +46,8 @@ after-aside m d seen s = let w = s.waking in record {
   free = refl;
 }
 
-awake-family : Family awake
-awake-family = record { boots = λ m step x seen w. after-boot m step x seen w; aside = λ m d x seen w. after-aside m d seen w }
+awake_family : Family awake
+awake_family = record { boots = λ m step x seen w. after_boot m step x seen w; aside = λ m d x seen w. after_aside m d seen w }
 
 gives_up_far : Leads Awake loosens_master Awake
 unfolding loosens_master
@@ -71,7 +71,7 @@ any_given (GotOn q from t) = tt
 
 awake_keeps : Keeps awake awake Anything
 awake_keeps = record {
-  family = awake-family;
+  family = awake_family;
   weaken = λ x past h. h;
   sends = sends_far;
   rings = rings_far;
@@ -93,8 +93,8 @@ answers_awake g = answers_keep awake awake Anything awake_keeps g (any_given g)
 abbrev booting : Manner → ℕ → List Seen → Type 0
 booting m x seen = Settled m true true seen × ((held seen).boot ≡ x)
 
-booting-family : Family booting
-booting-family = record { boots = λ m step x seen w. (after-boot m step x seen w.0, refl); aside = λ m d x seen w. (after-aside m d seen w.0, w.1) }
+booting_family : Family booting
+booting_family = record { boots = λ m step x seen w. (after_boot m step x seen w.0, refl); aside = λ m d x seen w. (after_aside m d seen w.0, w.1) }
 
 starts_far : Leads (λ x past. booting (manner past) x past.seen) (puts (Become Starting) followed_by arms Quiet QUIET)
     (λ x past. booting (manner past) x past.seen)
@@ -105,7 +105,7 @@ starts_far = Leads_then {Q = Begun} (puts (Become Starting)) (arms Quiet QUIET)
 
 boots_on_awake : (q : Port) → LeadsAll (Each booting) (boots_on q) (Each booting)
 unfolding boots_on
-boots_on_awake q = on_each booting booting-family q (puts (Become Starting) followed_by arms Quiet QUIET) starts_far
+boots_on_awake q = on_each booting booting_family q (puts (Become Starting) followed_by arms Quiet QUIET) starts_far
 
 -- so does a boot
 pub boots_awake : LeadsAll (Each awake) boots_all (Each awake)
@@ -115,9 +115,9 @@ boots_awake = record {
       ((All_after {P = Each awake} {Q = Each booting} {R = Each booting} (on first_port (puts Boot)) (reading_all all_ports (for_ports boots_on))
       (record {
         run = λ x past all r. subst (λ b. booting (node_manner past) x (seen_as b (line_of past.step x first_port (Acts Boot)).did ∷ view r past.lines))
-            (sym (or_right (first_port.0 == r.0) true refl)) (after-boot (node_manner past) past.step x (view r past.lines) (all r), refl);
+            (sym (or_right (first_port.0 == r.0) true refl)) (after_boot (node_manner past) past.step x (view r past.lines) (all r), refl);
       })
-      (record { run = λ x past all. (list_each booting booting-family boots_on (ports_from 0 past.ports) boots_on_awake).run x past all })).run x past all r).0;
+      (record { run = λ x past all. (list_each booting booting_family boots_on (ports_from 0 past.ports) boots_on_awake).run x past all })).run x past all r).0;
 }
 
 -- and so does a step's beginning

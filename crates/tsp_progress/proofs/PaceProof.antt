@@ -6,7 +6,8 @@ use Rattle.tsp_rules.specs.Values.{Act, Alarm, Port, SLACK}
 use Rattle.tsp_base.specs.Words.{Acts, Begins, Deed, Line, Seen, armed, deadline, dids, is_shared, of, plain, seen_as, tick_of, view}
 use Rattle.tsp_base.proofs.Views.{plain_view}
 use Rattle.tsp_promises.specs.{Fits.Fits, Fits.node_of, Setting.Setting}
-use Rattle.tsp_promises.proofs.{shared.EverywhereLemmas.Everywhere-at, shared.EverywhereLemmas.Everywhere-from, shared.EverywhereLemmas.Everywhere-within, promised.OwnFitsProof.own_fits}
+use Rattle.tsp_promises.proofs.{shared.EverywhereLemmas.Everywhere_at, shared.EverywhereLemmas.Everywhere_from, shared.EverywhereLemmas.Everywhere_within}
+use Rattle.tsp_promises.proofs.{promised.OwnFitsProof.own_fits}
 use Rattle.tsp_promises.proofs.{promised.OwnFitsProof.own_tick}
 use Rattle.tsp_progress.specs.{AlarmsFit.AlarmsFit, AlarmsFit.Manner, AloneStands.AloneStands, AloneStands.AloneStandsAt, Wakes.Woken, Wakes.WokenAt}
 use Rattle.tsp_progress.specs.{Watched.Attended, Watched.AttendedAt}
@@ -27,14 +28,14 @@ module _ (setting : Setting) (late : ℕ) (l : Line) (before : List Line) (f : F
   seen : List Seen
   seen = view q (of (node_of l) before)
 
-  tick-is : tick_of (plain (view q (of (node_of l) before))) ≡ newest (of (node_of l) before)
-  tick-is = ap tick_of (plain_view q (of (node_of l) before)) ∙ sym (newest-is (of (node_of l) before))
+  tick_is_holds : tick_of (plain (view q (of (node_of l) before))) ≡ newest (of (node_of l) before)
+  tick_is_holds = ap tick_of (plain_view q (of (node_of l) before)) ∙ sym (newest-is (of (node_of l) before))
 
   order : tick_of (plain (view q (of (node_of l) before))) ≤ l.did.tick
   order = subst (λ ds. tick_of ds ≤ l.did.tick) (sym (plain_view q (of (node_of l) before))) (own_tick setting l before f)
 
   level : (act : Act) → l.did.deed ≡ Acts act → l.did.tick ≡ tick_of (plain (view q (of (node_of l) before)))
-  level act is = same_tick setting l before act is f.0 f.1 ∙ sym tick-is
+  level act is = same_tick setting l before act is f.0 f.1 ∙ sym tick_is_holds
 
   -- a line as the port sees it
   one : (own : Bool) → ((l.port.0 == q.0) || is_shared l.did.deed) ≡ own → ((a : Alarm) (at : ℕ) →
@@ -68,13 +69,13 @@ paced setting late (l ∷ before) f a m n q fit = by_node (node_of l == n) refl 
 
 pub alone_stands : (m : ℕ → Manner) (setting : Setting) (late : ℕ) (world : List Line) → Fits setting world → Woken m world → Attended late world →
     late ≤ SLACK → AloneStands m late world
-alone_stands m setting late world f w a slack = Everywhere-from (AloneStandsAt m late) world (λ l before within begins may q idle.
+alone_stands m setting late world f w a slack = Everywhere_from (AloneStandsAt m late) world (λ l before within begins may q idle.
     let n = node_of l in
-    let whole = Everywhere-within _ (l ∷ before) world f within in
-    let attended = Everywhere-within _ (l ∷ before) world a within in
-    let wakes = Everywhere-at (WokenAt m) l before world w within begins q in
+    let whole = Everywhere_within _ (l ∷ before) world f within in
+    let attended = Everywhere_within _ (l ∷ before) world a within in
+    let wakes = Everywhere_at (WokenAt m) l before world w within begins q in
     let seen = view q (of n before) in
     idle_waits late slack (m n) may seen l.did.tick wakes
     (stands_on (m n) seen wakes.acts (rising setting q (of n before) (own_fits setting n before whole.1)))
     (paced setting late before whole.1 attended.1 (m n) n q wakes.acts)
-    (Everywhere-at (AttendedAt late) l before world a within begins q) idle)
+    (Everywhere_at (AttendedAt late) l before world a within begins q) idle)

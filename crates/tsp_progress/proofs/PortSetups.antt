@@ -11,10 +11,10 @@ use Rattle.tsp_run.proofs.NetworkLemmas.{set_up}
 use Rattle.tsp_progress.specs.ByTable.{node_in}
 
 -- a port of a network is one of its node's ports
-port-there : (n q p k : ℕ) (nets : List (List ℕ)) (j : ℕ) → network_from n q p k nets ≡ Some j → q < p + length (ports_on n nets)
-port-there n q p k [] j e = let bad : ⊥ = cc in absurd bad
-port-there n q p k (net ∷ rest) j e = by_member (has_member n net) refl (λ f. port-there n q (p + 1) (k + 1) rest j f)
-    (λ f. port-there n q p (k + 1) rest j f) e where
+port_there : (n q p k : ℕ) (nets : List (List ℕ)) (j : ℕ) → network_from n q p k nets ≡ Some j → q < p + length (ports_on n nets)
+port_there n q p k [] j e = let bad : ⊥ = cc in absurd bad
+port_there n q p k (net ∷ rest) j e = by_member (has_member n net) refl (λ f. port_there n q (p + 1) (k + 1) rest j f)
+    (λ f. port_there n q p (k + 1) rest j f) e where
       Later : ℕ → ℕ → Type 0
       Later first number = network_from n q first number rest ≡ Some j → q < first + length (ports_on n rest)
 
@@ -44,8 +44,8 @@ pub record PortIs (header : HeaderValue) (setting : Setting) (n : ℕ) (q : Port
   pub own : (port_setup q (node_in header n)).own.0 ≡ n
 
 module _ {clocks : Clocks} {header : HeaderValue} {setting : Setting} (set : SetByClocks clocks header setting) where
-  is-set : (n : ℕ) (q : Port) → q.0 < length (ports_on n (networks header)) → PortIs header setting n q
-  is-set n q has =
+  is_set : (n : ℕ) (q : Port) → q.0 < length (ports_on n (networks header)) → PortIs header setting n q
+  is_set n q has =
       let nets : List (List ℕ) = networks header in
       let s = set_up n q.0 0 0 nets has in
       let found : network_from n q.0 0 0 nets ≡ Some s.j =
@@ -61,7 +61,7 @@ module _ {clocks : Clocks} {header : HeaderValue} {setting : Setting} (set : Set
   pub member_port : (n : ℕ) (q : Port) (p : PeerId) → is_among p (setting.members (setting.net n q)) ≡ true → (n == p.0) ≡ false → PortIs header setting n q
   member_port n q p member other = by_network (network_at n q (networks header)) refl where
     by_network : (o : Option ℕ) → network_at n q (networks header) ≡ o → PortIs header setting n q
-    by_network (Some j) e = is-set n q (let less = port-there n q.0 0 0 (networks header) j e in omega (arith, less))
+    by_network (Some j) e = is_set n q (let less = port_there n q.0 0 0 (networks header) j e in omega (arith, less))
     by_network None e =
         let alone : setting.net n q ≡ Alone n q.0 = set.net_is n q ∙ ap (λ o. named_or (Alone n q.0) o) e in
         let there : is_among p (peer_of n ∷ []) ≡ true =

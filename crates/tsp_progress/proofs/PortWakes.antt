@@ -49,8 +49,8 @@ no_near [] = true
 no_near (s ∷ rest) = not (is_in s near_sorts) && no_near rest
 
 -- what is said of a sort is said of its code
-near-code : (s t : Sort) → (code s == code t) ≡ true → is_in t near_sorts ≡ false → is_in s near_sorts ≡ false
-near-code s t e n = subst (λ c. ((c == 0) || ((c == 6) || ((c == 7) || ((c == 8) || ((c == 9) || ((c == 11) || ((c == 12) || ((c == 18) || false)))))))) ≡
+near_code : (s t : Sort) → (code s == code t) ≡ true → is_in t near_sorts ≡ false → is_in s near_sorts ≡ false
+near_code s t e n = subst (λ c. ((c == 0) || ((c == 6) || ((c == 7) || ((c == 8) || ((c == 9) || ((c == 11) || ((c == 12) || ((c == 18) || false)))))))) ≡
     false) (sym (eqb-true (code s) (code t) e)) n
 
 pub out_of : (sorts : List Sort) → no_near sorts ≡ true → (s : Sort) → is_in s sorts ≡ true → is_in s near_sorts ≡ false
@@ -61,7 +61,7 @@ out_of (t ∷ rest) apart s e =
   where
     by_case : (b : Bool) → (code s == code t) ≡ b → (b || is_in s rest) ≡ true → not (is_in t near_sorts) ≡ true →
         (is_in s rest ≡ true → is_in s near_sorts ≡ false) → is_in s near_sorts ≡ false
-    by_case true same e other k = near-code s t same (not-true (is_in t near_sorts) other)
+    by_case true same e other k = near_code s t same (not-true (is_in t near_sorts) other)
     by_case false differs e other k = k e
 
 -- a row of other sorts

@@ -10,8 +10,8 @@ use Rattle.tsp_run.proofs.OwnClocks.{runs_by_own_clocks, set_own}
 use Rattle.tsp_progress.specs.{ByTable.ByTable, ByTable.node_in, Delivered.Arrives, Delivered.Delivered, SentAway.past_there}
 use Rattle.tsp_progress.specs.Heeds.{Hears, is_master_role, role_before}
 use Rattle.tsp_progress.specs.ReachesInTime.{ClockedRunsReach, ReachesInTime, RunsReach, Tells}
-use Rattle.tsp_progress.proofs.AnswersProof.{hears_there, master-awake}
-use Rattle.tsp_progress.proofs.{HeedsProof.all_heed, SentAwayProof.lone-awake, TableProof.clocked_runs_by_table}
+use Rattle.tsp_progress.proofs.AnswersProof.{hears_there, master_awake}
+use Rattle.tsp_progress.proofs.{HeedsProof.all_heed, SentAwayProof.lone_awake, TableProof.clocked_runs_by_table}
 
 module _ {clocks : Clocks} {header : HeaderValue} {setting : Setting} (set : SetByClocks clocks header setting) (world : List Line)
     (table : ByTable header world) (long t : ℕ) (stays : ℕ → Bool) (s : List Line) (delivered : Delivered setting long t stays s world) where
@@ -28,12 +28,12 @@ module _ {clocks : Clocks} {header : HeaderValue} {setting : Setting} (set : Set
     masterup = λ l older p m tells kind. let a = arrival l older p m tells in record {
       arrives = a;
       does = λ alone. (all_heed header world table p.0).follows.masterup a.line (of p.0 a.before) (peer_of (node_of l)) m
-          (hears l older p m tells (lone-awake (role_before (node_in header p.0) a.line (of p.0 a.before)) alone)) kind alone refl;
+          (hears l older p m tells (lone_awake (role_before (node_in header p.0) a.line (of p.0 a.before)) alone)) kind alone refl;
     };
     quit = λ l older p m tells kind. let a = arrival l older p m tells in record {
       arrives = a;
       does = λ alone. (all_heed header world table p.0).follows.quit a.line (of p.0 a.before) (peer_of (node_of l)) m
-          (hears l older p m tells (lone-awake (role_before (node_in header p.0) a.line (of p.0 a.before)) alone)) kind alone refl;
+          (hears l older p m tells (lone_awake (role_before (node_in header p.0) a.line (of p.0 a.before)) alone)) kind alone refl;
     };
     slaveup = λ l older p m tells kind. let a = arrival l older p m tells in record {
       arrives = a;
@@ -41,7 +41,7 @@ module _ {clocks : Clocks} {header : HeaderValue} {setting : Setting} (set : Set
           let r = role_before (node_in header p.0) a.line (of p.0 a.before) in
           let both = and_parts (is_master_role r) (may_join (peer_of (node_of l)) m.number a.line.did.tick (past_there header p.0 a.line a.before)) may in
           (all_heed header world table p.0).serves.joins a.line (of p.0 a.before) (peer_of (node_of l)) m
-          (hears l older p m tells (master-awake set world table long t stays s delivered r both.0)) kind both.0 both.1;
+          (hears l older p m tells (master_awake set world table long t stays s delivered r both.0)) kind both.0 both.1;
     };
     adjtime = λ l older p m tells kind. let a = arrival l older p m tells in record {
       arrives = a;

@@ -2,7 +2,7 @@
 use Rattle.std.proofs.Common.{subst, arith, inl, inr, ℕ, Bool, List, [], ◌∷◌, refl}
 use Rattle.tsp_rules.specs.Values.{Acked, Become, Loose, Message, PeerId, Refuse}
 use Rattle.tsp_base.specs.Words.{HeaderValue, Here, Line, MessageValue, bare, of, view}
-use Rattle.tsp_base.proofs.PlaceLemmas.{Within-through}
+use Rattle.tsp_base.proofs.PlaceLemmas.{Within_through}
 use Rattle.tsp_promises.specs.{Fits.Fits, Fits.node_of, Setting.Setting}
 use Rattle.tsp_run.specs.{Clocked.Clocks, Clocked.SetByClocks, Clocked.clocks_of, Clocked.run_by}
 use Rattle.tsp_run.proofs.{OwnClocks.possible_own, OwnClocks.runs_by_own_clocks, OwnClocks.set_own, RunFits.clocked_runs_fit}
@@ -11,7 +11,7 @@ use Rattle.tsp_progress.specs.{AnswersInTime.Asks, ByTable.ByTable, ByTable.node
 use Rattle.tsp_progress.specs.{Heeds.arms_for_delay, SentAway.past_there, WinsLate.WinsLate}
 use Rattle.tsp_progress.specs.RefusedLoses.{ClockedRunsRefuse, RefusedLoses, RunsRefuse, WinsAfter}
 use Rattle.tsp_progress.proofs.{AckedProof.acked_in_time, GiveUpProof.clocked_runs_give_up, TableProof.clocked_runs_by_table}
-use Rattle.tsp_progress.proofs.{WinsLateProof.clocked_runs_win_late, WinsNot.no_change, WinsNot.then-wins}
+use Rattle.tsp_progress.proofs.{WinsLateProof.clocked_runs_win_late, WinsNot.no_change, WinsNot.then_wins}
 
 module _ {clocks : Clocks} {header : HeaderValue} {setting : Setting} (set : SetByClocks clocks header setting) (world : List Line)
     (table : ByTable header world) (fits : Fits setting world) (late : GivesUpLate world) (wins : WinsLate world) (long t : ℕ) (stays : ℕ → Bool)
@@ -27,8 +27,8 @@ module _ {clocks : Clocks} {header : HeaderValue} {setting : Setting} (set : Set
     | inl e ↦ record {
       end = e.end;
       before = e.before;
-      place = Within-through (Here e.end ∷ e.before) (view l.port (of (node_of l) a.taken.before)) (view l.port (of (node_of l) before)) e.place
-          (then-wins setting world fits wins long quick l older asks.posts.place p (Message answer) a.taken c before w);
+      place = Within_through (Here e.end ∷ e.before) (view l.port (of (node_of l) a.taken.before)) (view l.port (of (node_of l) before)) e.place
+          (then_wins setting world fits wins long quick l older asks.posts.place p (Message answer) a.taken c before w);
       open_is = e.open_is;
       is = e.is;
     }

@@ -7,7 +7,7 @@ use Rattle.tsp_base.specs.Words.{Acts, Deed, Did, Elsewhere, Here, Line, Sampled
 use Rattle.tsp_base.specs.Words.{exchange_after, is_going, is_measured, is_shared, is_starting, plain, role, role_after, seen_as, started, started_after, view}
 use Rattle.tsp_base.specs.Words.{word, word_after}
 use Rattle.tsp_base.specs.RoundFacts.{is_measured_after, word_asked, word_asked_by}
-use Rattle.tsp_base.proofs.PlaceLemmas.{Within-length, Within-through}
+use Rattle.tsp_base.proofs.PlaceLemmas.{Within_length, Within_through}
 use Rattle.tsp_rules.proofs.GuardFacts.{same_peer}
 use Rattle.tsp_promises.specs.{DeedFits.DeedFits, PortFits.PortFits}
 
@@ -32,9 +32,9 @@ pub record AskedAt (p : PeerId) (seen : List Seen) : Type 0 where
   pub starts : is_starting rest ≡ true
   pub same : started rest ≡ started seen
 
-asked-deed : (p : PeerId) (d : Did) (before : List Seen) (deed : Deed) → deed ≡ d.deed →
+asked_deed : (p : PeerId) (d : Did) (before : List Seen) (deed : Deed) → deed ≡ d.deed →
     is_measured_after p deed (is_starting before) (is_measured p before) ≡ true → (is_measured p before ≡ true → AskedAt p before) → AskedAt p (Here d ∷ before)
-asked-deed p d before deed is e h = by_deed deed is e where
+asked_deed p d before deed is e h = by_deed deed is e where
   kept : started (Here d ∷ before) ≡ started before → is_measured p before ≡ true → AskedAt p (Here d ∷ before)
   kept same m = let o = h m in record {
     post = o.post;
@@ -90,7 +90,7 @@ asked_at p (Elsewhere d ∷ before) e = let o = asked_at p before e in record {
   starts = o.starts;
   same = o.same;
 }
-asked_at p (Here d ∷ before) e = asked-deed p d before d.deed refl e (λ m. asked_at p before m)
+asked_at p (Here d ∷ before) e = asked_deed p d before d.deed refl e (λ m. asked_at p before m)
 
 -- deeds elsewhere are no boots
 abbrev pub Proper : List Seen → Type 0
@@ -98,16 +98,16 @@ Proper [] = Unit {0}
 Proper (Here d ∷ before) = Proper before
 Proper (Elsewhere d ∷ before) = (is_shared d.deed ≡ false) × Proper before
 
-unshared-beside : (b c : Bool) → (b || c) ≡ false → c ≡ false
-unshared-beside true c e = absurd (true≢false e)
-unshared-beside false c e = e
+unshared_beside : (b c : Bool) → (b || c) ≡ false → c ≡ false
+unshared_beside true c e = absurd (true≢false e)
+unshared_beside false c e = e
 
 pub proper_view : (q : Port) (lines : List Line) → Proper (view q lines)
 proper_view q [] = tt
 proper_view q (l ∷ before) = by_case ((l.port.0 == q.0) || is_shared l.did.deed) refl (proper_view q before) where
   by_case : (b : Bool) → ((l.port.0 == q.0) || is_shared l.did.deed) ≡ b → Proper (view q before) → Proper (seen_as b l.did ∷ view q before)
   by_case true e h = h
-  by_case false e h = (unshared-beside (l.port.0 == q.0) (is_shared l.did.deed) e, h)
+  by_case false e h = (unshared_beside (l.port.0 == q.0) (is_shared l.did.deed) e, h)
 
 -- the round that began here
 module _ (start : Did) (idle : List Seen) where
@@ -120,27 +120,27 @@ module _ (start : Did) (idle : List Seen) where
     pub started_is : started seen ≡ Start
     pub role_is : role seen ≡ r
 
-  not-start : (d : Did) (before : List Seen) → Within Start before → Here d ∷ before ≢ Start
-  not-start d before w e =
-      let few = Within-length Start before w in
+  not_start : (d : Did) (before : List Seen) → Within Start before → Here d ∷ before ≢ Start
+  not_start d before w e =
+      let few = Within_length Start before w in
       let same = ap length e in
       omega (arith, few, same)
 
   -- no deed since then has ended it, or begun another one
-  no-edge : (r : Role) (d : Did) (before : List Seen) → Within Start before → Going r (Here d ∷ before) → is_edge d.deed ≡ false
-  no-edge r d before w g = by_deed d.deed g.going g.started_is where
+  no_edge : (r : Role) (d : Did) (before : List Seen) → Within Start before → Going r (Here d ∷ before) → is_edge d.deed ≡ false
+  no_edge r d before w g = by_deed d.deed g.going g.started_is where
     by_deed : (deed : Deed) → is_some (armed_after deed (armed before)).close ≡ true → started_after deed (Here d ∷ before) (started before) ≡ Start →
         is_edge deed ≡ false
     by_deed (Acts Boot) e s = absurd (true≢false (sym e))
     by_deed (Acts (Become q)) e s = absurd (true≢false (sym e))
-    by_deed (Acts (Arm CloseAlarm at)) e s = absurd (not-start d before w s)
+    by_deed (Acts (Arm CloseAlarm at)) e s = absurd (not_start d before w s)
     by_deed (Acts (Ring CloseAlarm)) e s = absurd (true≢false (sym e))
     by_deed (Acts (Late CloseAlarm)) e s = absurd (true≢false (sym e))
     by_deed (Acts Abandon) e s = absurd (true≢false (sym e))
     by_deed _ e s = refl
 
-  one-back : (r : Role) (d : Did) (before : List Seen) → Within Start before → Going r (Here d ∷ before) → Going r before
-  one-back r d before w g = by_deed d.deed (no-edge r d before w g) g.going g.started_is g.role_is where
+  one_back : (r : Role) (d : Did) (before : List Seen) → Within Start before → Going r (Here d ∷ before) → Going r before
+  one_back r d before w g = by_deed d.deed (no_edge r d before w g) g.going g.started_is g.role_is where
     by_deed : (deed : Deed) → is_edge deed ≡ false → is_some (armed_after deed (armed before)).close ≡ true →
         started_after deed (Here d ∷ before) (started before) ≡ Start → role_after deed (role before) ≡ r → Going r before
     by_deed (Acts Boot) n e s k = absurd (true≢false n)
@@ -155,7 +155,7 @@ module _ (start : Did) (idle : List Seen) where
   back r s [] w v g = absurd (true≢false (sym g.going))
   back r s (k ∷ t) (inl e) v g = subst (λ u. Going r u) (sym e) g
   back r s (Elsewhere d ∷ t) (inr w) v g = back r s t w v (record { going = g.going; started_is = g.started_is; role_is = g.role_is })
-  back r s (Here d ∷ t) (inr w) v g = back r s t w v (one-back r d t (Within-through Start s t v w) g)
+  back r s (Here d ∷ t) (inr w) v g = back r s t w v (one_back r d t (Within_through Start s t v w) g)
 
   -- a sample stays
   module _ (p : PeerId) where
@@ -177,8 +177,8 @@ module _ (start : Did) (idle : List Seen) where
     persists r s (Elsewhere d ∷ before) (inr w) v g h =
         persists r s before w v (record { going = g.going; started_is = g.started_is; role_is = g.role_is }) h
     persists r s (Here d ∷ before) (inr w) v g h =
-        let in_round = Within-through Start s before v w in
-        kept-best d before d.deed (no-edge r d before in_round g) (persists r s before w v (one-back r d before in_round g) h)
+        let in_round = Within_through Start s before v w in
+        kept-best d before d.deed (no_edge r d before in_round g) (persists r s before w v (one_back r d before in_round g) h)
 
     -- a request of the round
     module _ (post : Did) (rest : List Seen) (asked_word counter : ℕ) (deed_is : post.deed ≡ Acts (Post (Peer p) (Stamp (Request asked_word counter))))
@@ -223,23 +223,23 @@ module _ (start : Did) (idle : List Seen) where
         sampled c new true = inl refl
         sampled c new false = inr stays
 
-        by-deed : (deed : Deed) → deed ≡ d.deed → is_edge deed ≡ false → DeedFits setup deed d before → Asked deed
-        by-deed (Acts Boot) is n f = absurd (true≢false n)
-        by-deed (Acts (Become r)) is n f = absurd (true≢false n)
-        by-deed (Acts (Arm CloseAlarm at)) is n f = absurd (true≢false n)
-        by-deed (Acts (Ring CloseAlarm)) is n f = absurd (true≢false n)
-        by-deed (Acts (Late CloseAlarm)) is n f = absurd (true≢false n)
-        by-deed (Acts Abandon) is n f = absurd (true≢false n)
-        by-deed (Acts (Post (Peer q) (Stamp (Request w c)))) is n f = posted q w c is f.fits.word_is ((q.0 == p.0) && (c == counter))
-        by-deed (Acts (Sample q c diff err ticket)) is n f = sampled c _ (q.0 == p.0)
-        by-deed _ is n f = inr stays
+        by_deed_holds : (deed : Deed) → deed ≡ d.deed → is_edge deed ≡ false → DeedFits setup deed d before → Asked deed
+        by_deed_holds (Acts Boot) is n f = absurd (true≢false n)
+        by_deed_holds (Acts (Become r)) is n f = absurd (true≢false n)
+        by_deed_holds (Acts (Arm CloseAlarm at)) is n f = absurd (true≢false n)
+        by_deed_holds (Acts (Ring CloseAlarm)) is n f = absurd (true≢false n)
+        by_deed_holds (Acts (Late CloseAlarm)) is n f = absurd (true≢false n)
+        by_deed_holds (Acts Abandon) is n f = absurd (true≢false n)
+        by_deed_holds (Acts (Post (Peer q) (Stamp (Request w c)))) is n f = posted q w c is f.fits.word_is ((q.0 == p.0) && (c == counter))
+        by_deed_holds (Acts (Sample q c diff err ticket)) is n f = sampled c _ (q.0 == p.0)
+        by_deed_holds _ is n f = inr stays
 
         same-word : (deed : Deed) → is_edge deed ≡ false → word_after deed d.step.cause (word (plain before)) ≡ word (plain before)
         same-word (Acts Boot) n = absurd (true≢false n)
         same-word _ n = refl
 
-        pub goes-on : is_edge d.deed ≡ false → DeedFits setup d.deed d before → Had (Here d ∷ before)
-        goes-on n f = elim (by-deed d.deed refl n f) [
+        pub goes_on : is_edge d.deed ≡ false → DeedFits setup d.deed d before → Had (Here d ∷ before)
+        goes_on n f = elim (by_deed_holds d.deed refl n f) [
           | inl h ↦ inl h
           | inr k ↦ inr (record { first = k.0; older = k.1.0; is = k.1.1.0; asked_is = k.1.1.1; word_same = same-word d.deed n ∙ o.word_same })
         ]
@@ -265,9 +265,9 @@ module _ (start : Did) (idle : List Seen) where
             })
           ]
       walk setup r (Here d ∷ before) (inr w) f pr g =
-          let in_round = Within-through Start (Here post ∷ rest) before (inr inside) w in
-          let n = no-edge r d before in_round g in
-          elim (walk setup r before w f.1 pr (one-back r d before in_round g)) [
+          let in_round = Within_through Start (Here post ∷ rest) before (inr inside) w in
+          let n = no_edge r d before in_round g in
+          elim (walk setup r before w f.1 pr (one_back r d before in_round g)) [
             | inl h ↦ inl (kept-best d before d.deed n h)
-            | inr o ↦ goes-on setup d before o n f.0
+            | inr o ↦ goes_on setup d before o n f.0
           ]

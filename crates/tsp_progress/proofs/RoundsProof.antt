@@ -6,7 +6,7 @@ use Rattle.tsp_rules.specs.Values.{Act, Boot, Become, Arm, Ring, Late, Alarm, Pr
 use Rattle.tsp_base.specs.Words.{Acts, Begins, Deed, Did, Line, Seen, Here, Elsewhere, armed, armed_after, of, plain, started, started_after, stood}
 use Rattle.tsp_base.specs.Words.{stood_after, tick_of, view}
 use Rattle.tsp_promises.specs.{Fits.Fits, Fits.node_of, Setting.Setting}
-use Rattle.tsp_promises.proofs.{shared.EverywhereLemmas.Everywhere-at, shared.EverywhereLemmas.Everywhere-from, shared.EverywhereLemmas.Everywhere-within}
+use Rattle.tsp_promises.proofs.{shared.EverywhereLemmas.Everywhere_at, shared.EverywhereLemmas.Everywhere_from, shared.EverywhereLemmas.Everywhere_within}
 use Rattle.tsp_progress.specs.AlarmsFit.{AlarmFits, AlarmsFit, ArmFits, Arms, LateFits, Manner, NextFits, NextTo, ProbeNext, RoundNext, arms_round_by}
 use Rattle.tsp_progress.specs.AlarmsFit.{newest_is, rings_round, rounds_by}
 use Rattle.tsp_progress.specs.{InTime.ArmedWithin, InTime.StartedWithin, InTime.StoodWithin, InTime.last_arm, InTime.last_arm_after, RoundsRecur.RoundBegins}
@@ -53,15 +53,15 @@ record Newest (test : Deed → Bool) (seen : List Seen) : Type 0 where
   pub is : seen ≡ Here last ∷ older
   pub holds : test last.deed ≡ true
 
-newest-of : (test : Deed → Bool) (seen : List Seen) → newest_is test seen ≡ true → Newest test seen
-newest-of test [] e = absurd (true≢false (sym e))
-newest-of test (Here d ∷ older) e = record { last = d; older = older; is = refl; holds = e }
-newest-of test (Elsewhere d ∷ older) e = absurd (true≢false (sym e))
+newest_of : (test : Deed → Bool) (seen : List Seen) → newest_is test seen ≡ true → Newest test seen
+newest_of test [] e = absurd (true≢false (sym e))
+newest_of test (Here d ∷ older) e = record { last = d; older = older; is = refl; holds = e }
+newest_of test (Elsewhere d ∷ older) e = absurd (true≢false (sym e))
 
 -- no alarm was late
-no-late : {A : Type 0} (late : ℕ) → late ≤ SLACK → (m : Manner) (a : Alarm) (before : List Seen) → AlarmsFit m before → Paced late before →
+no_late : {A : Type 0} (late : ℕ) → late ≤ SLACK → (m : Manner) (a : Alarm) (before : List Seen) → AlarmsFit m before → Paced late before →
     (last : Did) (older : List Seen) → before ≡ Here last ∷ older → last.deed ≡ Acts (Late a) → A
-no-late late slack m a before fits pace last older same is =
+no_late late slack m a before fits pace last older same is =
     let f = subst (λ deed. AlarmFits deed last older) is (subst (AlarmsFit m) same fits).0 in
     let p = subst (Paced late) same pace in
     let level = p.0.level (Late a) is in
@@ -70,15 +70,15 @@ no-late late slack m a before fits pace last older same is =
     let no : ⊥ = omega (arith, le, over, slack, level) in absurd no
 
 -- what asks nothing isn't in the midst of a round's beginning
-not-beginning : {A : Type 0} (m : Manner) (seen : List Seen) → NextTo m seen Begins → Beginning m seen ⊎ Probing m seen → A
-not-beginning m seen n (inl b) = let k = b.next Begins n in let is = k.1 in let bad : ⊥ = cc in absurd bad
-not-beginning m seen n (inr p) = let k = p.next Begins n in let is = k.1 in let bad : ⊥ = cc in absurd bad
+not_beginning : {A : Type 0} (m : Manner) (seen : List Seen) → NextTo m seen Begins → Beginning m seen ⊎ Probing m seen → A
+not_beginning m seen n (inl b) = let k = b.next Begins n in let is = k.1 in let bad : ⊥ = cc in absurd bad
+not_beginning m seen n (inr p) = let k = p.next Begins n in let is = k.1 in let bad : ⊥ = cc in absurd bad
 
 module _ (late : ℕ) (slack : late ≤ SLACK) (m : Manner) (d : Did) (before : List Seen) (level : d.tick ≡ tick_of (plain before)) (pace : Paced late before)
     (fits : AlarmsFit m before) (inv : Recurs m before) where
   -- Round as it was
-  ahead-kept : (at : ℕ) → (armed before).round ≡ Some at → at ≤ d.tick + ROUND
-  ahead-kept at e = let le = inv.ahead at e in omega (arith, le, level)
+  ahead_kept : (at : ℕ) → (armed before).round ≡ Some at → at ≤ d.tick + ROUND
+  ahead_kept at e = let le = inv.ahead at e in omega (arith, le, level)
 
   never : {A : Type 0} (a : Alarm) → LateFits a d before → A
   never a f = let le = soon_before late before pace a f.at f.armed_is in let over = f.late in let no : ⊥ = omega (arith, le, over, slack, level) in absurd no
@@ -93,10 +93,10 @@ module _ (late : ℕ) (slack : late ≤ SLACK) (m : Manner) (d : Did) (before : 
       ⊎ (Beginning m (Here d ∷ before) ⊎ Probing m (Here d ∷ before))
 
   -- Round is armed
-  round-armed : (at : ℕ) → d.deed ≡ Acts (Arm Round at) → ArmFits Round d before at → After (Acts (Arm Round at))
-  round-armed at is (inr f, by) = inl (λ to e. let same : at ≡ to = value_of e in
+  round_armed : (at : ℕ) → d.deed ≡ Acts (Arm Round at) → ArmFits Round d before at → After (Acts (Arm Round at))
+  round_armed at is (inr f, by) = inl (λ to e. let same : at ≡ to = value_of e in
       inr (inr (record { arm = d; idle = before; is = refl; until = omega (arith, same, f) })))
-  round-armed at is (inl f, by) = by_last (newest-of rounds_by before by) where
+  round_armed at is (inl f, by) = by_last (newest_of rounds_by before by) where
     won : (last : Did) (older : List Seen) → before ≡ Here last ∷ older → last.deed ≡ Acts (Become Master) → After (Acts (Arm Round at))
     won last older same become = inl (λ to e. let eq : at ≡ to = value_of e in inl (record {
       start = last;
@@ -117,16 +117,16 @@ module _ (late : ℕ) (slack : late ≤ SLACK) (m : Manner) (d : Did) (before : 
       by_deed : (deed : Deed) → k.last.deed ≡ deed → rounds_by deed ≡ true → After (Acts (Arm Round at))
       by_deed (Acts (Become Master)) e t = won k.last k.older k.is e
       by_deed (Acts (Ring Round)) e t = begun (ap (newest_is rings_round) k.is ∙ ap rings_round e)
-      by_deed (Acts (Late Round)) e t = no-late late slack m Round before fits pace k.last k.older k.is e
+      by_deed (Acts (Late Round)) e t = no_late late slack m Round before fits pace k.last k.older k.is e
       by_deed _ e t = absurd (true≢false (sym t))
 
   -- a round began now
   closing : (at : ℕ) → After (Acts (Arm CloseAlarm at))
-  closing at = inl (λ to e. let le = ahead-kept to e in inr (inl (record { start = d; idle = before; is = refl; until = le })))
+  closing at = inl (λ to e. let le = ahead_kept to e in inr (inl (record { start = d; idle = before; is = refl; until = le })))
 
   -- an act where the port isn't in the midst of a round's beginning
   arms : Settled → (a : Alarm) (at : ℕ) → d.deed ≡ Acts (Arm a at) → ArmFits a d before at → After (Acts (Arm a at))
-  arms st Round at is f = round-armed at is f
+  arms st Round at is f = round_armed at is f
   arms st CloseAlarm at is f = closing at
   arms st _ at is f = inl st
 
@@ -142,25 +142,25 @@ module _ (late : ℕ) (slack : late ≤ SLACK) (m : Manner) (d : Did) (before : 
   acts st (Late a) is f = never a f
   acts st _ is f = inl st
 
-  ahead-arms : (a : Alarm) (at : ℕ) → ArmFits a d before at → (to : ℕ) → (armed_after (Acts (Arm a at)) (armed before)).round ≡ Some to → to ≤ d.tick + ROUND
-  ahead-arms Round at (inl f, by) to e = let same : at ≡ to = value_of e in omega (arith, f, same)
-  ahead-arms Round at (inr f, by) to e = let same : at ≡ to = value_of e in omega (arith, f, same)
-  ahead-arms _ at f to e = ahead-kept to e
+  ahead_arms : (a : Alarm) (at : ℕ) → ArmFits a d before at → (to : ℕ) → (armed_after (Acts (Arm a at)) (armed before)).round ≡ Some to → to ≤ d.tick + ROUND
+  ahead_arms Round at (inl f, by) to e = let same : at ≡ to = value_of e in omega (arith, f, same)
+  ahead_arms Round at (inr f, by) to e = let same : at ≡ to = value_of e in omega (arith, f, same)
+  ahead_arms _ at f to e = ahead_kept to e
 
-  ahead-rings : (a : Alarm) → (to : ℕ) → (armed_after (Acts (Ring a)) (armed before)).round ≡ Some to → to ≤ d.tick + ROUND
-  ahead-rings Round to e = none_some refl e
-  ahead-rings _ to e = ahead-kept to e
+  ahead_rings : (a : Alarm) → (to : ℕ) → (armed_after (Acts (Ring a)) (armed before)).round ≡ Some to → to ≤ d.tick + ROUND
+  ahead_rings Round to e = none_some refl e
+  ahead_rings _ to e = ahead_kept to e
 
-  ahead-acts : (a : Act) → AlarmFits (Acts a) d before → (to : ℕ) → (armed_after (Acts a) (armed before)).round ≡ Some to → to ≤ d.tick + ROUND
-  ahead-acts Boot f to e = none_some refl e
-  ahead-acts (Become r) f to e = none_some refl e
-  ahead-acts (Arm a at) f to e = ahead-arms a at f to e
-  ahead-acts (Ring a) f to e = ahead-rings a to e
-  ahead-acts (Late a) f to e = never a f
-  ahead-acts _ f to e = ahead-kept to e
+  ahead_acts : (a : Act) → AlarmFits (Acts a) d before → (to : ℕ) → (armed_after (Acts a) (armed before)).round ≡ Some to → to ≤ d.tick + ROUND
+  ahead_acts Boot f to e = none_some refl e
+  ahead_acts (Become r) f to e = none_some refl e
+  ahead_acts (Arm a at) f to e = ahead_arms a at f to e
+  ahead_acts (Ring a) f to e = ahead_rings a to e
+  ahead_acts (Late a) f to e = never a f
+  ahead_acts _ f to e = ahead_kept to e
 
-  state-after : (a : Act) → d.deed ≡ Acts a → AlarmFits (Acts a) d before → NextTo m before d.deed → After d.deed
-  state-after a is f n = elim inv.state [
+  state_after : (a : Act) → d.deed ≡ Acts a → AlarmFits (Acts a) d before → NextTo m before d.deed → After d.deed
+  state_after a is f n = elim inv.state [
     | inl st ↦ subst After (sym is) (acts st a is f)
     | inr midst ↦ by_midst midst
   ] where
@@ -169,17 +169,17 @@ module _ (late : ℕ) (slack : late ≤ SLACK) (m : Manner) (d : Did) (before : 
         inr (inr (record { next = λ next to. subst (λ c. ProbeNext c next) b.arms (subst (λ deed. NextFits m deed d.tick before next) k.1 to) }))
     by_midst (inr p) = let k = p.next d.deed n in subst After (sym k.1) (closing k.0)
 
-  recurs-after : (a : Act) → d.deed ≡ Acts a → AlarmFits (Acts a) d before → NextTo m before d.deed → Recurs m (Here d ∷ before)
-  recurs-after a is f n = record {
-    ahead = subst (λ deed. (to : ℕ) → (armed_after deed (armed before)).round ≡ Some to → to ≤ d.tick + ROUND) (sym is) (ahead-acts a f);
-    state = state-after a is f n;
+  recurs_after : (a : Act) → d.deed ≡ Acts a → AlarmFits (Acts a) d before → NextTo m before d.deed → Recurs m (Here d ∷ before)
+  recurs_after a is f n = record {
+    ahead = subst (λ deed. (to : ℕ) → (armed_after deed (armed before)).round ≡ Some to → to ≤ d.tick + ROUND) (sym is) (ahead_acts a f);
+    state = state_after a is f n;
   }
 
 -- an entry that isn't an act here
-recurs-still : (m : Manner) (s : Seen) (before : List Seen) → tick_of (plain before) ≤ tick_of (plain (s ∷ before)) → (armed (s ∷ before)).round ≡
+recurs_still : (m : Manner) (s : Seen) (before : List Seen) → tick_of (plain before) ≤ tick_of (plain (s ∷ before)) → (armed (s ∷ before)).round ≡
     (armed before).round → stood (s ∷ before) ≡ stood before → started (s ∷ before) ≡ started before →
     last_arm Round (s ∷ before) ≡ last_arm Round before → NextTo m before Begins → Recurs m before → Recurs m (s ∷ before)
-recurs-still m s before order r st sd la n inv = record {
+recurs_still m s before order r st sd la n inv = record {
   ahead = λ at e. let le = inv.ahead at (sym r ∙ e) in omega (arith, le, order);
   state = elim inv.state [
     | inl settled ↦ inl (λ at e. elim (settled at (sym r ∙ e)) [
@@ -189,7 +189,7 @@ recurs-still m s before order r st sd la n inv = record {
         | inr w ↦ inr (record { arm = w.arm; idle = w.idle; is = la ∙ w.is; until = w.until })
       ])
     ])
-    | inr midst ↦ not-beginning m before n midst
+    | inr midst ↦ not_beginning m before n midst
   ];
 }
 
@@ -198,12 +198,12 @@ module _ (late : ℕ) (slack : late ≤ SLACK) (m : Manner) where
   recurs [] f p = record { ahead = λ at e. none_some refl e; state = inl (λ at e. none_some refl e) }
   recurs (Here d ∷ before) f p = by_deed d.deed refl f.0 f.1.0 (recurs before f.1.1 p.1) where
     by_deed : (deed : Deed) → d.deed ≡ deed → AlarmFits deed d before → NextTo m before d.deed → Recurs m before → Recurs m (Here d ∷ before)
-    by_deed (Acts a) is fits n inv = recurs-after late slack m d before (p.0.level a is) p.1 f.1.1 inv a is fits n
-    by_deed Begins is fits n inv = recurs-still m (Here d) before p.0.order (ap (λ deed. (armed_after deed (armed before)).round) is)
+    by_deed (Acts a) is fits n inv = recurs_after late slack m d before (p.0.level a is) p.1 f.1.1 inv a is fits n
+    by_deed Begins is fits n inv = recurs_still m (Here d) before p.0.order (ap (λ deed. (armed_after deed (armed before)).round) is)
         (ap (λ deed. stood_after deed (Here d ∷ before) (stood before)) is)
         (ap (λ deed. started_after deed (Here d ∷ before) (started before)) is) (ap (λ deed. last_arm_after Round deed (Here d ∷
         before) (last_arm Round before)) is) (subst (NextTo m before) is n) inv
-  recurs (Elsewhere d ∷ before) f p = recurs-still m (Elsewhere d) before p.0.order refl refl refl refl (free_to m before Begins f.0) (recurs before f.1 p.1)
+  recurs (Elsewhere d ∷ before) f p = recurs_still m (Elsewhere d) before p.0.order refl refl refl refl (free_to m before Begins f.0) (recurs before f.1 p.1)
 
   pub round_begins : (seen : List Seen) (x : ℕ) → Wakes m seen → Paced late seen → Watched late x seen → RoundBegins late x seen
   round_begins seen x w p watched master = by_round (armed seen).round refl (w.master master) where
@@ -218,15 +218,15 @@ module _ (late : ℕ) (slack : late ≤ SLACK) (m : Manner) where
           | inr k ↦ let le = k.until in inr (record { arm = k.arm; idle = k.idle; last = k.is; since = omega (arith, due, le) })
         ])
       ]
-      | inr midst ↦ not-beginning m seen (free_to m seen Begins w.settled) midst
+      | inr midst ↦ not_beginning m seen (free_to m seen Begins w.settled) midst
     ]
 
 pub rounds_recur : (m : ℕ → Manner) (setting : Setting) (late : ℕ) (world : List Line) → Fits setting world → Woken m world → Attended late world →
     late ≤ SLACK → RoundsRecur late world
-rounds_recur m setting late world f w a slack = Everywhere-from (BeginsAt (RoundBegins late)) world (λ l before within begins q.
+rounds_recur m setting late world f w a slack = Everywhere_from (BeginsAt (RoundBegins late)) world (λ l before within begins q.
     let n = node_of l in
-    let whole = Everywhere-within _ (l ∷ before) world f within in
-    let attended = Everywhere-within _ (l ∷ before) world a within in
-    let wakes = Everywhere-at (WokenAt m) l before world w within begins q in
+    let whole = Everywhere_within _ (l ∷ before) world f within in
+    let attended = Everywhere_within _ (l ∷ before) world a within in
+    let wakes = Everywhere_at (WokenAt m) l before world w within begins q in
     round_begins late slack (m n) (view q (of n before)) l.did.tick wakes (paced setting late before whole.1 attended.1 (m n) n q wakes.acts)
-    (Everywhere-at (AttendedAt late) l before world a within begins q))
+    (Everywhere_at (AttendedAt late) l before world a within begins q))

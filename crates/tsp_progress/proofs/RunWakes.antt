@@ -22,16 +22,16 @@ pub record Wakeful (m : ℕ → Manner) (h : List Line) : Type 0 where
   pub all : AllWake m h
 
 -- acts are no marks
-joined-woken : (m : ℕ → Manner) (step : Step) (x : ℕ) (acts : List Placed) (h : List Line) → Woken m h → Woken m (joined step x acts h)
-joined-woken m step x [] h w = w
-joined-woken m step x (a ∷ rest) h w = joined-woken m step x rest (line_of step x a.port (Acts a.act) ∷ h) (λ e q. let bad : ⊥ = cc in absurd bad, w)
+joined_woken : (m : ℕ → Manner) (step : Step) (x : ℕ) (acts : List Placed) (h : List Line) → Woken m h → Woken m (joined step x acts h)
+joined_woken m step x [] h w = w
+joined_woken m step x (a ∷ rest) h w = joined_woken m step x rest (line_of step x a.port (Acts a.act) ∷ h) (λ e q. let bad : ⊥ = cc in absurd bad, w)
 
 -- a step whose acts keep its node awake
 pub stepped_wakeful : (m : ℕ → Manner) (step : Step) (x : ℕ) (acts : List Placed) (h : List Line) → Wakeful m h →
     ((q : Port) → Settled (m step.node) true true (view q (joined step x acts (line_of step x first_port Begins ∷ of step.node h)))) →
     ((q : Port) → CausesFit (view q (joined step x acts (line_of step x first_port Begins ∷ of step.node h)))) → Wakeful m (stepped step x acts h)
 stepped_wakeful m step x acts h w after caused = record {
-  woken = joined-woken m step x acts (line_of step x first_port Begins ∷ h) (λ e q. w.all step.node q, w.woken);
+  woken = joined_woken m step x acts (line_of step x first_port Begins ∷ h) (λ e q. w.all step.node q, w.woken);
   all = λ n q. by_case n q (step.node == n) refl;
 } where
   by_case : (n : ℕ) (q : Port) (b : Bool) → (step.node == n) ≡ b → Wakes (m n) (view q (of n (stepped step x acts h)))
@@ -57,27 +57,27 @@ row_wakeful m past step x row h own same leads orders w =
     (orders.run x (in_node_step step x past) (begins_caused step x past order) q))
 
 module _ (clocks : Clocks) (header : HeaderValue) where
-  steps-wakeful : (h : List Line) (row : NodeRow) (step : Step) → LeadsAll (Each awake) row (Each awake) → LeadsAll (Each caused) row (Each caused) →
+  steps_wakeful : (h : List Line) (row : NodeRow) (step : Step) → LeadsAll (Each awake) row (Each awake) → LeadsAll (Each caused) row (Each caused) →
       Wakeful (manner_of header) h → Wakeful (manner_of header) (joins (Some (steps_by clocks header h row step)) h)
   unfolding steps_by
-  steps-wakeful h row step leads orders w = row_wakeful (manner_of header) (past_of header step h) step (tick_by clocks step) row h refl refl leads orders w
+  steps_wakeful h row step leads orders w = row_wakeful (manner_of header) (past_of header step h) step (tick_by clocks step) row h refl refl leads orders w
 
-  event-wakeful : (h : List Line) (e : Event) → Wakeful (manner_of header) h → Wakeful (manner_of header) (joins (happening_by clocks header h e) h)
-  event-wakeful h (BootAt at node word) w = steps-wakeful h boots_all (boot_by clocks h at node word) boots_awake boots_caused w
-  event-wakeful h (Turn at node) w = steps-wakeful h (answers_all NodeTurn) (record { at = at; node = node; cause = Turned }) (answers_awake NodeTurn)
+  event_wakeful : (h : List Line) (e : Event) → Wakeful (manner_of header) h → Wakeful (manner_of header) (joins (happening_by clocks header h e) h)
+  event_wakeful h (BootAt at node word) w = steps_wakeful h boots_all (boot_by clocks h at node word) boots_awake boots_caused w
+  event_wakeful h (Turn at node) w = steps_wakeful h (answers_all NodeTurn) (record { at = at; node = node; cause = Turned }) (answers_awake NodeTurn)
       (answers_caused NodeTurn) w
-  event-wakeful h (Take at k) w = arrived (arrives (networks header) (slice_get (posts h) k)) where
+  event_wakeful h (Take at k) w = arrived (arrives (networks header) (slice_get (posts h) k)) where
     arrived : (o : Option Arrival) → Wakeful (manner_of header) (joins (reaches_by clocks header h at k o) h)
     arrived None = w
-    arrived (Some a) = steps-wakeful h (answers_all (GotOn a.port a.from a.taken)) (record { at = at; node = a.node; cause = Came k })
+    arrived (Some a) = steps_wakeful h (answers_all (GotOn a.port a.from a.taken)) (record { at = at; node = a.node; cause = Came k })
         (answers_awake (GotOn a.port a.from a.taken)) (answers_caused (GotOn a.port a.from a.taken)) w
-  event-wakeful h (Bytes at node port from octets) w =
-      steps-wakeful h (answers_all (GotOn port from (taken_of octets))) (record { at = at; node = node; cause = Handed })
+  event_wakeful h (Bytes at node port from octets) w =
+      steps_wakeful h (answers_all (GotOn port from (taken_of octets))) (record { at = at; node = node; cause = Handed })
       (answers_awake (GotOn port from (taken_of octets))) (answers_caused (GotOn port from (taken_of octets))) w
 
 -- before anything
-nothing-wakes : (m : Manner) → Wakes m []
-nothing-wakes m = record {
+nothing_wakes : (m : Manner) → Wakes m []
+nothing_wakes m = record {
   acts = tt;
   settled = refl;
   causes = tt;
@@ -89,8 +89,8 @@ nothing-wakes m = record {
 }
 
 wakeful : (clocks : Clocks) (header : HeaderValue) (events : List Event) → Wakeful (manner_of header) (run_by clocks header events)
-wakeful clocks header [] = record { woken = tt; all = λ n q. nothing-wakes (manner_of header n) }
-wakeful clocks header (e ∷ before) = event-wakeful clocks header (run_by clocks header before) e (wakeful clocks header before)
+wakeful clocks header [] = record { woken = tt; all = λ n q. nothing_wakes (manner_of header n) }
+wakeful clocks header (e ∷ before) = event_wakeful clocks header (run_by clocks header before) e (wakeful clocks header before)
 
 pub clocked_runs_wake : ClockedRunsWake
 clocked_runs_wake clocks header events = let w = wakeful clocks header events in (w.woken, w.all)

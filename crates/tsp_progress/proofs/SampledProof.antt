@@ -8,12 +8,13 @@ use Rattle.tsp_base.specs.Words.{Acts, Begins, Deed, Did, HeaderValue, Here, Lin
 use Rattle.tsp_base.specs.Words.{estimate, estimate_of, exchange, is_among, is_shared, is_starting, line_of, of, plain, request_at_place}
 use Rattle.tsp_base.specs.Words.{role, seen_as, started, started_after, target_there, view, word}
 use Rattle.tsp_base.specs.RoundFacts.{is_starting_after}
-use Rattle.tsp_base.proofs.{PlaceLemmas.Within-tail, PlaceLemmas.Within-through}
+use Rattle.tsp_base.proofs.{PlaceLemmas.Within_tail, PlaceLemmas.Within_through}
 use Rattle.tsp_promises.specs.{Fits.Fits, Fits.SameStep, Fits.node_of, OwnFits.OwnFits, RoundFits.CloseFits}
 use Rattle.tsp_promises.specs.{MeasureFits.RequestFits, Setting.Setting, Setting.setup_of}
-use Rattle.tsp_promises.proofs.{shared.Clocks.tick-mono, shared.HistoryPlaces.line_on, shared.HistoryPlaces.own_in, promised.KnownProof.InStep, promised.KnownProof.in-step, promised.KnownProof.line-is}
+use Rattle.tsp_promises.proofs.{shared.Clocks.tick_mono, shared.HistoryPlaces.line_on, shared.HistoryPlaces.own_in, promised.KnownProof.InStep}
+use Rattle.tsp_promises.proofs.{promised.KnownProof.in_step_holds, promised.KnownProof.line_is}
 use Rattle.tsp_promises.proofs.promised.OwnFitsProof.{deed_fits, fits_at, fits_in, locate, own_fits, own_fits_at, port_fits, seen_before, seen_in, tick_in}
-use Rattle.tsp_promises.proofs.{leads.Leaves.nil-cons, promised.OwnFitsProof.Located, shared.RoundPlaces.started_at}
+use Rattle.tsp_promises.proofs.{leads.Leaves.nil_cons, promised.OwnFitsProof.Located, shared.RoundPlaces.started_at}
 use Rattle.tsp_run.specs.{Clocked.Clocks, Clocked.SetByClocks, Clocked.clocks_of, Clocked.run_by}
 use Rattle.tsp_run.proofs.{OwnClocks.possible_own, OwnClocks.runs_by_own_clocks, OwnClocks.set_own, RunFits.clocked_runs_fit}
 use Rattle.tsp_progress.specs.AnswersInTime.{AnswerTaken, Asks, Meanwhile}
@@ -26,20 +27,20 @@ use Rattle.tsp_progress.proofs.WorldPlaces.{WorldPlace, act_place, own_place, wo
 use Rattle.tsp_progress.proofs.RoundKept.{AskedAt, Going, Open, asked_at, back, persists, proper_view, walk}
 
 -- the last round's beginning is of this step, if the step has begun one
-step-of-start : (setting : Setting) (q : Port) (t : List Line) → OwnFits setting t → is_starting (view q t) ≡ true → (b : Did) (i : List Seen) →
+step_of_start : (setting : Setting) (q : Port) (t : List Line) → OwnFits setting t → is_starting (view q t) ≡ true → (b : Did) (i : List Seen) →
     started (view q t) ≡ Here b ∷ i → (s : Step) → InStep t s → b.step ≡ s
-step-of-start setting q [] f e b i st s ins = absurd (true≢false (sym e))
-step-of-start setting q (l ∷ t) f e b i st s ins = by_flag ((l.port.0 == q.0) || is_shared l.did.deed) refl e st
-    (λ e st same. step-of-start setting q t f.1 e b i st l.did.step same) where
+step_of_start setting q [] f e b i st s ins = absurd (true≢false (sym e))
+step_of_start setting q (l ∷ t) f e b i st s ins = by_flag ((l.port.0 == q.0) || is_shared l.did.deed) refl e st
+    (λ e st same. step_of_start setting q t f.1 e b i st l.did.step same) where
       goes : (a : Act) → l.did.deed ≡ Acts a → is_starting (view q t) ≡ true → started (view q t) ≡ Here b ∷ i →
           (is_starting (view q t) ≡ true → started (view q t) ≡ Here b ∷ i → InStep t l.did.step → b.step ≡ l.did.step) → b.step ≡ s
-      goes a is e st k = k e st (in-step a l.did.step t (subst (λ d. SameStep d l.did.step (dids t)) is f.0.step)) ∙ ins
+      goes a is e st k = k e st (in_step_holds a l.did.step t (subst (λ d. SameStep d l.did.step (dids t)) is f.0.step)) ∙ ins
 
       here : (deed : Deed) → l.did.deed ≡ deed → is_starting_after deed (is_starting (view q t)) ≡ true →
           started_after deed (Here l.did ∷ view q t) (started (view q t)) ≡ Here b ∷ i →
           (is_starting (view q t) ≡ true → started (view q t) ≡ Here b ∷ i → InStep t l.did.step → b.step ≡ l.did.step) → b.step ≡ s
       here Begins is e st k = absurd (true≢false (sym e))
-      here (Acts Boot) is e st k = nil-cons (Here b) i st
+      here (Acts Boot) is e st k = nil_cons (Here b) i st
       here (Acts (Arm CloseAlarm at)) is e st k = let same : l.did ≡ b = cc in ap (λ (d : Did). d.step) (sym same) ∙ ins
       here (Acts a) is e st k = goes a is e st k
 
@@ -73,7 +74,7 @@ module _ {clocks : Clocks} {header : HeaderValue} {setting : Setting} (set : Set
     Whole = view Q (of N older)
 
     older-in : Within older world
-    older-in = Within-tail c older world r.place
+    older-in = Within_tail c older world r.place
 
     older-fits : Fits setting older
     older-fits = fits_at setting older world fits older-in
@@ -108,13 +109,13 @@ module _ {clocks : Clocks} {header : HeaderValue} {setting : Setting} (set : Set
         (own_in N L request.older older request.node request.place)
 
     step-is : r.begin.did.step ≡ asked.post.step
-    step-is = step-of-start setting Q (of N request.older) own-fits.1 (ap is_starting request.before ∙ asked.starts) r.begin.did (view Q (of N r.before))
+    step-is = step_of_start setting Q (of N request.older) own-fits.1 (ap is_starting request.before ∙ asked.starts) r.begin.did (view Q (of N r.before))
         rest-started asked.post.step
-        (in-step (Post (Peer p) (Stamp (Request asked.word asked.counter))) asked.post.step (of N request.older)
+        (in_step_holds (Post (Peer p) (Stamp (Request asked.word asked.counter))) asked.post.step (of N request.older)
         (subst (λ d. SameStep d asked.post.step (dids (of N request.older))) asked.deed own-fits.0.step))
 
     begin-line : line_on Q r.begin.did ≡ r.begin
-    begin-line = line-is r.begin Q r.port
+    begin-line = line_is r.begin Q r.port
 
     begin-in : Within (line_on Q r.begin.did ∷ r.before) older
     begin-in = subst (λ k. Within (k ∷ r.before) older) (sym begin-line) r.began
@@ -126,8 +127,8 @@ module _ {clocks : Clocks} {header : HeaderValue} {setting : Setting} (set : Set
     begin-before = subst (λ k. Within (k ∷ r.before) request.older) begin-line
         (seen_before N Q r.begin.did asked.post r.before request.older older r.node request.node begin-in request.place start-in)
 
-    request-in : Within (L ∷ request.older) world
-    request-in = Within-through (L ∷ request.older) older world request.place older-in
+    request_in : Within (L ∷ request.older) world
+    request_in = Within_through (L ∷ request.older) older world request.place older-in
 
     -- the close comes more than twice `long` after the request
     apart : L.did.step.at + 2 * long < c.did.step.at
@@ -141,7 +142,7 @@ module _ {clocks : Clocks} {header : HeaderValue} {setting : Setting} (set : Set
           let same : r.begin.did.step.at ≡ L.did.step.at = ap (λ (k : Step). k.at) step-is in
           let begun_at : setting.tick N r.begin.did.step.at ≡ setting.tick N L.did.step.at = ap (setting.tick N) same in
           let closed = tick_in setting N c older world fits refl r.place in
-          let mono = tick-mono setting N c.did.step.at (L.did.step.at + 2 * long) (omega (arith, none)) in
+          let mono = tick_mono setting N c.did.step.at (L.did.step.at + 2 * long) (omega (arith, none)) in
           let fast = (setting.ticks N).fast L.did.step.at (2 * long) in
           absurd (omega (arith, over, begun, begun_at, closed, mono, fast, swift))
     ]
@@ -149,12 +150,12 @@ module _ {clocks : Clocks} {header : HeaderValue} {setting : Setting} (set : Set
     asks : Asks setting long t stays s L request.older world p (Stamp (Request asked.word asked.counter))
     asks = record {
       posts = record {
-        place = request-in;
+        place = request_in;
         deed = asked.deed;
         member = subst (λ n. is_among p (setting.members (setting.net n Q)) ≡ true) (sym request.node) m.member;
         other = subst (λ n. (p.0 == n) ≡ false) (sym request.node) m.other;
       };
-      since = Within-through s r.before request.older r.since (Within-tail r.begin r.before request.older begin-before);
+      since = Within_through s r.before request.older r.since (Within_tail r.begin r.before request.older begin-before);
       there = m.there;
       here = subst (λ n. stays n ≡ true) (sym request.node) m.here;
       early = (let a = apart in let told = m.told in omega (arith, a, told));
@@ -162,7 +163,7 @@ module _ {clocks : Clocks} {header : HeaderValue} {setting : Setting} (set : Set
 
     meanwhile : Meanwhile header setting long L request.older world p is_in_range
     meanwhile line before place later node net soon =
-        range line before place (Within-through (r.begin ∷ r.before) (L ∷ request.older) before (inr begin-before) later) node
+        range line before place (Within_through (r.begin ∷ r.before) (L ∷ request.older) before (inr begin-before) later) node
         (net ∙ (ap (λ n. setting.net n Q) (request.node ∙ sym r.node) ∙ ap (setting.net (node_of r.begin)) (sym r.port)))
         (let same = ap (λ (k : Step). k.at) step-is in omega (arith, same, soon))
 
@@ -186,7 +187,7 @@ module _ {clocks : Clocks} {header : HeaderValue} {setting : Setting} (set : Set
       taken-older = before-close taken.line taken.before taken.place taken-less
 
       taken-line : line_on Q taken.line.did ≡ taken.line
-      taken-line = line-is taken.line Q taken.port
+      taken-line = line_is taken.line Q taken.port
 
       -- what a port of the node sees there
       taken-seen : Within (Here taken.line.did ∷ Later) Whole
@@ -204,7 +205,7 @@ module _ {clocks : Clocks} {header : HeaderValue} {setting : Setting} (set : Set
       took-past = behind-ring taken.line.did Later (λ e. let k = sym taken.took ∙ e in cc) taken-seen
 
       later-past : Within Later close.past
-      later-past = Within-tail (Here taken.line.did) Later close.past took-past
+      later-past = Within_tail (Here taken.line.did) Later close.past took-past
 
       request-later : Within (Here asked.post ∷ Rest) Later
       request-later = seen_in N L request.older taken.before request.node taken.later
@@ -217,7 +218,7 @@ module _ {clocks : Clocks} {header : HeaderValue} {setting : Setting} (set : Set
       }
 
       start-later : Within (Here r.begin.did ∷ view Q (of N r.before)) Later
-      start-later = Within-through (Here r.begin.did ∷ view Q (of N r.before)) (Here asked.post ∷ Rest) Later (inr start-in) request-later
+      start-later = Within_through (Here r.begin.did ∷ view Q (of N r.before)) (Here asked.post ∷ Rest) Later (inr start-in) request-later
 
       going-later : Going r.begin.did (view Q (of N r.before)) Master Later
       going-later = back r.begin.did (view Q (of N r.before)) Master Later close.past later-past start-later going
@@ -226,14 +227,14 @@ module _ {clocks : Clocks} {header : HeaderValue} {setting : Setting} (set : Set
       request-word =
           let fit : RequestFits (view Q (of (node_of L) request.older)) asked.word asked.counter =
           (deed_fits setting L request.older (Acts (Post (Peer p) (Stamp (Request asked.word asked.counter)))) asked.deed
-          (fits_in setting L request.older world fits request-in)).fits in
+          (fits_in setting L request.older world fits request_in)).fits in
           fit.word_is ∙ ap (λ n. word (plain (view Q (of n request.older)))) request.node
 
       had : (is_some (best p Later) ≡ true)
           ⊎ Open r.begin.did (view Q (of N r.before)) p asked.post Rest asked.word asked.counter asked.deed request-word start-in Later
       had = walk r.begin.did (view Q (of N r.before)) p asked.post Rest asked.word asked.counter asked.deed request-word start-in (setup_of setting N Q) Master
           Later request-later (port_fits setting N taken.before (fits_at setting taken.before world fits
-          (Within-tail taken.line taken.before world taken.place)) Q) (proper_view Q (of N taken.before)) going-later
+          (Within_tail taken.line taken.before world taken.place)) Q) (proper_view Q (of N taken.before)) going-later
 
       persisted : (w : List Seen) → Within w close.past → Within (Here r.begin.did ∷ view Q (of N r.before)) w → is_some (best p w) ≡ true →
           is_some (best p close.past) ≡ true
@@ -281,7 +282,7 @@ module _ {clocks : Clocks} {header : HeaderValue} {setting : Setting} (set : Set
             (record { front = []; back = []; is = refl }) next)
 
         sample-line : line_on Q Sampled-line.did ≡ Sampled-line
-        sample-line = line-is Sampled-line Q taken.port
+        sample-line = line_is Sampled-line Q taken.port
 
         sample-view : view Q (of N sample-place.older) ≡ Here taken.line.did ∷ Later
         sample-view = ap (view Q) sample-place.own_is ∙ (let same : (taken.line.port.0 == Q.0) ≡ true = eq-eqb taken.line.port.0 Q.0 (ap (λ q. q.0) taken.port)

@@ -2,7 +2,7 @@
 use Rattle.std.proofs.Common.{sym, subst, arith, inl, inr, ◌∙◌, ◌≡◌, ◌≤◌, ◌<◌, ◌⊎◌, ℕ, ◌+◌, true, List, [], ◌∷◌, Option, Some, refl}
 use Rattle.tsp_rules.specs.Values.{Boot, Become, Arm, Ring, Late, Alarm, Search, Role, WINDOW, Port}
 use Rattle.tsp_base.specs.Words.{Acts, Deed, Did, Elsewhere, Here, Line, Seen, Within, armed, armed_after, plain, role, role_after, tick_of, view}
-use Rattle.tsp_base.proofs.PlaceLemmas.{Within-all}
+use Rattle.tsp_base.proofs.PlaceLemmas.{Within_all}
 use Rattle.tsp_progress.specs.AlarmsFit.{AlarmFits, AlarmsFit, Manner}
 use Rattle.tsp_progress.specs.FoundInTime.{Changed, is_change}
 use Rattle.tsp_progress.proofs.{InTimeProof.value_of, StandsProof.Rising}
@@ -47,23 +47,23 @@ module _ (r : Role) (x : ℕ) (d : Did) (before : List Seen) (low : x ≤ d.tick
       absurd bad
   lates _ f = inr stays
 
-  by-deed : (deed : Deed) → AlarmFits deed d before → After deed
-  by-deed (Acts Boot) f = inl refl
-  by-deed (Acts (Become s)) f = inl refl
-  by-deed (Acts (Arm a at)) f = arms a at f
-  by-deed (Acts (Ring a)) f = rings a f
-  by-deed (Acts (Late a)) f = lates a f
-  by-deed _ f = inr stays
+  by_deed_holds : (deed : Deed) → AlarmFits deed d before → After deed
+  by_deed_holds (Acts Boot) f = inl refl
+  by_deed_holds (Acts (Become s)) f = inl refl
+  by_deed_holds (Acts (Arm a at)) f = arms a at f
+  by_deed_holds (Acts (Ring a)) f = rings a f
+  by_deed_holds (Acts (Late a)) f = lates a f
+  by_deed_holds _ f = inr stays
 
 module _ (m : Manner) (r : Role) (x : ℕ) (early : List Seen) (seeks : Seeks r (x + WINDOW) early) (from : x ≤ tick_of (plain early)) where
   later : (s : Seen) (before : List Seen) → Changed early before → Changed early (s ∷ before)
   later s before c = record { change = c.change; before = c.before; place = inr c.place; since = c.since; is = c.is }
 
   -- ticks don't fall
-  low-tick : (seen : List Seen) → Within early seen → Rising seen → x ≤ tick_of (plain seen)
-  low-tick [] w up = subst (λ s. x ≤ tick_of (plain s)) w from
-  low-tick (s ∷ before) (inl e) up = subst (λ s. x ≤ tick_of (plain s)) e from
-  low-tick (s ∷ before) (inr w) up = let low = low-tick before w up.1 in let le = up.0 in omega (arith, low, le)
+  low_tick : (seen : List Seen) → Within early seen → Rising seen → x ≤ tick_of (plain seen)
+  low_tick [] w up = subst (λ s. x ≤ tick_of (plain s)) w from
+  low_tick (s ∷ before) (inl e) up = subst (λ s. x ≤ tick_of (plain s)) e from
+  low_tick (s ∷ before) (inr w) up = let low = low_tick before w up.1 in let le = up.0 in omega (arith, low, le)
 
   -- after this past, before Search is due, the role changed or the port still seeks
   pub kept : (seen : List Seen) → Within early seen → AlarmsFit m seen → Rising seen → tick_of (plain seen) < x + WINDOW →
@@ -76,7 +76,7 @@ module _ (m : Manner) (r : Role) (x : ℕ) (early : List Seen) (seeks : Seeks r 
   ]
   kept (Here d ∷ before) (inr w) f up high = elim (kept before w f.1.1 up.1 (let le = up.0 in omega (arith, le, high))) [
     | inl c ↦ inl (later (Here d) before c)
-    | inr k ↦ elim (by-deed r x d before (low-tick (Here d ∷ before) (inr w) up) high k d.deed f.0) [
+    | inr k ↦ elim (by_deed_holds r x d before (low_tick (Here d ∷ before) (inr w) up) high k d.deed f.0) [
       | inl is ↦ inl (record { change = d; before = before; place = inl refl; since = w; is = is })
       | inr still ↦ inr still
     ]
@@ -97,5 +97,5 @@ rising_within s (k ∷ before) (inr w) f = rising_within s before w f.1
 -- what a port sees of an earlier part of the lines it sees of all
 pub view_within : (q : Port) (s lines : List Line) → Within s lines → Within (view q s) (view q lines)
 view_within q s [] w = subst (λ k. Within (view q k) []) (sym w) refl
-view_within q s (l ∷ before) (inl e) = subst (λ k. Within (view q k) (view q (l ∷ before))) (sym e) (Within-all (view q (l ∷ before)))
+view_within q s (l ∷ before) (inl e) = subst (λ k. Within (view q k) (view q (l ∷ before))) (sym e) (Within_all (view q (l ∷ before)))
 view_within q s (l ∷ before) (inr w) = inr (view_within q s before w)

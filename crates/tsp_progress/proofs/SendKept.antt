@@ -4,7 +4,7 @@ use Rattle.std.proofs.Common.{false, List, [], ◌∷◌, Option, Some, None, le
 use Rattle.tsp_rules.specs.Values.{Boot, Post, Become, Acked, Gave, Message, PeerId, Peer, RETRY, TRIES}
 use Rattle.tsp_base.specs.Words.{Acts, Deed, Did, Elsewhere, Here, MessageValue, Seen, Sending, Within, acting, is_numbered, open_send, open_to}
 use Rattle.tsp_base.specs.Words.{open_to_after, plain, posts_of, role, role_after, sending_at, tick_of}
-use Rattle.tsp_base.proofs.PlaceLemmas.{Within-comparable, Within-length, Within-through}
+use Rattle.tsp_base.proofs.PlaceLemmas.{Within_comparable, Within_length, Within_through}
 use Rattle.tsp_rules.proofs.GuardFacts.{same_peer}
 use Rattle.tsp_promises.proofs.shared.ElectionFacts.{open_at}
 use Rattle.tsp_progress.specs.AckedInTime.{EndedBefore, NeverGivenUp, ends_otherwise}
@@ -57,13 +57,13 @@ module _ (p : PeerId) (m : MessageValue) (start : Did) (was : List Seen) (posts 
     gives q old true e = too-young q e old
     gives q old false e = stays
 
-    by-deed : (deed : Deed) → GaveFits deed d before → After deed
-    by-deed (Acts Boot) f = inl refl
-    by-deed (Acts (Become r)) f = inl refl
-    by-deed (Acts (Post (Peer q) (Message n))) f = by-flag ((q.0 == p.0) && (is_numbered n.kind && acting before)) (Here d ∷ before)
-    by-deed (Acts (Acked q)) f = by-flag (q.0 == p.0) []
-    by-deed (Acts (Gave q)) f = inr (gives q f (q.0 == p.0) refl)
-    by-deed _ f = inr stays
+    by_deed_holds : (deed : Deed) → GaveFits deed d before → After deed
+    by_deed_holds (Acts Boot) f = inl refl
+    by_deed_holds (Acts (Become r)) f = inl refl
+    by_deed_holds (Acts (Post (Peer q) (Message n))) f = by-flag ((q.0 == p.0) && (is_numbered n.kind && acting before)) (Here d ∷ before)
+    by_deed_holds (Acts (Acked q)) f = by-flag (q.0 == p.0) []
+    by_deed_holds (Acts (Gave q)) f = inr (gives q f (q.0 == p.0) refl)
+    by_deed_holds _ f = inr stays
 
   later : (s : Seen) (before : List Seen) → EndedBefore p First before → EndedBefore p First (s ∷ before)
   later s before e = record { end = e.end; before = e.before; place = inr e.place; open_is = e.open_is; is = e.is }
@@ -79,19 +79,19 @@ module _ (p : PeerId) (m : MessageValue) (start : Did) (was : List Seen) (posts 
   ]
   kept (Here d ∷ before) (inr w) f up soon = elim (kept before w f.1 up.1 (let le = up.0 in omega (arith, le, soon))) [
     | inl e ↦ inl (later (Here d) before e)
-    | inr k ↦ elim (by-deed d before soon k d.deed f.0) [
+    | inr k ↦ elim (by_deed_holds d before soon k d.deed f.0) [
       | inl is ↦ inl (record { end = d; before = before; place = inl refl; open_is = k.open_is; is = is })
       | inr h ↦ inr (record { open_is = h.0; role_is = h.1 })
     ]
   ]
 
   -- what is open stands in the past, and was open before
-  open-place : (seen : List Seen) → open_to p seen ≡ First → Within First seen
-  open-place seen e = (open_at p seen start was e).place
+  open_place : (seen : List Seen) → open_to p seen ≡ First → Within First seen
+  open_place seen e = (open_at p seen start was e).place
 
-  not-first : (d : Did) (before : List Seen) → Within First before → Here d ∷ before ≢ First
-  not-first d before w e =
-      let few = Within-length First before w in
+  not_first : (d : Did) (before : List Seen) → Within First before → Here d ∷ before ≢ First
+  not_first d before w e =
+      let few = Within_length First before w in
       let same = ap length e in
       omega (arith, few, same)
 
@@ -99,13 +99,13 @@ module _ (p : PeerId) (m : MessageValue) (start : Did) (was : List Seen) (posts 
   empty e = let bad : ⊥ = cc in absurd bad
 
   -- what ends it leaves another send, or none
-  end-flag : (b : Bool) (d : Did) (before : List Seen) → Within First before → (if b then Here d ∷ before else open_to p before) ≡ First → b ≡ false
-  end-flag true d before w e = absurd (not-first d before w e)
-  end-flag false d before w e = refl
+  end_flag : (b : Bool) (d : Did) (before : List Seen) → Within First before → (if b then Here d ∷ before else open_to p before) ≡ First → b ≡ false
+  end_flag true d before w e = absurd (not_first d before w e)
+  end_flag false d before w e = refl
 
-  none-flag : (b : Bool) (before : List Seen) → (if b then [] else open_to p before) ≡ First → b ≡ false
-  none-flag true before e = empty e
-  none-flag false before e = refl
+  none_flag : (b : Bool) (before : List Seen) → (if b then [] else open_to p before) ≡ First → b ≡ false
+  none_flag true before e = empty e
+  none_flag false before e = refl
 
   ended : (d : Did) (before : List Seen) → open_to p before ≡ First → ends_otherwise p d.deed (acting before) ≡ true → open_to p (Here d ∷ before) ≢ First
   ended d before open_is = by_deed d.deed where
@@ -113,21 +113,21 @@ module _ (p : PeerId) (m : MessageValue) (start : Did) (was : List Seen) (posts 
     by_deed (Acts Boot) e k = empty k
     by_deed (Acts (Become r)) e k = empty k
     by_deed (Acts (Post (Peer q) (Message n))) e k =
-        true≢false (sym e ∙ end-flag ((q.0 == p.0) && (is_numbered n.kind && acting before)) d before (open-place before open_is) k)
-    by_deed (Acts (Acked q)) e k = true≢false (sym e ∙ none-flag (q.0 == p.0) before k)
+        true≢false (sym e ∙ end_flag ((q.0 == p.0) && (is_numbered n.kind && acting before)) d before (open_place before open_is) k)
+    by_deed (Acts (Acked q)) e k = true≢false (sym e ∙ none_flag (q.0 == p.0) before k)
     by_deed _ e k = true≢false (sym e)
 
   -- so it was open at each place between
-  open-back : (s t : List Seen) → Within s t → Within First s → open_to p t ≡ First → open_to p s ≡ First
-  open-back s [] w f e = empty e
-  open-back s (k ∷ t) (inl same) f e = subst (λ u. open_to p u ≡ First) (sym same) e
-  open-back s (Elsewhere d ∷ t) (inr w) f e = open-back s t w f e
-  open-back s (Here d ∷ t) (inr w) f e = open-back s t w f (by_deed d.deed e) where
+  open_back : (s t : List Seen) → Within s t → Within First s → open_to p t ≡ First → open_to p s ≡ First
+  open_back s [] w f e = empty e
+  open_back s (k ∷ t) (inl same) f e = subst (λ u. open_to p u ≡ First) (sym same) e
+  open_back s (Elsewhere d ∷ t) (inr w) f e = open_back s t w f e
+  open_back s (Here d ∷ t) (inr w) f e = open_back s t w f (by_deed d.deed e) where
     long : Within First t
-    long = Within-through First s t f w
+    long = Within_through First s t f w
 
     flag : (b : Bool) → (if b then Here d ∷ t else open_to p t) ≡ First → open_to p t ≡ First
-    flag true k = absurd (not-first d t long k)
+    flag true k = absurd (not_first d t long k)
     flag false k = k
 
     none : (b : Bool) → (if b then [] else open_to p t) ≡ First → open_to p t ≡ First
@@ -143,18 +143,18 @@ module _ (p : PeerId) (m : MessageValue) (start : Did) (was : List Seen) (posts 
     by_deed _ k = k
 
   -- after a Gave of it none is open
-  given-up : (d : Did) (before : List Seen) → d.deed ≡ Acts (Gave p) → open_to p (Here d ∷ before) ≢ First
-  given-up d before is e = empty (let own : (p.0 == p.0) ≡ true = eq-eqb p.0 p.0 refl in let none : open_to p (Here d ∷ before) ≡ [] = rw (is, own) refl in
+  given_up : (d : Did) (before : List Seen) → d.deed ≡ Acts (Gave p) → open_to p (Here d ∷ before) ≢ First
+  given_up d before is e = empty (let own : (p.0 == p.0) ≡ true = eq-eqb p.0 p.0 refl in let none : open_to p (Here d ∷ before) ≡ [] = rw (is, own) refl in
       sym none ∙ e)
 
   -- what ended otherwise is never given up
   pub never : (seen : List Seen) → EndedBefore p First seen → NeverGivenUp p First seen
-  never seen c gave before place is open_is = elim (Within-comparable (Here c.end ∷ c.before) (Here gave ∷ before) seen c.place place) [
+  never seen c gave before place is open_is = elim (Within_comparable (Here c.end ∷ c.before) (Here gave ∷ before) seen c.place place) [
     | inl (inl e) ↦ same e
     | inl (inr w) ↦ ended c.end c.before c.open_is c.is
-        (open-back (Here c.end ∷ c.before) before w (inr (open-place c.before c.open_is)) open_is)
+        (open_back (Here c.end ∷ c.before) before w (inr (open_place c.before c.open_is)) open_is)
     | inr (inl e) ↦ same (sym e)
-    | inr (inr w) ↦ given-up gave before is (open-back (Here gave ∷ before) c.before w (inr (open-place before open_is)) c.open_is)
+    | inr (inr w) ↦ given_up gave before is (open_back (Here gave ∷ before) c.before w (inr (open_place before open_is)) c.open_is)
   ] where
     same : Here c.end ∷ c.before ≡ Here gave ∷ before → ⊥
     same e =

@@ -9,12 +9,12 @@ use Rattle.tsp_run.proofs.OwnClocks.{runs_by_own_clocks, set_own}
 use Rattle.tsp_progress.specs.{AnswersInTime.AnswerTaken, AnswersInTime.Asks, AnswersInTime.Meanwhile, ByTable.ByTable, ByTable.node_in, Delivered.Delivered}
 use Rattle.tsp_progress.specs.Heeds.{has_no_master, is_master_role, is_up_role, posts_bare, role_before}
 use Rattle.tsp_progress.specs.SentAway.{ClockedRunsSendAway, QuitEnds, RunsSendAway, SendsAwayInTime, SentAway, has_no_quit, past_there}
-use Rattle.tsp_progress.proofs.AnswersProof.{answer_heard, answered, answers_in_time, arrival, first_of, hears, master-awake, up-awake}
+use Rattle.tsp_progress.proofs.AnswersProof.{answer_heard, answered, answers_in_time, arrival, first_of, hears, master_awake, up_awake}
 use Rattle.tsp_progress.proofs.{HeedsProof.all_heed, TableProof.clocked_runs_by_table}
 
-pub lone-awake : (r : Role) → has_no_master r ≡ true → is_starting_role r ≡ false
-lone-awake Starting e = absurd (true≢false (sym e))
-lone-awake _ e = refl
+pub lone_awake : (r : Role) → has_no_master r ≡ true → is_starting_role r ≡ false
+lone_awake Starting e = absurd (true≢false (sym e))
+lone_awake _ e = refl
 
 module _ {clocks : Clocks} {header : HeaderValue} {setting : Setting} (set : SetByClocks clocks header setting) (world : List Line)
     (table : ByTable header world) (long t : ℕ) (stays : ℕ → Bool) (s : List Line) (delivered : Delivered setting long t stays s world) where
@@ -32,14 +32,14 @@ module _ {clocks : Clocks} {header : HeaderValue} {setting : Setting} (set : Set
       (Message (bare QuitKind number (node_in header p.0).name)) (first_of set world table long t stays s delivered quit [])
       ((all_heed header world table p.0).votes.sends_away a.line (of p.0 a.before) (peer_of (node_of l)) m
       (hears set world table long t stays s delivered l older p m asks a
-      (master-awake set world table long t stays s delivered (role_before (node_in header p.0) a.line (of p.0 a.before)) is_master)) kind is_master is_free) in
+      (master_awake set world table long t stays s delivered (role_before (node_in header p.0) a.line (of p.0 a.before)) is_master)) kind is_master is_free) in
       record {
         number = number;
         answer = back;
         follows = λ alone. (all_heed header world table (node_of l)).follows.quit back.line (of (node_of l) back.before) p
             (bare QuitKind number (node_in header p.0).name)
             (answer_heard set world table long t stays s delivered l older p (Message m) asks (bare QuitKind number (node_in header p.0).name) back
-            (lone-awake (role_before (node_in header (node_of l)) back.line (of (node_of l) back.before)) alone)) refl alone refl;
+            (lone_awake (role_before (node_in header (node_of l)) back.line (of (node_of l) back.before)) alone)) refl alone refl;
       }
 
   -- an acknowledgment that is taken ends its send
@@ -50,7 +50,7 @@ module _ {clocks : Clocks} {header : HeaderValue} {setting : Setting} (set : Set
     ends = λ awake open_is. (all_heed header world table (node_of l)).ends.ack back.line (of (node_of l) back.before) p
         (bare Ack number (node_in header p.0).name)
         (answer_heard set world table long t stays s delivered l older p d asks (bare Ack number (node_in header p.0).name) back
-        (up-awake set world table long t stays s delivered (role_before (node_in header (node_of l)) back.line (of (node_of l) back.before)) awake)) refl
+        (up_awake set world table long t stays s delivered (role_before (node_in header (node_of l)) back.line (of (node_of l) back.before)) awake)) refl
         awake open_is;
   }
 

@@ -12,9 +12,9 @@ use Rattle.tsp_progress.specs.ByTable.{ByTable, ClockedRunsByTable, KeepsTable, 
 use Rattle.tsp_progress.proofs.TableRows.{Tabled, answers_tabled, boots_tabled, keeps_mark}
 
 -- a step by a row that keeps it
-row-tabled : (header : HeaderValue) (step : Step) (x : ℕ) (row : NodeRow) (h : List Line) → LeadsAll Tabled row Tabled → ByTable header h →
+row_tabled : (header : HeaderValue) (step : Step) (x : ℕ) (row : NodeRow) (h : List Line) → LeadsAll Tabled row Tabled → ByTable header h →
     ByTable header (stepped step x (row x (in_node_step step x (past_of header step h))) h)
-row-tabled header step x row h leads table n = by_case (step.node == n) refl where
+row_tabled header step x row h leads table n = by_case (step.node == n) refl where
   now : List Line
   now = stepped step x (row x (in_node_step step x (past_of header step h))) h
 
@@ -27,29 +27,29 @@ row-tabled header step x row h leads table n = by_case (step.node == n) refl whe
       (sym (stepped_other n step x (row x (in_node_step step x (past_of header step h))) h e)) (table n)
 
 module _ (clocks : Clocks) (header : HeaderValue) where
-  steps-tabled : (h : List Line) (row : NodeRow) (step : Step) → LeadsAll Tabled row Tabled → ByTable header h →
+  steps_tabled : (h : List Line) (row : NodeRow) (step : Step) → LeadsAll Tabled row Tabled → ByTable header h →
       ByTable header (joins (Some (steps_by clocks header h row step)) h)
   unfolding steps_by
-  steps-tabled h row step leads table = row-tabled header step (tick_by clocks step) row h leads table
+  steps_tabled h row step leads table = row_tabled header step (tick_by clocks step) row h leads table
 
-  event-tabled : (h : List Line) (e : Event) → ByTable header h → ByTable header (joins (happening_by clocks header h e) h)
-  event-tabled h (BootAt at node word) t = steps-tabled h boots_all (boot_by clocks h at node word) boots_tabled t
-  event-tabled h (Turn at node) t = steps-tabled h (answers_all NodeTurn) (record { at = at; node = node; cause = Turned }) (answers_tabled NodeTurn) t
-  event-tabled h (Take at k) t = arrived (arrives (networks header) (slice_get (posts h) k)) where
+  event_tabled : (h : List Line) (e : Event) → ByTable header h → ByTable header (joins (happening_by clocks header h e) h)
+  event_tabled h (BootAt at node word) t = steps_tabled h boots_all (boot_by clocks h at node word) boots_tabled t
+  event_tabled h (Turn at node) t = steps_tabled h (answers_all NodeTurn) (record { at = at; node = node; cause = Turned }) (answers_tabled NodeTurn) t
+  event_tabled h (Take at k) t = arrived (arrives (networks header) (slice_get (posts h) k)) where
     arrived : (o : Option Arrival) → ByTable header (joins (reaches_by clocks header h at k o) h)
     arrived None = t
-    arrived (Some a) = steps-tabled h (answers_all (GotOn a.port a.from a.taken)) (record { at = at; node = a.node; cause = Came k })
+    arrived (Some a) = steps_tabled h (answers_all (GotOn a.port a.from a.taken)) (record { at = at; node = a.node; cause = Came k })
         (answers_tabled (GotOn a.port a.from a.taken)) t
-  event-tabled h (Bytes at node port from octets) t =
-      steps-tabled h (answers_all (GotOn port from (taken_of octets))) (record { at = at; node = node; cause = Handed })
+  event_tabled h (Bytes at node port from octets) t =
+      steps_tabled h (answers_all (GotOn port from (taken_of octets))) (record { at = at; node = node; cause = Handed })
       (answers_tabled (GotOn port from (taken_of octets))) t
 
-nothing-tabled : (header : HeaderValue) → ByTable header []
-nothing-tabled header n l older w = let bad : ⊥ = cc in absurd bad
+nothing_tabled : (header : HeaderValue) → ByTable header []
+nothing_tabled header n l older w = let bad : ⊥ = cc in absurd bad
 
 pub clocked_runs_by_table : ClockedRunsByTable
-clocked_runs_by_table clocks header [] = nothing-tabled header
-clocked_runs_by_table clocks header (e ∷ before) = event-tabled clocks header (run_by clocks header before) e (clocked_runs_by_table clocks header before)
+clocked_runs_by_table clocks header [] = nothing_tabled header
+clocked_runs_by_table clocks header (e ∷ before) = event_tabled clocks header (run_by clocks header before) e (clocked_runs_by_table clocks header before)
 
 pub runs_by_table : RunsByTable
 runs_by_table header events = subst (λ h. ByTable header h) (runs_by_own_clocks header events) (clocked_runs_by_table (clocks_of header) header events)

@@ -88,43 +88,43 @@ waking_of w = record {
 
 -- what asks nothing lets anything come
 
-free-next : (m : Manner) (deed : Deed) (x : ℕ) (older : List Seen) (next : Deed) → asks_next deed x older ≡ false → NextFits m deed x older next
-free-next m (Acts (Ring Quiet)) x older next e = absurd (true≢false e)
-free-next m (Acts (Ring Search)) x older next e = absurd (true≢false e)
-free-next m (Acts (Ring Elect)) x older next e = absurd (true≢false e)
-free-next m (Acts (Ring Window)) x older next e = absurd (true≢false e)
-free-next m (Acts (Ring Round)) x older next e = absurd (true≢false e)
-free-next m (Acts (Ring CloseAlarm)) x older next e = absurd (true≢false e)
-free-next m (Acts (Ring _)) x older next e = tt
-free-next m (Acts (Late Search)) x older next e = absurd (true≢false e)
-free-next m (Acts (Late Elect)) x older next e = absurd (true≢false e)
-free-next m (Acts (Late Window)) x older next e = absurd (true≢false e)
-free-next m (Acts (Late Round)) x older next e = absurd (true≢false e)
-free-next m (Acts (Late CloseAlarm)) x older next e = absurd (true≢false e)
-free-next m (Acts (Late Probe)) x older next e = absurd (true≢false e)
-free-next m (Acts (Late _)) x older next e = tt
-free-next m (Acts (Arm Round at)) x older next e = subst (λ b. RoundNext b next) (sym e) tt
-free-next m (Acts (Arm Probe at)) x older next e = subst (λ b. ProbeNext b next) (sym e) tt
-free-next m (Acts (Arm _ at)) x older next e = tt
-free-next m (Acts (Become Candidate)) x older next e = absurd (true≢false e)
-free-next m (Acts (Become _)) x older next e = tt
-free-next m (Acts (Back p)) x older next e = absurd (true≢false e)
-free-next m (Acts (Close count lo size mean)) x older next e = subst (λ b. CloseNext b mean next) (sym (not-false (is_zero mean) e)) tt
-free-next m _ x older next e = tt
+free_next : (m : Manner) (deed : Deed) (x : ℕ) (older : List Seen) (next : Deed) → asks_next deed x older ≡ false → NextFits m deed x older next
+free_next m (Acts (Ring Quiet)) x older next e = absurd (true≢false e)
+free_next m (Acts (Ring Search)) x older next e = absurd (true≢false e)
+free_next m (Acts (Ring Elect)) x older next e = absurd (true≢false e)
+free_next m (Acts (Ring Window)) x older next e = absurd (true≢false e)
+free_next m (Acts (Ring Round)) x older next e = absurd (true≢false e)
+free_next m (Acts (Ring CloseAlarm)) x older next e = absurd (true≢false e)
+free_next m (Acts (Ring _)) x older next e = tt
+free_next m (Acts (Late Search)) x older next e = absurd (true≢false e)
+free_next m (Acts (Late Elect)) x older next e = absurd (true≢false e)
+free_next m (Acts (Late Window)) x older next e = absurd (true≢false e)
+free_next m (Acts (Late Round)) x older next e = absurd (true≢false e)
+free_next m (Acts (Late CloseAlarm)) x older next e = absurd (true≢false e)
+free_next m (Acts (Late Probe)) x older next e = absurd (true≢false e)
+free_next m (Acts (Late _)) x older next e = tt
+free_next m (Acts (Arm Round at)) x older next e = subst (λ b. RoundNext b next) (sym e) tt
+free_next m (Acts (Arm Probe at)) x older next e = subst (λ b. ProbeNext b next) (sym e) tt
+free_next m (Acts (Arm _ at)) x older next e = tt
+free_next m (Acts (Become Candidate)) x older next e = absurd (true≢false e)
+free_next m (Acts (Become _)) x older next e = tt
+free_next m (Acts (Back p)) x older next e = absurd (true≢false e)
+free_next m (Acts (Close count lo size mean)) x older next e = subst (λ b. CloseNext b mean next) (sym (not-false (is_zero mean) e)) tt
+free_next m _ x older next e = tt
 
 pub free_to : (m : Manner) (seen : List Seen) (next : Deed) → owes_next seen ≡ false → NextTo m seen next
 free_to m [] next e = tt
-free_to m (Here d ∷ before) next e = free-next m d.deed d.tick before next e
+free_to m (Here d ∷ before) next e = free_next m d.deed d.tick before next e
 free_to m (Elsewhere d ∷ before) next e = tt
 
 -- a port whose newest act asks nothing hasn't just stood for election
-stands-asks : (deed : Deed) (x : ℕ) (older : List Seen) → asks_next deed x older ≡ false → stands_by deed ≡ false
-stands-asks (Acts (Become r)) x older e = e
-stands-asks _ x older e = refl
+stands_asks : (deed : Deed) (x : ℕ) (older : List Seen) → asks_next deed x older ≡ false → stands_by deed ≡ false
+stands_asks (Acts (Become r)) x older e = e
+stands_asks _ x older e = refl
 
 pub not_standing : (seen : List Seen) → owes_next seen ≡ false → stands_now seen ≡ false
 not_standing [] e = refl
-not_standing (Here d ∷ before) e = stands-asks d.deed d.tick before e
+not_standing (Here d ∷ before) e = stands_asks d.deed d.tick before e
 not_standing (Elsewhere d ∷ before) e = refl
 
 -- acts that are no change of the role, none on an alarm and no backing
@@ -138,41 +138,41 @@ is_far (Back p) = false
 is_far (Close count lo size mean) = false
 is_far _ = true
 
-windowed-keeps : (d : Did) (seen : List Seen) → stood (Here d ∷ seen) ≡ stood seen → (armed (Here d ∷ seen)).window ≡ (armed seen).window → Windowed seen →
+windowed_keeps : (d : Did) (seen : List Seen) → stood (Here d ∷ seen) ≡ stood seen → (armed (Here d ∷ seen)).window ≡ (armed seen).window → Windowed seen →
     Windowed (Here d ∷ seen)
-windowed-keeps d seen s a w = record { start = w.start; idle = w.idle; stood_is = s ∙ w.stood_is; window_is = a ∙ w.window_is }
+windowed_keeps d seen s a w = record { start = w.start; idle = w.idle; stood_is = s ∙ w.stood_is; window_is = a ∙ w.window_is }
 
-far-waking : {idle lead : Bool} (a : Act) → is_far a ≡ true → (x : ℕ) (past : Past) → NextTo (manner past) past.seen (Acts a) →
+far_waking : {idle lead : Bool} (a : Act) → is_far a ≡ true → (x : ℕ) (past : Past) → NextTo (manner past) past.seen (Acts a) →
     Waking (manner past) idle lead past.seen → Waking (manner past) idle lead (grown x past (a ∷ [])).seen
-far-waking Boot e x past n w = absurd (true≢false (sym e))
-far-waking (Become r) e x past n w = absurd (true≢false (sym e))
-far-waking (Arm a at) e x past n w = absurd (true≢false (sym e))
-far-waking (Ring a) e x past n w = absurd (true≢false (sym e))
-far-waking (Late a) e x past n w = absurd (true≢false (sym e))
-far-waking (Back p) e x past n w = absurd (true≢false (sym e))
-far-waking (Close count lo size mean) e x past n w = absurd (true≢false (sym e))
-far-waking _ e x past n w = record {
+far_waking Boot e x past n w = absurd (true≢false (sym e))
+far_waking (Become r) e x past n w = absurd (true≢false (sym e))
+far_waking (Arm a at) e x past n w = absurd (true≢false (sym e))
+far_waking (Ring a) e x past n w = absurd (true≢false (sym e))
+far_waking (Late a) e x past n w = absurd (true≢false (sym e))
+far_waking (Back p) e x past n w = absurd (true≢false (sym e))
+far_waking (Close count lo size mean) e x past n w = absurd (true≢false (sym e))
+far_waking _ e x past n w = record {
   acts = (tt, (n, w.acts));
   starting = w.starting;
-  candidate = λ r. windowed-keeps _ past.seen refl refl (w.candidate r);
+  candidate = λ r. windowed_keeps _ past.seen refl refl (w.candidate r);
   loose = w.loose;
   follow = w.follow;
   master = w.master;
 }
 
-far-free : (a : Act) → is_far a ≡ true → (x : ℕ) (past : Past) → owes_next (grown x past (a ∷ [])).seen ≡ false
-far-free Boot e x past = absurd (true≢false (sym e))
-far-free (Become r) e x past = absurd (true≢false (sym e))
-far-free (Arm a at) e x past = absurd (true≢false (sym e))
-far-free (Ring a) e x past = absurd (true≢false (sym e))
-far-free (Late a) e x past = absurd (true≢false (sym e))
-far-free (Back p) e x past = absurd (true≢false (sym e))
-far-free (Close count lo size mean) e x past = absurd (true≢false (sym e))
-far-free _ e x past = refl
+far_free : (a : Act) → is_far a ≡ true → (x : ℕ) (past : Past) → owes_next (grown x past (a ∷ [])).seen ≡ false
+far_free Boot e x past = absurd (true≢false (sym e))
+far_free (Become r) e x past = absurd (true≢false (sym e))
+far_free (Arm a at) e x past = absurd (true≢false (sym e))
+far_free (Ring a) e x past = absurd (true≢false (sym e))
+far_free (Late a) e x past = absurd (true≢false (sym e))
+far_free (Back p) e x past = absurd (true≢false (sym e))
+far_free (Close count lo size mean) e x past = absurd (true≢false (sym e))
+far_free _ e x past = refl
 
 -- they leave what is armed alone
 pub keeps : {idle lead : Bool} (a : Act) → is_far a ≡ true → (x : ℕ) (past : Past) → Nearly idle lead x past → Nearly idle lead x (grown x past (a ∷ []))
-keeps a e x past s = record { waking = far-waking a e x past (free_to (manner past) past.seen (Acts a) s.free) s.waking; free = far-free a e x past }
+keeps a e x past s = record { waking = far_waking a e x past (free_to (manner past) past.seen (Acts a) s.free) s.waking; free = far_free a e x past }
 
 pub far : {idle lead : Bool} (a : Act) → is_far a ≡ true → Leads (Nearly idle lead) (puts a) (Nearly idle lead)
 far a e = Leads_puts a (keeps a e)
@@ -181,35 +181,35 @@ far a e = Leads_puts a (keeps a e)
 abbrev pub near_sorts : List Sort
 near_sorts = Booting ∷ Leading ∷ Following ∷ Changing ∷ Backing ∷ Alarming ∷ Rounding ∷ Closing ∷ []
 
-far-arm : (a : Alarm) (at : ℕ) → is_in (sort_of (Arm a at)) near_sorts ≡ false → is_far (Arm a at) ≡ true
-far-arm Probe at e = absurd (true≢false e)
-far-arm CloseAlarm at e = absurd (true≢false e)
-far-arm _ at e = absurd (true≢false e)
+far_arm : (a : Alarm) (at : ℕ) → is_in (sort_of (Arm a at)) near_sorts ≡ false → is_far (Arm a at) ≡ true
+far_arm Probe at e = absurd (true≢false e)
+far_arm CloseAlarm at e = absurd (true≢false e)
+far_arm _ at e = absurd (true≢false e)
 
-far-ring : (a : Alarm) → is_in (sort_of (Ring a)) near_sorts ≡ false → is_far (Ring a) ≡ true
-far-ring Probe e = absurd (true≢false e)
-far-ring CloseAlarm e = absurd (true≢false e)
-far-ring _ e = absurd (true≢false e)
+far_ring : (a : Alarm) → is_in (sort_of (Ring a)) near_sorts ≡ false → is_far (Ring a) ≡ true
+far_ring Probe e = absurd (true≢false e)
+far_ring CloseAlarm e = absurd (true≢false e)
+far_ring _ e = absurd (true≢false e)
 
-far-late : (a : Alarm) → is_in (sort_of (Late a)) near_sorts ≡ false → is_far (Late a) ≡ true
-far-late Probe e = absurd (true≢false e)
-far-late CloseAlarm e = absurd (true≢false e)
-far-late _ e = absurd (true≢false e)
+far_late : (a : Alarm) → is_in (sort_of (Late a)) near_sorts ≡ false → is_far (Late a) ≡ true
+far_late Probe e = absurd (true≢false e)
+far_late CloseAlarm e = absurd (true≢false e)
+far_late _ e = absurd (true≢false e)
 
-far-become : (r : Role) → is_in (sort_of (Become r)) near_sorts ≡ false → is_far (Become r) ≡ true
-far-become Master e = absurd (true≢false e)
-far-become (Follow p) e = absurd (true≢false e)
-far-become _ e = absurd (true≢false e)
+far_become : (r : Role) → is_in (sort_of (Become r)) near_sorts ≡ false → is_far (Become r) ≡ true
+far_become Master e = absurd (true≢false e)
+far_become (Follow p) e = absurd (true≢false e)
+far_become _ e = absurd (true≢false e)
 
-other-far : (a : Act) → is_in (sort_of a) near_sorts ≡ false → is_far a ≡ true
-other-far Boot e = absurd (true≢false e)
-other-far (Become r) e = far-become r e
-other-far (Arm a at) e = far-arm a at e
-other-far (Ring a) e = far-ring a e
-other-far (Late a) e = far-late a e
-other-far (Back p) e = absurd (true≢false e)
-other-far (Close count lo size mean) e = absurd (true≢false e)
-other-far _ e = refl
+other_far : (a : Act) → is_in (sort_of a) near_sorts ≡ false → is_far a ≡ true
+other_far Boot e = absurd (true≢false e)
+other_far (Become r) e = far_become r e
+other_far (Arm a at) e = far_arm a at e
+other_far (Ring a) e = far_ring a e
+other_far (Late a) e = far_late a e
+other_far (Back p) e = absurd (true≢false e)
+other_far (Close count lo size mean) e = absurd (true≢false e)
+other_far _ e = refl
 
 -- a row of other sorts
 pub far_row : (sorts : List Sort) (row : Row) → ((a : Act) → is_in (sort_of a) sorts ≡ true → is_in (sort_of a) near_sorts ≡ false) → Emits sorts row →
@@ -217,7 +217,7 @@ pub far_row : (sorts : List Sort) (row : Row) → ((a : Act) → is_in (sort_of 
 unfolding puts
 far_row sorts row out e {idle} {lead} = record {
   run = λ x past h. Keeps_by {T = ℕ} sorts (λ p n. Nearly idle lead n p) row
-      (λ a i y p n k. keeps a (other-far a (out a i)) y p k) e x past x h;
+      (λ a i y p n k. keeps a (other_far a (out a i)) y p k) e x past x h;
 }
 
 -- a change of the role turns all alarms off
@@ -241,8 +241,8 @@ ready r x past s = record { acts = s.waking.acts; next = free_to (manner past) p
 -- arming, after a change of the role
 
 -- the port is in no other role
-other-role : {A : Type 0} {now : Role} (r s : Role) → now ≡ r → now ≡ s → (r ≡ s → ⊥) → A
-other-role r s is e n = absurd (n (sym is ∙ e))
+other_role : {A : Type 0} {now : Role} (r s : Role) → now ≡ r → now ≡ s → (r ≡ s → ⊥) → A
+other_role r s is e n = absurd (n (sym is ∙ e))
 
 pub loose_searches : Leads (Became Loose) (arms Search WINDOW) Awake
 unfolding arms
@@ -250,30 +250,30 @@ loose_searches = record {
   run = λ x past h. record {
     waking = record {
       acts = (refl, (free_to (manner past) past.seen _ h.free, h.acts));
-      starting = λ r. other-role Loose Starting h.role_is r (λ e. let bad : ⊥ = cc in bad);
-      candidate = λ r. other-role Loose Candidate h.role_is r (λ e. let bad : ⊥ = cc in bad);
+      starting = λ r. other_role Loose Starting h.role_is r (λ e. let bad : ⊥ = cc in bad);
+      candidate = λ r. other_role Loose Candidate h.role_is r (λ e. let bad : ⊥ = cc in bad);
       loose = λ i r. refl;
-      follow = λ i p r. other-role Loose (Follow p) h.role_is r (λ e. let bad : ⊥ = cc in bad);
-      master = λ l r. other-role Loose Master h.role_is r (λ e. let bad : ⊥ = cc in bad);
+      follow = λ i p r. other_role Loose (Follow p) h.role_is r (λ e. let bad : ⊥ = cc in bad);
+      master = λ l r. other_role Loose Master h.role_is r (λ e. let bad : ⊥ = cc in bad);
     };
     free = refl;
   };
 }
 
-delay-fits : (x : ℕ) (past : Past) (long : ℕ) → delay_at x past ≡ long → x + long ≡ x + delay (word (plain past.seen))
-delay-fits x past long e = ap (λ n. x + n) (sym e)
+delay_fits : (x : ℕ) (past : Past) (long : ℕ) → delay_at x past ≡ long → x + long ≡ x + delay (word (plain past.seen))
+delay_fits x past long e = ap (λ n. x + n) (sym e)
 
 pub loose_elects : Leads (Became Loose) arms_elect Awake
 unfolding arms_elect arms
 loose_elects = Leads_reading delay_at (arms Elect) (λ long. record {
   run = λ x past h. record {
     waking = record {
-      acts = (delay-fits x past long h.1, (free_to (manner past) past.seen _ h.0.free, h.0.acts));
-      starting = λ r. other-role Loose Starting h.0.role_is r (λ e. let bad : ⊥ = cc in bad);
-      candidate = λ r. other-role Loose Candidate h.0.role_is r (λ e. let bad : ⊥ = cc in bad);
+      acts = (delay_fits x past long h.1, (free_to (manner past) past.seen _ h.0.free, h.0.acts));
+      starting = λ r. other_role Loose Starting h.0.role_is r (λ e. let bad : ⊥ = cc in bad);
+      candidate = λ r. other_role Loose Candidate h.0.role_is r (λ e. let bad : ⊥ = cc in bad);
       loose = λ i r. or_right (is_some (armed past.seen).search) true refl;
       follow = λ i p r. refl;
-      master = λ l r. other-role Loose Master h.0.role_is r (λ e. let bad : ⊥ = cc in bad);
+      master = λ l r. other_role Loose Master h.0.role_is r (λ e. let bad : ⊥ = cc in bad);
     };
     free = refl;
   };
@@ -284,12 +284,12 @@ unfolding arms_elect arms
 follow_elects p = Leads_reading delay_at (arms Elect) (λ long. record {
   run = λ x past h. record {
     waking = record {
-      acts = (delay-fits x past long h.1, (free_to (manner past) past.seen _ h.0.free, h.0.acts));
-      starting = λ r. other-role (Follow p) Starting h.0.role_is r (λ e. let bad : ⊥ = cc in bad);
-      candidate = λ r. other-role (Follow p) Candidate h.0.role_is r (λ e. let bad : ⊥ = cc in bad);
+      acts = (delay_fits x past long h.1, (free_to (manner past) past.seen _ h.0.free, h.0.acts));
+      starting = λ r. other_role (Follow p) Starting h.0.role_is r (λ e. let bad : ⊥ = cc in bad);
+      candidate = λ r. other_role (Follow p) Candidate h.0.role_is r (λ e. let bad : ⊥ = cc in bad);
       loose = λ i r. or_right (is_some (armed past.seen).search) true refl;
       follow = λ i q r. refl;
-      master = λ l r. other-role (Follow p) Master h.0.role_is r (λ e. let bad : ⊥ = cc in bad);
+      master = λ l r. other_role (Follow p) Master h.0.role_is r (λ e. let bad : ⊥ = cc in bad);
     };
     free = refl;
   };
@@ -301,10 +301,10 @@ master_rounds = record {
   run = λ x past h. record {
     waking = record {
       acts = ((inl refl, h.newest rounds_by), (free_to (manner past) past.seen _ h.free, h.acts));
-      starting = λ r. other-role Master Starting h.role_is r (λ e. let bad : ⊥ = cc in bad);
-      candidate = λ r. other-role Master Candidate h.role_is r (λ e. let bad : ⊥ = cc in bad);
-      loose = λ i r. other-role Master Loose h.role_is r (λ e. let bad : ⊥ = cc in bad);
-      follow = λ i p r. other-role Master (Follow p) h.role_is r (λ e. let bad : ⊥ = cc in bad);
+      starting = λ r. other_role Master Starting h.role_is r (λ e. let bad : ⊥ = cc in bad);
+      candidate = λ r. other_role Master Candidate h.role_is r (λ e. let bad : ⊥ = cc in bad);
+      loose = λ i r. other_role Master Loose h.role_is r (λ e. let bad : ⊥ = cc in bad);
+      follow = λ i p r. other_role Master (Follow p) h.role_is r (λ e. let bad : ⊥ = cc in bad);
       master = λ l r. refl;
     };
     free = and_left (newest_is rings_round past.seen) (nat_le (x + ROUND) (x + ROUND)) (h.newest rings_round);
@@ -343,11 +343,11 @@ candidate_windows = record {
   run = λ x past h. record {
     waking = record {
       acts = (refl, (h.next (x + WINDOW), h.acts));
-      starting = λ r. other-role Candidate Starting h.role_is r (λ e. let bad : ⊥ = cc in bad);
+      starting = λ r. other_role Candidate Starting h.role_is r (λ e. let bad : ⊥ = cc in bad);
       candidate = λ r. record { start = h.start; idle = h.before; stood_is = h.stood_is; window_is = ap (λ n. Some (n + WINDOW)) (sym h.now) };
-      loose = λ i r. other-role Candidate Loose h.role_is r (λ e. let bad : ⊥ = cc in bad);
-      follow = λ i p r. other-role Candidate (Follow p) h.role_is r (λ e. let bad : ⊥ = cc in bad);
-      master = λ l r. other-role Candidate Master h.role_is r (λ e. let bad : ⊥ = cc in bad);
+      loose = λ i r. other_role Candidate Loose h.role_is r (λ e. let bad : ⊥ = cc in bad);
+      follow = λ i p r. other_role Candidate (Follow p) h.role_is r (λ e. let bad : ⊥ = cc in bad);
+      master = λ l r. other_role Candidate Master h.role_is r (λ e. let bad : ⊥ = cc in bad);
     };
     free = refl;
   };
@@ -365,10 +365,10 @@ starting_quiets = record {
     waking = record {
       acts = (refl, (free_to (manner past) past.seen _ h.became.free, h.became.acts));
       starting = λ r start before s. ap (λ n. Some (n + QUIET)) (sym h.boot);
-      candidate = λ r. other-role Starting Candidate h.became.role_is r (λ e. let bad : ⊥ = cc in bad);
-      loose = λ i r. other-role Starting Loose h.became.role_is r (λ e. let bad : ⊥ = cc in bad);
-      follow = λ i p r. other-role Starting (Follow p) h.became.role_is r (λ e. let bad : ⊥ = cc in bad);
-      master = λ l r. other-role Starting Master h.became.role_is r (λ e. let bad : ⊥ = cc in bad);
+      candidate = λ r. other_role Starting Candidate h.became.role_is r (λ e. let bad : ⊥ = cc in bad);
+      loose = λ i r. other_role Starting Loose h.became.role_is r (λ e. let bad : ⊥ = cc in bad);
+      follow = λ i p r. other_role Starting (Follow p) h.became.role_is r (λ e. let bad : ⊥ = cc in bad);
+      master = λ l r. other_role Starting Master h.became.role_is r (λ e. let bad : ⊥ = cc in bad);
     };
     free = refl;
   };
@@ -389,9 +389,9 @@ unfolding arms_elect arms
 arms_any_elect = Leads_reading delay_at (arms Elect) (λ long. record {
   run = λ x past h. let w = h.0.waking in record {
     waking = record {
-      acts = (delay-fits x past long h.1, (h.0.next (x + long), w.acts));
+      acts = (delay_fits x past long h.1, (h.0.next (x + long), w.acts));
       starting = w.starting;
-      candidate = λ r. windowed-keeps _ past.seen refl refl (w.candidate r);
+      candidate = λ r. windowed_keeps _ past.seen refl refl (w.candidate r);
       loose = λ i r. or_right (is_some (armed past.seen).search) true refl;
       follow = λ i q r. refl;
       master = w.master;
@@ -406,7 +406,7 @@ backs_another p = Leads_puts (Back p) (λ x past s. let w = s.waking in record {
   waking = record {
     acts = (tt, (free_to (manner past) past.seen (Acts (Back p)) s.free, w.acts));
     starting = w.starting;
-    candidate = λ r. windowed-keeps _ past.seen refl refl (w.candidate r);
+    candidate = λ r. windowed_keeps _ past.seen refl refl (w.candidate r);
     loose = w.loose;
     follow = w.follow;
     master = w.master;
@@ -427,7 +427,7 @@ arms_search = record {
     waking = record {
       acts = (refl, (h.next (x + WINDOW), h.waking.acts));
       starting = h.waking.starting;
-      candidate = λ r. windowed-keeps _ past.seen refl refl (h.waking.candidate r);
+      candidate = λ r. windowed_keeps _ past.seen refl refl (h.waking.candidate r);
       loose = λ i r. refl;
       follow = λ i p r. absurd (h.alone p r);
       master = h.waking.master;
@@ -443,34 +443,34 @@ is_needed CloseAlarm = false
 is_needed ResolveAlarm = false
 is_needed _ = true
 
-arm-waking : {idle lead : Bool} (a : Alarm) → is_needed a ≡ false → (x at : ℕ) (past : Past) →
+arm_waking : {idle lead : Bool} (a : Alarm) → is_needed a ≡ false → (x at : ℕ) (past : Past) →
     ArmFits a (record { step = past.step; tick = x; deed = Acts (Arm a at) }) past.seen at → NextTo (manner past) past.seen (Acts (Arm a at)) →
     Waking (manner past) idle lead past.seen → Waking (manner past) idle lead (grown x past (Arm a at ∷ [])).seen
-arm-waking Probe e x at past fits n w = record {
+arm_waking Probe e x at past fits n w = record {
   acts = (fits, (n, w.acts));
   starting = w.starting;
-  candidate = λ r. windowed-keeps _ past.seen refl refl (w.candidate r);
+  candidate = λ r. windowed_keeps _ past.seen refl refl (w.candidate r);
   loose = w.loose;
   follow = w.follow;
   master = w.master;
 }
-arm-waking CloseAlarm e x at past fits n w = record {
+arm_waking CloseAlarm e x at past fits n w = record {
   acts = (fits, (n, w.acts));
   starting = w.starting;
-  candidate = λ r. windowed-keeps _ past.seen refl refl (w.candidate r);
+  candidate = λ r. windowed_keeps _ past.seen refl refl (w.candidate r);
   loose = w.loose;
   follow = w.follow;
   master = w.master;
 }
-arm-waking ResolveAlarm e x at past fits n w = record {
+arm_waking ResolveAlarm e x at past fits n w = record {
   acts = (fits, (n, w.acts));
   starting = w.starting;
-  candidate = λ r. windowed-keeps _ past.seen refl refl (w.candidate r);
+  candidate = λ r. windowed_keeps _ past.seen refl refl (w.candidate r);
   loose = w.loose;
   follow = w.follow;
   master = w.master;
 }
-arm-waking _ e x at past fits n w = absurd (true≢false e)
+arm_waking _ e x at past fits n w = absurd (true≢false e)
 
 -- Probe may be armed: no round begins with it
 pub record Probing (x : ℕ) (past : Past) : Type 0 where
@@ -481,7 +481,7 @@ pub arms_probe : Leads Probing (arms Probe PROBE) Awake
 unfolding arms
 arms_probe = record {
   run = λ x past h. record {
-    waking = arm-waking Probe refl x (x + PROBE) past refl (free_to (manner past) past.seen (Acts (Arm Probe (x + PROBE))) h.awake.free) h.awake.waking;
+    waking = arm_waking Probe refl x (x + PROBE) past refl (free_to (manner past) past.seen (Acts (Arm Probe (x + PROBE))) h.awake.free) h.awake.waking;
     free = h.other;
   };
 }
@@ -490,7 +490,7 @@ pub arms_resolve : {idle lead : Bool} → Leads (Nearly idle lead) (arms Resolve
 unfolding arms
 arms_resolve = record {
   run = λ x past h. record {
-    waking = arm-waking ResolveAlarm refl x (x + WINDOW) past refl (free_to (manner past) past.seen (Acts (Arm ResolveAlarm (x + WINDOW))) h.free) h.waking;
+    waking = arm_waking ResolveAlarm refl x (x + WINDOW) past refl (free_to (manner past) past.seen (Acts (Arm ResolveAlarm (x + WINDOW))) h.free) h.waking;
     free = refl;
   };
 }
@@ -501,14 +501,14 @@ arms_resolve = record {
 abbrev pub Due : Alarm → ℕ → Past → Type 0
 Due a x past = Awake x past × (is_due a x past ≡ true)
 
-over-is : (o : Option ℕ) (x : ℕ) → is_over o x ≡ true → (at : ℕ) × ((o ≡ Some at) × (at ≤ x))
-over-is None x e = absurd (true≢false (sym e))
-over-is (Some at) x e = (at, (refl, leb-true at x e))
+over_is : (o : Option ℕ) (x : ℕ) → is_over o x ≡ true → (at : ℕ) × ((o ≡ Some at) × (at ≤ x))
+over_is None x e = absurd (true≢false (sym e))
+over_is (Some at) x e = (at, (refl, leb-true at x e))
 
-rings-fits : (a : Alarm) (here : Did) (x : ℕ) (past : Past) → here.tick ≡ x → is_due a x past ≡ true → (a ≢ Quiet → is_in_time a x past ≡ true) →
+rings_fits : (a : Alarm) (here : Did) (x : ℕ) (past : Past) → here.tick ≡ x → is_due a x past ≡ true → (a ≢ Quiet → is_in_time a x past ≡ true) →
     RingFits a here past.seen
-rings-fits a here x past now due soon =
-    let o = over-is (deadline (armed past.seen) a) x due in
+rings_fits a here x past now due soon =
+    let o = over_is (deadline (armed past.seen) a) x due in
     let at = o.1.1 in
     record {
       at = o.0;
@@ -518,10 +518,10 @@ rings-fits a here x past now due soon =
           omega (arith, le, now);
     }
 
-late-fits : (a : Alarm) (here : Did) (x : ℕ) (past : Past) → here.tick ≡ x → a ≢ Quiet → is_due a x past ≡ true → is_in_time a x past ≡ false →
+late_fits : (a : Alarm) (here : Did) (x : ℕ) (past : Past) → here.tick ≡ x → a ≢ Quiet → is_due a x past ≡ true → is_in_time a x past ≡ false →
     LateFits a here past.seen
-late-fits a here x past now other due late =
-    let o = over-is (deadline (armed past.seen) a) x due in
+late_fits a here x past now other due late =
+    let o = over_is (deadline (armed past.seen) a) x due in
     let not-met : is_met (Some o.0) x ≡ false = sym (ap (λ k. is_met k x) o.1.0) ∙ late in
     let more = leb-false x (o.0 + SLACK) not-met in
     record { at = o.0; armed_is = o.1.0; late = omega (arith, more, now); other = other }
@@ -534,9 +534,9 @@ pub record Rang (deed : Deed) (x : ℕ) (past : Past) : Type 0 where
   pub held_is : held older ≡ held past.seen
   pub is : (test : Deed → Bool) → newest_is test past.seen ≡ test deed
 
-ring-rang : (a : Alarm) (x : ℕ) (past : Past) → RingFits a (record { step = past.step; tick = x; deed = Acts (Ring a) }) past.seen → Awake x past →
+ring_rang : (a : Alarm) (x : ℕ) (past : Past) → RingFits a (record { step = past.step; tick = x; deed = Acts (Ring a) }) past.seen → Awake x past →
     Rang (Acts (Ring a)) x (grown x past (Ring a ∷ []))
-ring-rang a x past f s = record {
+ring_rang a x past f s = record {
   acts = (f, (free_to (manner past) past.seen (Acts (Ring a)) s.free, s.waking.acts));
   older = past.seen;
   next = λ n k. k;
@@ -544,9 +544,9 @@ ring-rang a x past f s = record {
   is = λ test. refl;
 }
 
-late-rang : (a : Alarm) (x : ℕ) (past : Past) → LateFits a (record { step = past.step; tick = x; deed = Acts (Late a) }) past.seen → Awake x past →
+late_rang : (a : Alarm) (x : ℕ) (past : Past) → LateFits a (record { step = past.step; tick = x; deed = Acts (Late a) }) past.seen → Awake x past →
     Rang (Acts (Late a)) x (grown x past (Late a ∷ []))
-late-rang a x past f s = record {
+late_rang a x past f s = record {
   acts = (f, (free_to (manner past) past.seen (Acts (Late a)) s.free, s.waking.acts));
   older = past.seen;
   next = λ n k. k;
@@ -571,79 +571,79 @@ lead_after Round = false
 lead_after _ = true
 
 module _ (x : ℕ) (past : Past) (s : Awake x past) where
-  ring-waking : (a : Alarm) → is_lasting a ≡ true → RingFits a (record { step = past.step; tick = x; deed = Acts (Ring a) }) past.seen →
+  ring_waking : (a : Alarm) → is_lasting a ≡ true → RingFits a (record { step = past.step; tick = x; deed = Acts (Ring a) }) past.seen →
       Waking (manner past) (idle_after a) (lead_after a) (grown x past (Ring a ∷ [])).seen
-  ring-waking Quiet e f = absurd (true≢false (sym e))
-  ring-waking Window e f = absurd (true≢false (sym e))
-  ring-waking Search e f = let w = s.waking in record {
+  ring_waking Quiet e f = absurd (true≢false (sym e))
+  ring_waking Window e f = absurd (true≢false (sym e))
+  ring_waking Search e f = let w = s.waking in record {
     acts = (f, (free_to (manner past) past.seen _ s.free, w.acts));
     starting = w.starting;
-    candidate = λ r. windowed-keeps _ past.seen refl refl (w.candidate r);
+    candidate = λ r. windowed_keeps _ past.seen refl refl (w.candidate r);
     loose = λ i r. absurd (true≢false (sym i));
     follow =
         λ i p r. absurd (true≢false (sym i));
     master = w.master;
   }
-  ring-waking Elect e f = let w = s.waking in record {
+  ring_waking Elect e f = let w = s.waking in record {
     acts = (f, (free_to (manner past) past.seen _ s.free, w.acts));
     starting = w.starting;
-    candidate = λ r. windowed-keeps _ past.seen refl refl (w.candidate r);
+    candidate = λ r. windowed_keeps _ past.seen refl refl (w.candidate r);
     loose = λ i r. absurd (true≢false (sym i));
     follow =
         λ i p r. absurd (true≢false (sym i));
     master = w.master;
   }
-  ring-waking Round e f = let w = s.waking in record {
+  ring_waking Round e f = let w = s.waking in record {
     acts = (f, (free_to (manner past) past.seen _ s.free, w.acts));
     starting = w.starting;
-    candidate = λ r. windowed-keeps _ past.seen refl refl (w.candidate r);
+    candidate = λ r. windowed_keeps _ past.seen refl refl (w.candidate r);
     loose = w.loose;
     follow = w.follow;
     master = λ l r. absurd (true≢false (sym l));
   }
-  ring-waking _ e f = let w = s.waking in record {
+  ring_waking _ e f = let w = s.waking in record {
     acts = (f, (free_to (manner past) past.seen _ s.free, w.acts));
     starting = w.starting;
-    candidate = λ r. windowed-keeps _ past.seen refl refl (w.candidate r);
+    candidate = λ r. windowed_keeps _ past.seen refl refl (w.candidate r);
     loose = w.loose;
     follow = w.follow;
     master = w.master;
   }
 
-  late-waking : (a : Alarm) → is_lasting a ≡ true → LateFits a (record { step = past.step; tick = x; deed = Acts (Late a) }) past.seen →
+  late_waking : (a : Alarm) → is_lasting a ≡ true → LateFits a (record { step = past.step; tick = x; deed = Acts (Late a) }) past.seen →
       Waking (manner past) (idle_after a) (lead_after a) (grown x past (Late a ∷ [])).seen
-  late-waking Quiet e f = absurd (true≢false (sym e))
-  late-waking Window e f = absurd (true≢false (sym e))
-  late-waking Search e f = let w = s.waking in record {
+  late_waking Quiet e f = absurd (true≢false (sym e))
+  late_waking Window e f = absurd (true≢false (sym e))
+  late_waking Search e f = let w = s.waking in record {
     acts = (f, (free_to (manner past) past.seen _ s.free, w.acts));
     starting = w.starting;
-    candidate = λ r. windowed-keeps _ past.seen refl refl (w.candidate r);
+    candidate = λ r. windowed_keeps _ past.seen refl refl (w.candidate r);
     loose = λ i r. absurd (true≢false (sym i));
     follow =
         λ i p r. absurd (true≢false (sym i));
     master = w.master;
   }
-  late-waking Elect e f = let w = s.waking in record {
+  late_waking Elect e f = let w = s.waking in record {
     acts = (f, (free_to (manner past) past.seen _ s.free, w.acts));
     starting = w.starting;
-    candidate = λ r. windowed-keeps _ past.seen refl refl (w.candidate r);
+    candidate = λ r. windowed_keeps _ past.seen refl refl (w.candidate r);
     loose = λ i r. absurd (true≢false (sym i));
     follow =
         λ i p r. absurd (true≢false (sym i));
     master = w.master;
   }
-  late-waking Round e f = let w = s.waking in record {
+  late_waking Round e f = let w = s.waking in record {
     acts = (f, (free_to (manner past) past.seen _ s.free, w.acts));
     starting = w.starting;
-    candidate = λ r. windowed-keeps _ past.seen refl refl (w.candidate r);
+    candidate = λ r. windowed_keeps _ past.seen refl refl (w.candidate r);
     loose = w.loose;
     follow = w.follow;
     master = λ l r. absurd (true≢false (sym l));
   }
-  late-waking _ e f = let w = s.waking in record {
+  late_waking _ e f = let w = s.waking in record {
     acts = (f, (free_to (manner past) past.seen _ s.free, w.acts));
     starting = w.starting;
-    candidate = λ r. windowed-keeps _ past.seen refl refl (w.candidate r);
+    candidate = λ r. windowed_keeps _ past.seen refl refl (w.candidate r);
     loose = w.loose;
     follow = w.follow;
     master = w.master;
@@ -657,26 +657,26 @@ pub record Off (a : Alarm) (deed : Deed) (x : ℕ) (past : Past) : Type 0 where
 -- a due alarm that ends no role rings in time
 pub rings_off : (a : Alarm) → is_lasting a ≡ true → Leads (λ x past. Due a x past × (is_in_time a x past ≡ true)) (puts (Ring a)) (Off a (Acts (Ring a)))
 rings_off a lasts = Leads_puts (Ring a) (λ x past h.
-    let f = rings-fits a (record { step = past.step; tick = x; deed = Acts (Ring a) }) x past refl h.0.1 (λ n. h.1) in
-    record { rang = ring-rang a x past f h.0.0; waking = ring-waking x past h.0.0 a lasts f })
+    let f = rings_fits a (record { step = past.step; tick = x; deed = Acts (Ring a) }) x past refl h.0.1 (λ n. h.1) in
+    record { rang = ring_rang a x past f h.0.0; waking = ring_waking x past h.0.0 a lasts f })
 
 -- it is late
 pub late_off : (a : Alarm) → is_lasting a ≡ true → a ≢ Quiet → Leads (λ x past. Due a x past × (is_in_time a x past ≡ false)) (puts (Late a))
     (Off a (Acts (Late a)))
 late_off a lasts other = Leads_puts (Late a) (λ x past h.
-    let f = late-fits a (record { step = past.step; tick = x; deed = Acts (Late a) }) x past refl other h.0.1 h.1 in
-    record { rang = late-rang a x past f h.0.0; waking = late-waking x past h.0.0 a lasts f })
+    let f = late_fits a (record { step = past.step; tick = x; deed = Acts (Late a) }) x past refl other h.0.1 h.1 in
+    record { rang = late_rang a x past f h.0.0; waking = late_waking x past h.0.0 a lasts f })
 
 -- Quiet rings whenever it is due
 pub quiet_off : Leads (Due Quiet) (puts (Ring Quiet)) (Rang (Acts (Ring Quiet)))
-quiet_off = Leads_puts (Ring Quiet) (λ x past h. ring-rang Quiet x past (rings-fits Quiet _ x past refl h.1 (λ n. absurd (n refl))) h.0)
+quiet_off = Leads_puts (Ring Quiet) (λ x past h. ring_rang Quiet x past (rings_fits Quiet _ x past refl h.1 (λ n. absurd (n refl))) h.0)
 
 -- Window rings in time, or is late
 pub window_off : Leads (λ x past. Due Window x past × (is_in_time Window x past ≡ true)) (puts (Ring Window)) (Rang (Acts (Ring Window)))
-window_off = Leads_puts (Ring Window) (λ x past h. ring-rang Window x past (rings-fits Window _ x past refl h.0.1 (λ n. h.1)) h.0.0)
+window_off = Leads_puts (Ring Window) (λ x past h. ring_rang Window x past (rings_fits Window _ x past refl h.0.1 (λ n. h.1)) h.0.0)
 
 pub window_late : Leads (λ x past. Due Window x past × (is_in_time Window x past ≡ false)) (puts (Late Window)) (Rang (Acts (Late Window)))
-window_late = Leads_puts (Late Window) (λ x past h. late-rang Window x past (late-fits Window _ x past refl (λ e. let bad : ⊥ = cc in bad) h.0.1 h.1) h.0.0)
+window_late = Leads_puts (Late Window) (λ x past h. late_rang Window x past (late_fits Window _ x past refl (λ e. let bad : ⊥ = cc in bad) h.0.1 h.1) h.0.0)
 
 -- a role that an alarm's act asks for
 pub ready_by : {deed : Deed} (r : Role) → ((m : Manner) (x : ℕ) (older : List Seen) → NextFits m deed x older (Acts (Become r))) → (x : ℕ) (past : Past) →
@@ -697,23 +697,23 @@ settled_by a x past free h = record { waking = h.waking; free = free }
 pub far_by : {deed : Deed} (a : Alarm) (act : Act) → is_far act ≡ true → ((m : Manner) (x : ℕ) (older : List Seen) → NextFits m deed x older (Acts act)) →
     Leads (Off a deed) (puts act) (Nearly (idle_after a) (lead_after a))
 far_by a act far k = Leads_puts act (λ x past h. record {
-  waking = far-waking act far x past (h.rang.next (Acts act) (k (manner past) x h.rang.older)) h.waking;
-  free = far-free act far x past;
+  waking = far_waking act far x past (h.rang.next (Acts act) (k (manner past) x h.rang.older)) h.waking;
+  free = far_free act far x past;
 })
 
-close-waking : (count : ℕ) (lo size mean : ℤ) (x : ℕ) (past : Past) → NextTo (manner past) past.seen (Acts (Close count lo size mean)) →
+close_waking : (count : ℕ) (lo size mean : ℤ) (x : ℕ) (past : Past) → NextTo (manner past) past.seen (Acts (Close count lo size mean)) →
     Waking (manner past) true true past.seen → Waking (manner past) true true (grown x past (Close count lo size mean ∷ [])).seen
-close-waking count lo size mean x past n w = record {
+close_waking count lo size mean x past n w = record {
   acts = (tt, (n, w.acts));
   starting = w.starting;
-  candidate = λ r. windowed-keeps _ past.seen refl refl (w.candidate r);
+  candidate = λ r. windowed_keeps _ past.seen refl refl (w.candidate r);
   loose = w.loose;
   follow = w.follow;
   master = w.master;
 }
 
-close-next : (mean : ℤ) (stepped : Bool) (shown : ℤ) → CloseNext (is_zero mean) mean (Acts (Correct mean stepped shown))
-close-next mean stepped shown = by_zero (is_zero mean) where
+close_next : (mean : ℤ) (stepped : Bool) (shown : ℤ) → CloseNext (is_zero mean) mean (Acts (Correct mean stepped shown))
+close_next mean stepped shown = by_zero (is_zero mean) where
   by_zero : (b : Bool) → CloseNext b mean (Acts (Correct mean stepped shown))
   by_zero true = tt
   by_zero false = (stepped, (shown, refl))
@@ -721,31 +721,31 @@ close-next mean stepped shown = by_zero (is_zero mean) where
 -- a round closes with any mean
 pub closes_by : (count : ℕ) (lo size mean : ℤ) → Leads (Off CloseAlarm (Acts (Ring CloseAlarm))) (puts (Close count lo size mean)) (Closed mean)
 closes_by count lo size mean = Leads_puts (Close count lo size mean) (λ x past h. record {
-  waking = close-waking count lo size mean x past (h.rang.next (Acts (Close count lo size mean)) (inl (count, (lo, (size, (mean, refl)))))) h.waking;
-  next = λ stepped shown. close-next mean stepped shown;
+  waking = close_waking count lo size mean x past (h.rang.next (Acts (Close count lo size mean)) (inl (count, (lo, (size, (mean, refl)))))) h.waking;
+  next = λ stepped shown. close_next mean stepped shown;
 })
 
 -- with the mean 0 nothing is asked
 pub closes_still : (count : ℕ) (lo size : ℤ) → Leads (Off CloseAlarm (Acts (Ring CloseAlarm))) (puts (Close count lo size (pos 0))) Awake
 closes_still count lo size = Leads_puts (Close count lo size (pos 0)) (λ x past h. record {
-  waking = close-waking count lo size (pos 0) x past (h.rang.next (Acts (Close count lo size (pos 0))) (inl (count, (lo, (size, (pos 0, refl)))))) h.waking;
+  waking = close_waking count lo size (pos 0) x past (h.rang.next (Acts (Close count lo size (pos 0))) (inl (count, (lo, (size, (pos 0, refl)))))) h.waking;
   free = refl;
 })
 
 -- the clock is moved by the mean
 pub corrects_by_mean : (mean : ℤ) → Leads (Closed mean) (adjusts mean) Awake
 unfolding adjusts
-corrects_by_mean mean = record { run = λ x past h. record { waking = far-waking _ refl x past (h.next _ _) h.waking; free = refl } }
+corrects_by_mean mean = record { run = λ x past h. record { waking = far_waking _ refl x past (h.next _ _) h.waking; free = refl } }
 
 -- Round is armed again, for a round or to wait
 
-round-waking : (x at : ℕ) (past : Past) → ArmFits Round (record { step = past.step; tick = x; deed = Acts (Arm Round at) }) past.seen at →
+round_waking : (x at : ℕ) (past : Past) → ArmFits Round (record { step = past.step; tick = x; deed = Acts (Arm Round at) }) past.seen at →
     NextTo (manner past) past.seen (Acts (Arm Round at)) → Waking (manner past) true false past.seen →
     Waking (manner past) true true (grown x past (Arm Round at ∷ [])).seen
-round-waking x at past fits n w = record {
+round_waking x at past fits n w = record {
   acts = (fits, (n, w.acts));
   starting = w.starting;
-  candidate = λ r. windowed-keeps _ past.seen refl refl (w.candidate r);
+  candidate = λ r. windowed_keeps _ past.seen refl refl (w.candidate r);
   loose = w.loose;
   follow = w.follow;
   master = λ l r. refl;
@@ -755,7 +755,7 @@ pub late_round : Leads (Off Round (Acts (Late Round))) (arms Round ROUND) Awake
 unfolding arms
 late_round = record {
   run = λ x past h. record {
-    waking = round-waking x (x + ROUND) past (inl refl, h.rang.is rounds_by) (h.rang.next (Acts (Arm Round (x + ROUND))) (x + ROUND, refl)) h.waking;
+    waking = round_waking x (x + ROUND) past (inl refl, h.rang.is rounds_by) (h.rang.next (Acts (Arm Round (x + ROUND))) (x + ROUND, refl)) h.waking;
     free = and_left (newest_is rings_round past.seen) (nat_le (x + ROUND) (x + ROUND)) (h.rang.is rings_round);
   };
 }
@@ -764,7 +764,7 @@ pub wait_round : Leads (Off Round (Acts (Ring Round))) (arms Round WAIT) Awake
 unfolding arms
 wait_round = record {
   run = λ x past h. record {
-    waking = round-waking x (x + WAIT) past (inr refl, h.rang.is rounds_by) (h.rang.next (Acts (Arm Round (x + WAIT))) (x + WAIT, refl)) h.waking;
+    waking = round_waking x (x + WAIT) past (inr refl, h.rang.is rounds_by) (h.rang.next (Acts (Arm Round (x + WAIT))) (x + WAIT, refl)) h.waking;
     free = and_right (newest_is rings_round past.seen) (nat_le (x + ROUND) (x + WAIT)) (lt-leb (x + ROUND) (x + WAIT) (omega arith));
   };
 }
@@ -778,20 +778,20 @@ pub record ProbeArmed (x : ℕ) (past : Past) : Type 0 where
   pub waking : Waking (manner past) true true past.seen
   pub next : (at : ℕ) → NextTo (manner past) past.seen (Acts (Arm CloseAlarm at))
 
-round-next : (b : Bool) (at : ℕ) → RoundNext b (Acts (Arm Probe at))
-round-next true at = (at, refl)
-round-next false at = tt
+round_next : (b : Bool) (at : ℕ) → RoundNext b (Acts (Arm Probe at))
+round_next true at = (at, refl)
+round_next false at = tt
 
-probe-next : (b : Bool) (at : ℕ) → ProbeNext b (Acts (Arm CloseAlarm at))
-probe-next true at = (at, refl)
-probe-next false at = tt
+probe_next : (b : Bool) (at : ℕ) → ProbeNext b (Acts (Arm CloseAlarm at))
+probe_next true at = (at, refl)
+probe_next false at = tt
 
 pub begin_round : Leads (Off Round (Acts (Ring Round))) (arms Round ROUND) RoundArmed
 unfolding arms
 begin_round = record {
   run = λ x past h. record {
-    waking = round-waking x (x + ROUND) past (inl refl, h.rang.is rounds_by) (h.rang.next (Acts (Arm Round (x + ROUND))) (x + ROUND, refl)) h.waking;
-    next = λ at. round-next (begins_round past.seen x (x + ROUND)) at;
+    waking = round_waking x (x + ROUND) past (inl refl, h.rang.is rounds_by) (h.rang.next (Acts (Arm Round (x + ROUND))) (x + ROUND, refl)) h.waking;
+    next = λ at. round_next (begins_round past.seen x (x + ROUND)) at;
   };
 }
 
@@ -799,11 +799,11 @@ pub probe_round : Leads RoundArmed (arms Probe PROBE) ProbeArmed
 unfolding arms
 probe_round = record {
   run = λ x past h. record {
-    waking = arm-waking Probe refl x (x + PROBE) past refl (h.next (x + PROBE)) h.waking;
-    next = λ at. probe-next (newest_is arms_round_by past.seen) at;
+    waking = arm_waking Probe refl x (x + PROBE) past refl (h.next (x + PROBE)) h.waking;
+    next = λ at. probe_next (newest_is arms_round_by past.seen) at;
   };
 }
 
 pub close_round : Leads ProbeArmed (arms CloseAlarm CLOSE) Awake
 unfolding arms
-close_round = record { run = λ x past h. record { waking = arm-waking CloseAlarm refl x (x + CLOSE) past refl (h.next (x + CLOSE)) h.waking; free = refl } }
+close_round = record { run = λ x past h. record { waking = arm_waking CloseAlarm refl x (x + CLOSE) past refl (h.next (x + CLOSE)) h.waking; free = refl } }

@@ -36,8 +36,8 @@ unled : (sorts : List Sort) → is_in Leading sorts ≡ false → (a : Act) → 
 unled sorts none (Become Master) e d before = absurd (true≢false (sym e ∙ none))
 unled sorts none _ e d before = tt
 
-by-leading : OwedBy Leading RangFits
-by-leading = record { mark = λ d before. tt; free = unled }
+by_leading : OwedBy Leading RangFits
+by_leading = record { mark = λ d before. tt; free = unled }
 
 -- the window ends
 abbrev Rung : ℕ → Past → Type 0
@@ -48,11 +48,11 @@ unfolding lead_row
 lead = Leads_then {Q = Paid RangFits} (puts (Become Master)) (arms Round ROUND followed_by posts_to_others MasterUp 0)
     (Leads_puts (Become Master) (λ x past h. (h.1, h.0)))
     (Leads_then {Q = Paid RangFits} (arms Round ROUND) (posts_to_others MasterUp 0)
-    (pays by-leading (Alarming ∷ []) (arms Round ROUND) refl (Emits_arms Round ROUND refl))
-    (pays by-leading (Posting ∷ []) (posts_to_others MasterUp 0) refl (Emits_posts_to_others MasterUp 0 refl)))
+    (pays by_leading (Alarming ∷ []) (arms Round ROUND) refl (Emits_arms Round ROUND refl))
+    (pays by_leading (Posting ∷ []) (posts_to_others MasterUp 0) refl (Emits_posts_to_others MasterUp 0 refl)))
 
 yield : Leads (Paid RangFits) yields (Paid RangFits)
-yield = pays by-leading yield_sorts yields refl (emits_built refl built_yields)
+yield = pays by_leading yield_sorts yields refl (emits_built refl built_yields)
 
 window : Leads (Paid RangFits) window_rings (Paid RangFits)
 unfolding window_rings
@@ -63,14 +63,14 @@ window = Leads_either (is_in_time Window) (puts (Ring Window) followed_by either
 
 alarm : (own wait : Bool) (a : Alarm) → Leads (Paid RangFits) (alarm_rings own wait a) (Paid RangFits)
 unfolding alarm_rings
-alarm own wait Quiet = pays by-leading loose_sorts _ refl (emits_built refl built_quiet_rings)
-alarm own wait Search = pays by-leading (Alarming ∷ []) _ refl (emits_built refl built_search_rings)
-alarm own wait Elect = pays by-leading standing_sorts _ refl (emits_built refl built_elect_rings)
+alarm own wait Quiet = pays by_leading loose_sorts _ refl (emits_built refl built_quiet_rings)
+alarm own wait Search = pays by_leading (Alarming ∷ []) _ refl (emits_built refl built_search_rings)
+alarm own wait Elect = pays by_leading standing_sorts _ refl (emits_built refl built_elect_rings)
 alarm own wait Window = window
-alarm own wait Probe = pays by-leading asking_sorts _ refl (emits_built refl built_probe_rings)
-alarm own wait CloseAlarm = pays by-leading close_sorts _ refl (emits_built refl (built_close_rings own))
-alarm own wait ResolveAlarm = pays by-leading resolve_sorts _ refl (emits_built refl built_resolve_rings)
-alarm own wait Round = pays by-leading asking_sorts _ refl (emits_built refl (built_round_rings wait))
+alarm own wait Probe = pays by_leading asking_sorts _ refl (emits_built refl built_probe_rings)
+alarm own wait CloseAlarm = pays by_leading close_sorts _ refl (emits_built refl (built_close_rings own))
+alarm own wait ResolveAlarm = pays by_leading resolve_sorts _ refl (emits_built refl built_resolve_rings)
+alarm own wait Round = pays by_leading asking_sorts _ refl (emits_built refl (built_round_rings wait))
 
 rung : (own wait : Bool) (a : Alarm) → Leads (Paid RangFits) (rings own wait a) (Paid RangFits)
 unfolding rings
@@ -78,13 +78,13 @@ rung own wait a = Leads_either (is_due a) (alarm_rings own wait a) nothing (Lead
     (Leads_from (λ x past h. h.0) Leads_nothing)
 
 sends : Leads (Paid RangFits) due_sends (Paid RangFits)
-sends = pays by-leading send_sorts due_sends refl (emits_built refl built_due_sends)
+sends = pays by_leading send_sorts due_sends refl (emits_built refl built_due_sends)
 
 -- a port stood at its tick or before
-stood-tick : (seen : List Seen) → Rising seen → (start : Did) (idle : List Seen) → stood seen ≡ Here start ∷ idle → start.tick ≤ tick_of (plain seen)
-stood-tick [] up start idle e = let bad : ⊥ = cc in absurd bad
-stood-tick (Elsewhere d ∷ before) up start idle e = let low = stood-tick before up.1 start idle e in let le = up.0 in omega (arith, low, le)
-stood-tick (Here d ∷ before) up start idle e = by_deed d.deed e (λ k. stood-tick before up.1 start idle k) where
+stood_tick : (seen : List Seen) → Rising seen → (start : Did) (idle : List Seen) → stood seen ≡ Here start ∷ idle → start.tick ≤ tick_of (plain seen)
+stood_tick [] up start idle e = let bad : ⊥ = cc in absurd bad
+stood_tick (Elsewhere d ∷ before) up start idle e = let low = stood_tick before up.1 start idle e in let le = up.0 in omega (arith, low, le)
+stood_tick (Here d ∷ before) up start idle e = by_deed d.deed e (λ k. stood_tick before up.1 start idle k) where
   later : start.tick ≤ tick_of (plain before) → start.tick ≤ d.tick
   later low = let le = up.0 in omega (arith, low, le)
 
@@ -94,24 +94,24 @@ stood-tick (Here d ∷ before) up start idle e = by_deed d.deed e (λ k. stood-t
   by_deed (Acts (Become r)) k f = let same : d ≡ start = cc in let tick = ap (λ (j : Did). j.tick) same in omega (arith, tick)
   by_deed _ k f = later (f k)
 
-some-value : {a b : ℕ} → Some a ≡ Some b → a ≡ b
-some-value e = cc
+some_value : {a b : ℕ} → Some a ≡ Some b → a ≡ b
+some_value e = cc
 
 -- its Window is armed for WINDOW ticks after that
-window-after : (m : Manner) (seen : List Seen) → AlarmsFit m seen → Rising seen → (at : ℕ) → (armed seen).window ≡ Some at → (start : Did) (idle : List Seen) →
+window_after : (m : Manner) (seen : List Seen) → AlarmsFit m seen → Rising seen → (at : ℕ) → (armed seen).window ≡ Some at → (start : Did) (idle : List Seen) →
     stood seen ≡ Here start ∷ idle → start.tick + WINDOW ≤ at
-window-after m [] f up at e start idle s = let bad : ⊥ = cc in absurd bad
-window-after m (Elsewhere d ∷ before) f up at e start idle s = window-after m before f.1 up.1 at e start idle s
-window-after m (Here d ∷ before) f up at e start idle s =
-    by_deed d.deed f.0 e s (λ e s. window-after m before f.1.1 up.1 at e start idle s)
-    (λ s. let low = stood-tick before up.1 start idle s in let le = up.0 in omega (arith, low, le)) where
+window_after m [] f up at e start idle s = let bad : ⊥ = cc in absurd bad
+window_after m (Elsewhere d ∷ before) f up at e start idle s = window_after m before f.1 up.1 at e start idle s
+window_after m (Here d ∷ before) f up at e start idle s =
+    by_deed d.deed f.0 e s (λ e s. window_after m before f.1.1 up.1 at e start idle s)
+    (λ s. let low = stood_tick before up.1 start idle s in let le = up.0 in omega (arith, low, le)) where
       by_deed : (deed : Deed) → AlarmFits deed d before → (armed_after deed (armed before)).window ≡ Some at →
           stood_after deed (Here d ∷ before) (stood before) ≡ Here start ∷ idle →
           ((armed before).window ≡ Some at → stood before ≡ Here start ∷ idle → start.tick + WINDOW ≤ at) →
           (stood before ≡ Here start ∷ idle → start.tick ≤ d.tick) → start.tick + WINDOW ≤ at
       by_deed (Acts Boot) fit e s k low = let bad : ⊥ = cc in absurd bad
       by_deed (Acts (Become r)) fit e s k low = let bad : ⊥ = cc in absurd bad
-      by_deed (Acts (Arm Window to)) fit e s k low = let same = some-value e in let soon = low s in omega (arith, fit, same, soon)
+      by_deed (Acts (Arm Window to)) fit e s k low = let same = some_value e in let soon = low s in omega (arith, fit, same, soon)
       by_deed (Acts (Ring Window)) fit e s k low = let bad : ⊥ = cc in absurd bad
       by_deed (Acts (Late Window)) fit e s k low = let bad : ⊥ = cc in absurd bad
       by_deed _ fit e s k low = k e s
@@ -127,31 +127,31 @@ module _ (m : Manner) (setup : Setup) where
     by_deed (Acts (Ring Window)) is w =
         let ring = subst (λ k. AlarmFits k r older) is f.0 in
         let stood_is : stood older ≡ Here lead.start ∷ lead.idle = ap (λ k. stood_after k (Here r ∷ older) (stood older)) (sym is) ∙ lead.start_is in
-        let late = window-after m older f.1.1 up.1.1 ring.at ring.armed_is lead.start lead.idle stood_is in
+        let late = window_after m older f.1.1 up.1.1 ring.at ring.armed_is lead.start lead.idle stood_is in
         let due = ring.due in
         let le = up.0 in
         record { start = lead.start; idle = lead.idle; stood_is = lead.start_is; long = omega (arith, late, due, le) }
     by_deed _ is w = absurd (true≢false (sym w))
 
-  by-deed : (d : Did) (before : List Seen) (deed : Deed) → d.deed ≡ deed → RangFits deed d before → AlarmsFit m before → Rising (Here d ∷ before) →
+  by_deed_holds : (d : Did) (before : List Seen) (deed : Deed) → d.deed ≡ deed → RangFits deed d before → AlarmsFit m before → Rising (Here d ∷ before) →
       (deed ≡ Acts (Become Master) → LeadFits setup d before) → WonFits deed d before
-  by-deed d before (Acts (Become Master)) is r f up leads = won d before (leads refl) r f up
-  by-deed d before _ is r f up leads = tt
+  by_deed_holds d before (Acts (Become Master)) is r f up leads = won d before (leads refl) r f up
+  by_deed_holds d before _ is r f up leads = tt
 
-  all-won : (seen : List Seen) → PortFits setup seen → Owes RangFits seen → AlarmsFit m seen → Rising seen → Owes WonFits seen
-  all-won [] p r f up = tt
-  all-won (Elsewhere d ∷ before) p r f up = all-won before p r f.1 up.1
-  all-won (Here d ∷ before) p r f up = (
-    by-deed d before d.deed refl r.0 f.1.1 up (λ e. (subst (λ k. DeedFits setup k d before) e p.0)),
-    all-won before p.1 r.1 f.1.1 up.1,
+  all_won : (seen : List Seen) → PortFits setup seen → Owes RangFits seen → AlarmsFit m seen → Rising seen → Owes WonFits seen
+  all_won [] p r f up = tt
+  all_won (Elsewhere d ∷ before) p r f up = all_won before p r f.1 up.1
+  all_won (Here d ∷ before) p r f up = (
+    by_deed_holds d before d.deed refl r.0 f.1.1 up (λ e. (subst (λ k. DeedFits setup k d before) e p.0)),
+    all_won before p.1 r.1 f.1.1 up.1,
   )
 
 pub clocked_runs_win_late : ClockedRunsWinLate
 clocked_runs_win_late clocks header setting events set possible n q =
     let world = run_by clocks header events in
     let fits = (clocked_runs_fit clocks header setting events set possible).0 in
-    all-won (manner_of header n) (setup_of setting n q) (view q (of n world)) (port_fits setting n world fits q)
-    (runs_pay by-leading refl sends rung (takes_calmly by-leading refl) clocks header events n q) ((clocked_runs_wake clocks header events).1 n q).acts
+    all_won (manner_of header n) (setup_of setting n q) (view q (of n world)) (port_fits setting n world fits q)
+    (runs_pay by_leading refl sends rung (takes_calmly by_leading refl) clocks header events n q) ((clocked_runs_wake clocks header events).1 n q).acts
     (rising setting q (of n world) (own_fits setting n world fits))
 
 pub runs_win_late : RunsWinLate

@@ -28,36 +28,36 @@ readings_taken xs readings between then rest last first again sent told takes sa
     let two = reading_taken (all_but_first xs) then rest again sent (same ∙ one.0) more in
     (one.1, two.1 ∙ (ap (λ n. tick_given n (all_but_first xs) 0) (stays ∙ one.1) ∙ next_reading last xs 0), two.0)
 
-pub after-reading : (n : ℕ) (o : Outside) (k : ℕ) → tick_given (heard_times n o).last (heard_times n o).readings k ≡ tick_given o.last o.readings (n + k)
-after-reading zero o k = ap (λ i. tick_given o.last o.readings i) (omega arith)
-after-reading (suc n) o k =
+pub after_reading : (n : ℕ) (o : Outside) (k : ℕ) → tick_given (heard_times n o).last (heard_times n o).readings k ≡ tick_given o.last o.readings (n + k)
+after_reading zero o k = ap (λ i. tick_given o.last o.readings i) (omega arith)
+after_reading (suc n) o k =
     let i : n + suc k ≡ suc n + k = omega arith in
-    next_reading (heard_times n o).last (heard_times n o).readings k ∙ (after-reading n o (suc k) ∙ ap (λ j. tick_given o.last o.readings j) i)
+    next_reading (heard_times n o).last (heard_times n o).readings k ∙ (after_reading n o (suc k) ∙ ap (λ j. tick_given o.last o.readings j) i)
 
 -- one wait more
-pub after-next : (n : ℕ) (o : Outside) → heard_times (n + 1) o ≡ after_wait (heard_times n o)
-after-next n o = let e : n + 1 ≡ suc n = omega arith in rw e refl
+pub after_next : (n : ℕ) (o : Outside) → heard_times (n + 1) o ≡ after_wait (heard_times n o)
+after_next n o = let e : n + 1 ≡ suc n = omega arith in rw e refl
 
 -- a wait without an answer leaves the others
-pub asked-step : (q : Question) (i : ℕ) (a : List Arrival) → i < 8 → answer_in q (next_arrival a) ≡ None → asked_from q i (8 - i) a ≡
+pub asked_step : (q : Question) (i : ℕ) (a : List Arrival) → i < 8 → answer_in q (next_arrival a) ≡ None → asked_from q i (8 - i) a ≡
     asked_from q (i + 1) (8 - (i + 1)) (all_but_first a)
 unfolding asked_from
-asked-step q i a h e =
+asked_step q i a h e =
     let n : 8 - i ≡ suc (8 - (i + 1)) = omega arith in
     rw (n, e) refl
 
 -- a wait with an answer
-pub asked-hit : (q : Question) (i : ℕ) (a : List Arrival) (d : Datagram) → i < 8 → answer_in q (next_arrival a) ≡ Some d → asked_from q i (8 - i) a ≡
+pub asked_hit : (q : Question) (i : ℕ) (a : List Arrival) (d : Datagram) → i < 8 → answer_in q (next_arrival a) ≡ Some d → asked_from q i (8 - i) a ≡
     Some (i, d)
 unfolding asked_from
-asked-hit q i a d h e =
+asked_hit q i a d h e =
     let n : 8 - i ≡ suc (8 - (i + 1)) = omega arith in
     rw (n, e) refl
 
 -- no wait is left
-pub asked-none : (q : Question) (i : ℕ) (a : List Arrival) → i ≡ 8 → asked_from q i (8 - i) a ≡ None
+pub asked_none : (q : Question) (i : ℕ) (a : List Arrival) → i ≡ 8 → asked_from q i (8 - i) a ≡ None
 unfolding asked_from
-asked-none q i a e = let n : 8 - i ≡ 0 = omega arith in rw n refl
+asked_none q i a e = let n : 8 - i ≡ 0 = omega arith in rw n refl
 
 later_cases : (found : Option Datagram) (i : ℕ) (later : Option (ℕ × Datagram)) (r : ℕ × Datagram) → (later ≡ Some r → i + 1 ≤ r.0) → or_later found i later ≡
     Some r → i ≤ r.0
@@ -65,39 +65,39 @@ later_cases None i later r f e = omega (arith, f e)
 later_cases (Some d) i later r f e = let s : (i, d) ≡ r = cc in omega (arith, ap (λ (p : ℕ × Datagram). p.0) s)
 
 -- an answer's number is none of an earlier wait
-asked-later : (q : Question) (n i : ℕ) (a : List Arrival) (r : ℕ × Datagram) → asked_from q i n a ≡ Some r → i ≤ r.0
+asked_later : (q : Question) (n i : ℕ) (a : List Arrival) (r : ℕ × Datagram) → asked_from q i n a ≡ Some r → i ≤ r.0
 unfolding asked_from
-asked-later q zero i a r e = absurd (cc)
-asked-later q (suc n) i a r e = later_cases (answer_in q (next_arrival a)) i (asked_from q (i + 1) n (all_but_first a)) r
-    (λ f. asked-later q n (i + 1) (all_but_first a) r f) e
+asked_later q zero i a r e = absurd (cc)
+asked_later q (suc n) i a r e = later_cases (answer_in q (next_arrival a)) i (asked_from q (i + 1) n (all_but_first a)) r
+    (λ f. asked_later q n (i + 1) (all_but_first a) r f) e
 
 receives_cases : (found : Option (ℕ × Datagram)) (i : ℕ) → i < 8 → ((r : ℕ × Datagram) → found ≡ Some r → i ≤ r.0) → i + 1 ≤ receives found
 receives_cases None i h f = omega arith
 receives_cases (Some r) i h f = omega (arith, f r refl)
 
 -- a wait is not beyond the answer's
-pub receives-least : (q : Question) (i : ℕ) (a : List Arrival) → i < 8 → i + 1 ≤ receives (asked_from q i (8 - i) a)
-receives-least q i a h = receives_cases (asked_from q i (8 - i) a) i h (λ r e. asked-later q (8 - i) i a r e)
+pub receives_least : (q : Question) (i : ℕ) (a : List Arrival) → i < 8 → i + 1 ≤ receives (asked_from q i (8 - i) a)
+receives_least q i a h = receives_cases (asked_from q i (8 - i) a) i h (λ r e. asked_later q (8 - i) i a r e)
 
 -- what eight receives come to is what asking does, once the request was sent
-pub asks-listens : (request : Datagram) (q : Question) (o : Outside) (arrivals : Option (List Arrival)) (tried : Option (List Tried)) (calls : Option ℕ)
+pub asks_listens : (request : Datagram) (q : Question) (o : Outside) (arrivals : Option (List Arrival)) (tried : Option (List Tried)) (calls : Option ℕ)
     (readings : Option (List ℕ)) (last sends sends_now : ℕ) (end : AskEnd) → sends_now ≡ sends →
     Listens q (after_send request o) arrivals tried calls readings last end → Asks request q o arrivals tried calls readings last sends sends_now end
-asks-listens request q o arrivals tried calls readings last sends sends_now LinkFault same h = inr (h, same)
-asks-listens request q o arrivals tried calls readings last sends sends_now OutOfMemory same h = absurd h
-asks-listens request q o arrivals tried calls readings last sends sends_now _ same h = h
+asks_listens request q o arrivals tried calls readings last sends sends_now LinkFault same h = inr (h, same)
+asks_listens request q o arrivals tried calls readings last sends sends_now OutOfMemory same h = absurd h
+asks_listens request q o arrivals tried calls readings last sends sends_now _ same h = h
 
 -- no receive was made
-pub no-wait : (waits : Option (List ℕ)) → WaitsSeconds waits waits
-no-wait None = tt
-no-wait (Some ws) = ([], sym (append-nil ws), All-nil (λ wait. wait ≡ 1000000))
+pub no_wait : (waits : Option (List ℕ)) → WaitsSeconds waits waits
+no_wait None = tt
+no_wait (Some ws) = ([], sym (append-nil ws), All-nil (λ wait. wait ≡ 1000000))
 
 -- one receive more
-pub one-wait : (waits between now : Option (List ℕ)) → WaitsSeconds waits between → NotesReceive between now 1000000 → WaitsSeconds waits now
-one-wait waits between None w n = tt
-one-wait waits None (Some now) w n = absurd n
-one-wait None (Some between) (Some now) w n = absurd w
-one-wait (Some before) (Some between) (Some now) w n = (
+pub one_wait : (waits between now : Option (List ℕ)) → WaitsSeconds waits between → NotesReceive between now 1000000 → WaitsSeconds waits now
+one_wait waits between None w n = tt
+one_wait waits None (Some now) w n = absurd n
+one_wait None (Some between) (Some now) w n = absurd w
+one_wait (Some before) (Some between) (Some now) w n = (
   w.0 ++ 1000000 ∷ [],
   n ∙ (ap (λ (ws : List ℕ). ws ++ 1000000 ∷ []) w.1 ∙
       append_assoc before w.0 (1000000 ∷ [])),
@@ -105,10 +105,10 @@ one-wait (Some before) (Some between) (Some now) w n = (
 )
 
 -- what is told after all eight waits
-pub tells-all : (n : ℕ) (o : Outside) (arrivals : Option (List Arrival)) (tried : Option (List Tried)) (calls : Option ℕ) (readings : Option (List ℕ))
+pub tells_all : (n : ℕ) (o : Outside) (arrivals : Option (List Arrival)) (tried : Option (List Tried)) (calls : Option ℕ) (readings : Option (List ℕ))
     (last : ℕ) → n ≡ 8 →
     KnowsExactly (heard_times n o) arrivals tried calls readings last → KnowsExactly (heard_times 8 o) arrivals tried calls readings last
-tells-all n o arrivals tried calls readings last e t = subst (λ k. KnowsExactly (heard_times k o) arrivals tried calls readings last) e t
+tells_all n o arrivals tried calls readings last e t = subst (λ k. KnowsExactly (heard_times k o) arrivals tried calls readings last) e t
 
 -- what is said of a value that is there
 pub of_some : {A : Type 0} (P : A → Type 0) (r : Option A) (v : A) → IfSome r P → r ≡ Some v → P v

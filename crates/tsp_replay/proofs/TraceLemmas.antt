@@ -10,13 +10,13 @@ use Rattle.tsp_replay.specs.{Traces.line_text, Traces.lines_text, Traces.trace, 
 use Rattle.tsp_replay.{proofs.Places.GoesOn, proofs.Places.RunsOn, proofs.Places.StageStands, specs.Stages.told_at}
 
 -- one line more, read back
-pub reverse-more : {A : Type 0} (xs : List A) (x : A) → reverse (xs ++ x ∷ []) ≡ x ∷ reverse xs
-reverse-more xs x = reverse-append xs (x ∷ [])
+pub reverse_more : {A : Type 0} (xs : List A) (x : A) → reverse (xs ++ x ∷ []) ≡ x ∷ reverse xs
+reverse_more xs x = reverse-append xs (x ∷ [])
 
 -- one event more
-pub trace-more : (header : HeaderValue) (events : List Event) (e : Event) → trace header (e ∷ events) ≡ trace header events ++
+pub trace_more : (header : HeaderValue) (events : List Event) (e : Event) → trace header (e ∷ events) ≡ trace header events ++
     lines_text (gained header (e ∷ events))
-trace-more header events e = flat_map-append line_text (told header events) (gained header (e ∷ events))
+trace_more header events e = flat_map-append line_text (told header events) (gained header (e ∷ events))
 
 titled_told : (version : ℕ) (stage : Stage Replayed) → StageStands (Titled version) stage → told_at stage ≡ []
 titled_told version (AtTitled read) s = refl
@@ -43,26 +43,26 @@ run_written : (header : HeaderValue) (events : List Event) (line : List ℕ) (to
     StageStands to next → written_at to ≡ trace header events ++ lines_text (told_at next)
 run_written header events line to next (inl g) s =
     let stands : StageStands (Running header (g.0 ∷ events)) next = subst (λ p. StageStands p next) g.3 s in
-    ap written_at g.3 ∙ trace-more header events g.0 ∙ ap (λ ls. trace header events ++ lines_text ls) (sym (running_told header (g.0 ∷ events) next stands))
+    ap written_at g.3 ∙ trace_more header events g.0 ∙ ap (λ ls. trace header events ++ lines_text ls) (sym (running_told header (g.0 ∷ events) next stands))
 run_written header events line to next (inr g) s =
     let stands : StageStands (Ended header events) next = subst (λ p. StageStands p next) g.1 s in
     ap written_at g.1 ∙ sym (append-nil (trace header events)) ∙ ap (λ ls. trace header events ++ lines_text ls) (sym (ended_told header events next stands))
 
 -- what is written grows by the lines of the last event
-pub written_at-more : (p : Progress) (line : List ℕ) (to : Progress) (next : Stage Replayed) → GoesOn p line to → StageStands to next → written_at to ≡
+pub written_at_more : (p : Progress) (line : List ℕ) (to : Progress) (next : Stage Replayed) → GoesOn p line to → StageStands to next → written_at to ≡
     written_at p ++ lines_text (told_at next)
-written_at-more Untitled line to next g s = ap written_at g.2 ∙ ap (λ ls. lines_text ls) (sym (titled_told g.0 next (subst (λ p. StageStands p next) g.2 s)))
-written_at-more (Titled version) line to next g s = by_version (version == 2) g.2 s where
+written_at_more Untitled line to next g s = ap written_at g.2 ∙ ap (λ ls. lines_text ls) (sym (titled_told g.0 next (subst (λ p. StageStands p next) g.2 s)))
+written_at_more (Titled version) line to next g s = by_version (version == 2) g.2 s where
   by_version : (strict : Bool) → to ≡ (if strict then Drifted g.0 else Heading (new_header g.0 false)) → StageStands to next → written_at to ≡
       lines_text (told_at next)
   by_version true e s = ap written_at e ∙ ap (λ ls. lines_text ls) (sym (drifted_told g.0 next (subst (λ p. StageStands p next) e s)))
   by_version false e s = ap written_at e ∙ ap (λ ls. lines_text ls) (sym (heading_told _ next (subst (λ p. StageStands p next) e s)))
-written_at-more (Drifted drift) line to next g s = ap written_at g.1 ∙ ap (λ ls. lines_text ls)
+written_at_more (Drifted drift) line to next g s = ap written_at g.1 ∙ ap (λ ls. lines_text ls)
     (sym (heading_told _ next (subst (λ p. StageStands p next) g.1 s)))
-written_at-more (Heading header) line to next (inl g) s = ap written_at g.3 ∙ ap (λ ls. lines_text ls)
+written_at_more (Heading header) line to next (inl g) s = ap written_at g.3 ∙ ap (λ ls. lines_text ls)
     (sym (heading_told _ next (subst (λ p. StageStands p next) g.3 s)))
-written_at-more (Heading header) line to next (inr (inl g)) s = ap written_at g.3 ∙
+written_at_more (Heading header) line to next (inr (inl g)) s = ap written_at g.3 ∙
     ap (λ ls. lines_text ls) (sym (heading_told _ next (subst (λ p. StageStands p next) g.3 s)))
-written_at-more (Heading header) line to next (inr (inr g)) s = run_written header [] line to next g.2 s
-written_at-more (Running header events) line to next g s = run_written header events line to next g s
-written_at-more (Ended header events) line to next g s = absurd g
+written_at_more (Heading header) line to next (inr (inr g)) s = run_written header [] line to next g.2 s
+written_at_more (Running header events) line to next g s = run_written header events line to next g s
+written_at_more (Ended header events) line to next g s = absurd g

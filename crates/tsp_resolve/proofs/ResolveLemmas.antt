@@ -13,8 +13,8 @@ use Rattle.tsp_rules.proofs.{EmitsTables.changes, EmitsTables.is_change, Parts.P
 use Rattle.tsp_acks.specs.{Stands.StationStands, Stands.StandsActing, declared.station.Station.Station}
 use Rattle.tsp_acks.proofs.StandsLemmas.{Stands_idle}
 use Rattle.tsp_resolve.specs.{Marked.marked, ResolveStands.ResolveStands, ResolveStands.ResolvingActs, ResolveStands.ResolvingStands}
-use Rattle.tsp_base.proofs.AscendingLemmas.{Rise-peers}
-use Rattle.tsp_resolve.{proofs.MarkedLemmas.marked-filter, specs.declared.resolve.Resolve.Resolve}
+use Rattle.tsp_base.proofs.AscendingLemmas.{Rise_peers}
+use Rattle.tsp_resolve.{proofs.MarkedLemmas.marked_filter, specs.declared.resolve.Resolve.Resolve}
 
 -- all sorts of acts but Boot and Rival
 abbrev pub rivalless : List Sort
@@ -39,16 +39,16 @@ ResolveStands_act _ e x past r h = record { many = h.many; rivals = h.rivals; em
 pub ResolveStands_by : (row : Row) → Emits unchanging row → Keeps ResolveStands row
 ResolveStands_by row e = Keeps_by unchanging ResolveStands row ResolveStands_act e
 
-rival-deed : (p : PeerId) (a : Act) (was : Bool) → is_in (sort_of a) rivalless ≡ true → is_rival_after p (Acts a) was ≡ (if is_change a then false else was)
-rival-deed p Boot was e = absurd (false≢true e)
-rival-deed p (Rival q) was e = absurd (false≢true e)
-rival-deed p (Become r) was e = refl
-rival-deed p _ was e = refl
+rival_deed : (p : PeerId) (a : Act) (was : Bool) → is_in (sort_of a) rivalless ≡ true → is_rival_after p (Acts a) was ≡ (if is_change a then false else was)
+rival_deed p Boot was e = absurd (false≢true e)
+rival_deed p (Rival q) was e = absurd (false≢true e)
+rival_deed p (Become r) was e = refl
+rival_deed p _ was e = refl
 
-or-change : (a b was : Bool) → (if b then false else (if a then false else was)) ≡ (if (a || b) then false else was)
-or-change true true was = refl
-or-change true false was = refl
-or-change false b was = refl
+or_change : (a b was : Bool) → (if b then false else (if a then false else was)) ≡ (if (a || b) then false else was)
+or_change true true was = refl
+or_change true false was = refl
+or_change false b was = refl
 
 -- acts of these sorts leave the rivals as they are, or there are none where the role changes
 pub rivals_after : (p : PeerId) (step : Step) (x : ℕ) (acts : List Act) (seen : List Seen) → AllOf rivalless acts → is_rival p (added step x acts seen) ≡
@@ -56,13 +56,13 @@ pub rivals_after : (p : PeerId) (step : Step) (x : ℕ) (acts : List Act) (seen 
 rivals_after p step x [] seen e = refl
 rivals_after p step x (a ∷ rest) seen e =
     rivals_after p step x rest (Here (record { step = step; tick = x; deed = Acts a }) ∷ seen) e.1
-    ∙ ap (λ k. if changes rest then false else k) (rival-deed p a (is_rival p seen) e.0) ∙ or-change (is_change a) (changes rest) (is_rival p seen)
+    ∙ ap (λ k. if changes rest then false else k) (rival_deed p a (is_rival p seen) e.0) ∙ or_change (is_change a) (changes rest) (is_rival p seen)
 
 -- a change of the role is of these sorts
-pub become-rivalless : (r : Role) → is_in (sort_of (Become r)) rivalless ≡ true
-become-rivalless Master = refl
-become-rivalless (Role.Follow p) = refl
-become-rivalless _ = refl
+pub become_rivalless : (r : Role) → is_in (sort_of (Become r)) rivalless ≡ true
+become_rivalless Master = refl
+become_rivalless (Role.Follow p) = refl
+become_rivalless _ = refl
 
 -- the role changes, and nobody is marked any more
 pub ResolveStands_changed : (x : ℕ) (past : Past) (acts : List Act) (old new : Resolve) → AllOf rivalless acts → changes acts ≡ true → length new.marks ≡
@@ -73,22 +73,22 @@ ResolveStands_changed x past acts old new e c m none h =
     ap (λ b. if b then false else is_rival p past.seen) c in
     record { many = m ∙ h.many; rivals = λ p. ap (is_among p) (none past.peers) ∙ sym (after p); empty = λ other p. after p }
 
-if-false : (b : Bool) → (if b then false else false) ≡ false
-if-false true = refl
-if-false false = refl
+if_false : (b : Bool) → (if b then false else false) ≡ false
+if_false true = refl
+if_false false = refl
 
 -- a port that doesn't lead has no rivals, whatever its role becomes
 pub ResolveStands_idle : (x : ℕ) (past : Past) (acts : List Act) (r : Resolve) → AllOf rivalless acts → role past.seen ≢ Master → ResolveStands past r →
     ResolveStands (grown x past acts) r
 ResolveStands_idle x past acts r e other h =
     let after : (p : PeerId) → is_rival p (added past.step x acts past.seen) ≡ false =
-    λ p. rivals_after p past.step x acts past.seen e ∙ ap (λ k. if changes acts then false else k) (h.empty other p) ∙ if-false (changes acts) in
+    λ p. rivals_after p past.step x acts past.seen e ∙ ap (λ k. if changes acts then false else k) (h.empty other p) ∙ if_false (changes acts) in
     record { many = h.many; rivals = λ p. h.rivals p ∙ h.empty other p ∙ sym (after p); empty = λ still p. after p }
 
-role-deed : (a : Act) (was : Role) → is_in (sort_of a) rivalless ≡ true → is_change a ≡ false → role_after (Acts a) was ≡ was
-role-deed Boot was e c = absurd (false≢true e)
-role-deed (Become r) was e c = absurd (false≢true (sym c))
-role-deed _ was e c = refl
+role_deed : (a : Act) (was : Role) → is_in (sort_of a) rivalless ≡ true → is_change a ≡ false → role_after (Acts a) was ≡ was
+role_deed Boot was e c = absurd (false≢true e)
+role_deed (Become r) was e c = absurd (false≢true (sym c))
+role_deed _ was e c = refl
 
 -- without a change of it the role stays
 pub role_stays : (step : Step) (x : ℕ) (acts : List Act) (seen : List Seen) → AllOf rivalless acts → changes acts ≡ false → role (added step x acts seen) ≡
@@ -96,7 +96,7 @@ pub role_stays : (step : Step) (x : ℕ) (acts : List Act) (seen : List Seen) �
 role_stays step x [] seen e c = refl
 role_stays step x (a ∷ rest) seen e c =
     let both = or_parts (is_change a) (changes rest) c in
-    role_stays step x rest (Here (record { step = step; tick = x; deed = Acts a }) ∷ seen) e.1 both.1 ∙ role-deed a (role seen) e.0 both.0
+    role_stays step x rest (Here (record { step = step; tick = x; deed = Acts a }) ∷ seen) e.1 both.1 ∙ role_deed a (role seen) e.0 both.0
 
 -- the role doesn't change
 pub ResolveStands_same : (x : ℕ) (past : Past) (acts : List Act) (r : Resolve) → AllOf rivalless acts → changes acts ≡ false → ResolveStands past r →
@@ -134,11 +134,11 @@ Performs_rung alarm {x = x} r e d = Performs_part d (λ past h. h.station)
     (λ past h s. record { resolve = ResolveStands_by (puts (Ring alarm)) e x past r h.resolve; station = s; acted = refl })
 
 -- the rivals, as they are marked
-pub rivals-marked : (x : ℕ) (past : Past) (r : Resolve) (peers : List PeerId) → IsPeers peers → peers ≡ past.peers → ResolveStands past r → rivals_at x past ≡
+pub rivals_marked : (x : ℕ) (past : Past) (r : Resolve) (peers : List PeerId) → IsPeers peers → peers ≡ past.peers → ResolveStands past r → rivals_at x past ≡
     marked peers r.marks
-rivals-marked x past r peers up same h =
+rivals_marked x past r peers up same h =
     filter_agree (λ p. is_rival p past.seen) (λ p. is_among p (marked past.peers r.marks)) (λ p. sym (h.rivals p)) past.peers
-    ∙ marked-filter past.peers r.marks (Rise-peers past.peers (subst IsPeers same up).ascending) h.many ∙ ap (λ ps. marked ps r.marks) (sym same)
+    ∙ marked_filter past.peers r.marks (Rise_peers past.peers (subst IsPeers same up).ascending) h.many ∙ ap (λ ps. marked ps r.marks) (sym same)
 
 -- a new rival is put, and marked
 pub ResolveStands_found : (p : PeerId) (x : ℕ) (past : Past) (old new : Resolve) → role past.seen ≡ Master → length new.marks ≡ length old.marks →
@@ -167,10 +167,10 @@ ResolveStands_again p past old new m was found h = record {
   by_test q true e = sym was ∙ ap (λ n. is_among (record { 0 = n }) (marked past.peers old.marks)) (eqb-true p.0 q.0 e)
   by_test q false e = refl
 
-is_new-is : (p : PeerId) (x : ℕ) (past : Past) (r : Resolve) (station : Station) (peers : List PeerId) → peers ≡ past.peers → StationStands past station →
+is_new_is : (p : PeerId) (x : ℕ) (past : Past) (r : Resolve) (station : Station) (peers : List PeerId) → peers ≡ past.peers → StationStands past station →
     ResolveStands past r →
     is_new_rival p x past ≡ (is_some (deadline station.alarms ResolveAlarm) && not (is_among p (marked peers r.marks)))
-is_new-is p x past r station peers same s h =
+is_new_is p x past r station peers same s h =
     ap (λ a. is_some (deadline a ResolveAlarm) && not (is_rival p past.seen)) (sym s.alarms) ∙
     ap (λ b. is_some (deadline station.alarms ResolveAlarm) && not b) (sym (h.rivals p))
     ∙ ap (λ ps. is_some (deadline station.alarms ResolveAlarm) && not (is_among p (marked ps r.marks))) (sym same)
@@ -183,7 +183,7 @@ module _ (p : PeerId) (x : ℕ) (port : Port) (station : Station) (old new : Res
   }) (record { resolve = old; station = station }) earlier earlier
   unfolding finds_rival
   Performs_unasked off = Performs_else_part (is_new_rival p) (puts (Rival p))
-      (λ past h. is_new-is p x past old station station.peers h.station.peers h.station h.resolve ∙
+      (λ past h. is_new_is p x past old station station.peers h.station.peers h.station h.resolve ∙
       ap (λ d. is_some d && not (is_among p (marked station.peers old.marks))) off) Performs_nothing
 
   -- p answers, and is marked from now on
@@ -196,7 +196,7 @@ module _ (p : PeerId) (x : ℕ) (port : Port) (station : Station) (old new : Res
       }) (record { resolve = new; station = station }) earlier later
   unfolding finds_rival puts
   Performs_answered at on lead many found fresh put = Performs_then_part (is_new_rival p) nothing
-      (λ past h. is_new-is p x past old station station.peers h.station.peers h.station h.resolve ∙
+      (λ past h. is_new_is p x past old station station.peers h.station.peers h.station h.resolve ∙
       ap (λ d. is_some d && not (is_among p (marked station.peers old.marks))) on ∙ fresh)
       (record {
         acts = λ past h. put;
@@ -217,7 +217,7 @@ module _ (p : PeerId) (x : ℕ) (port : Port) (station : Station) (old new : Res
       }) earlier earlier
   unfolding finds_rival
   Performs_answered_again at on many found known = Performs_else_part (is_new_rival p) (puts (Rival p))
-      (λ past h. is_new-is p x past old station station.peers h.station.peers h.station h.resolve ∙
+      (λ past h. is_new_is p x past old station station.peers h.station.peers h.station h.resolve ∙
       ap (λ d. is_some d && not (is_among p (marked station.peers old.marks))) on ∙ known)
       (Performs_to {q = ResolvingStands} (λ past h. record {
         resolve = ResolveStands_again p past old new many (ap (λ ps. is_among p (marked ps old.marks)) (sym h.station.peers) ∙ not-false _ known)

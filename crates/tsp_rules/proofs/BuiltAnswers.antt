@@ -131,17 +131,17 @@ Owes o (Good (Message msg)) = o.of (ANumber msg.number) × o.of (ATime (time_in 
 Owes o (Good (Stamp (Request word counter))) = o.of (AStamp word counter)
 Owes o (Good (Stamp (Reply r))) = o.of (ATicket r.ticket)
 
-slave-part : (k : Kind) → is_part (slave_sorts k) says_sorts ≡ true
-slave-part Ack = refl
-slave-part _ = refl
+slave_part : (k : Kind) → is_part (slave_sorts k) says_sorts ≡ true
+slave_part Ack = refl
+slave_part _ = refl
 
-handled-part : (k : Kind) → is_part (handled_sorts k) (Tracing ∷ Passing ∷ says_sorts) ≡ true
-handled-part DateAck = refl
-handled-part _ = refl
+handled_part : (k : Kind) → is_part (handled_sorts k) (Tracing ∷ Passing ∷ says_sorts) ≡ true
+handled_part DateAck = refl
+handled_part _ = refl
 
-taken-part : (t : Taken) → is_part (taken_sorts t) all_taken_sorts ≡ true
-taken-part (Good (Message msg)) = refl
-taken-part _ = refl
+taken_part : (t : Taken) → is_part (taken_sorts t) all_taken_sorts ≡ true
+taken_part (Good (Message msg)) = refl
+taken_part _ = refl
 
 module _ {m : Naming} {o : Owed} where
   pub built_alarm_rings : (own wait : Bool) (a : Alarm) → Wakes m a → Built m o (ring_sorts a) 2 4 (alarm_rings own wait a) (alarm_rings own wait a)
@@ -166,29 +166,29 @@ module _ {m : Naming} {o : Owed} where
   built_from_peer (Peer p) row row' known d = whichever (IsHeard p known) (d p known) Empty
   built_from_peer Stranger row row' known d = Empty
 
-  built-says : (p : PeerId) (msg : MessageValue) (r : Role) → m.known p → o.of (ANumber msg.number) →
+  built_says : (p : PeerId) (msg : MessageValue) (r : Role) → m.known p → o.of (ANumber msg.number) →
       Built m o says_sorts 1 5 (says_in p msg r) (says_in (m.names.peer p) msg (renamed_role m.names r))
   unfolding says_in
-  built-says p msg Starting known is = Empty
-  built-says p msg Candidate known is = More (Wider refl (built_candidate_takes p msg known is)) refl
-  built-says p msg Master known is = Wider refl (built_master_takes p msg known is)
-  built-says p msg _ known is = More (Wider (slave-part msg.kind) (built_slave_takes p msg known is)) refl
+  built_says p msg Starting known is = Empty
+  built_says p msg Candidate known is = More (Wider refl (built_candidate_takes p msg known is)) refl
+  built_says p msg Master known is = Wider refl (built_master_takes p msg known is)
+  built_says p msg _ known is = More (Wider (slave_part msg.kind) (built_slave_takes p msg known is)) refl
 
   pub built_peer_says : (msg : MessageValue) (p : PeerId) → m.known p → o.of (ANumber msg.number) →
       Built m o says_sorts 1 5 (peer_says msg p) (peer_says msg (m.names.peer p))
   unfolding peer_says
-  built_peer_says msg p known is = Reading _ RoleAt (λ r told. built-says p msg r known is)
+  built_peer_says msg p known is = Reading _ RoleAt (λ r told. built_says p msg r known is)
 
-  built-replies : (p : PeerId) (r : ReplyValue) (a : Role) → m.known p → o.of (ATicket r.ticket) →
+  built_replies_holds : (p : PeerId) (r : ReplyValue) (a : Role) → m.known p → o.of (ATicket r.ticket) →
       Built m o (Sampling ∷ []) 0 1 (replies_in p r a) (replies_in (m.names.peer p) r (renamed_role m.names a))
   unfolding replies_in
-  built-replies p r Master known is = built_samples p r known is
-  built-replies p r _ known is = Empty
+  built_replies_holds p r Master known is = built_samples p r known is
+  built_replies_holds p r _ known is = Empty
 
   pub built_peer_replies : (r : ReplyValue) (p : PeerId) → m.known p → o.of (ATicket r.ticket) →
       Built m o (Sampling ∷ []) 0 1 (peer_replies r p) (peer_replies r (m.names.peer p))
   unfolding peer_replies
-  built_peer_replies r p known is = Reading _ RoleAt (λ a told. built-replies p r a known is)
+  built_peer_replies r p known is = Reading _ RoleAt (λ a told. built_replies_holds p r a known is)
 
   module _ (charge : Bool) (from : Place) (msg : MessageValue) (place : known_place m from) (back : o.of (APlace from)) (is : o.of (ANumber msg.number))
       (timely : o.of (ATime (time_in msg.body))) where
@@ -213,7 +213,7 @@ module _ {m : Naming} {o : Owed} where
   unfolding handles
   built_handles steer charge from (Bad fault) place back is = Empty
   built_handles steer charge from (Good (Message msg)) place back is = whichever (IsLeft steer msg.kind) Empty
-      (Wider (handled-part msg.kind) (built_handles_kind charge from msg place back is.0 is.1 msg.kind))
+      (Wider (handled_part msg.kind) (built_handles_kind charge from msg place back is.0 is.1 msg.kind))
   built_handles steer charge from (Good (Stamp (Request word counter))) place back is = More (Wider refl (built_replies from word counter place back is)) refl
   built_handles steer charge from (Good (Stamp (Reply r))) place back is = More (Wider refl
       (built_from_peer from _ _ place (λ p known. built_peer_replies r p known is))) refl
@@ -225,4 +225,4 @@ module _ {m : Naming} {o : Owed} where
       Built m o all_taken_sorts 2 6 (takes steer charge from t) (takes steer charge (renamed_place m.names from) t)
   unfolding takes
   built_takes steer charge from t comes taken back is = Then (Wider refl (built_took from t taken))
-      (Either (IsOwn from comes) (λ holds. Empty) (λ place. Wider (taken-part t) (built_handles steer charge from t place back is)))
+      (Either (IsOwn from comes) (λ holds. Empty) (λ place. Wider (taken_part t) (built_handles steer charge from t place back is)))

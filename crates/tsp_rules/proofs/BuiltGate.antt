@@ -4,7 +4,7 @@ use Rattle.tsp_rules.specs.Values.{Become, Quiet, Port, Starting, QUIET}
 use Rattle.tsp_rules.specs.{GateRows.loosens_master, GateRows.reposts, GateRows.sends_loops, Renames.Naming}
 use Rattle.tsp_rules.proofs.RowCodes.{AMessage, ANumber, Arms, IsMaster, Loops, Owed, Puts, Reposts}
 use Rattle.tsp_rules.proofs.Built.{At, Built, Empty, Then, whichever}
-use Rattle.tsp_rules.proofs.{BuiltRoles.built_yields, BuiltRoles.yield_sorts, Emits.Posting, Emits.is_in-own, Emits.sort_of_kind}
+use Rattle.tsp_rules.proofs.{BuiltRoles.built_yields, BuiltRoles.yield_sorts, Emits.Posting, Emits.is_in_own, Emits.sort_of_kind}
 use Rattle.tsp_base.specs.Words.{MessageValue, arms, puts, ◌followed_by◌}
 
 module _ {m : Naming} {o : Owed} where
@@ -21,4 +21,4 @@ module _ {m : Naming} {o : Owed} where
 
   -- a message is passed on as it is
   pub built_reposts : (msg : MessageValue) → o.of (AMessage msg) → Built m o (sort_of_kind msg.kind ∷ []) 1 0 (reposts msg) (reposts msg)
-  built_reposts msg is = At (Reposts msg is) (and_from _ true (is_in-own (sort_of_kind msg.kind)) refl)
+  built_reposts msg is = At (Reposts msg is) (and_from _ true (is_in_own (sort_of_kind msg.kind)) refl)

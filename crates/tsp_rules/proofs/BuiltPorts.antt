@@ -56,15 +56,15 @@ module _ {o : Owed} {has : Port → Type 0} where
   built_all_boots = ForPorts EachPort (λ q is. On q is built_starts)
 
   -- a LOOP, after its taking
-  built-reposts : (m : MessageValue) (q : Port) → o.of (AMessage m) → has q → BuiltAll o has 1 0 (reposts_on m q)
+  built_reposts_holds : (m : MessageValue) (q : Port) → o.of (AMessage m) → has q → BuiltAll o has 1 0 (reposts_on m q)
   unfolding reposts_on
-  built-reposts m q owed is = WhereAll (λ past. is_awake_on past q) (On q is (built_reposts m owed))
+  built_reposts_holds m q owed is = WhereAll (λ past. is_awake_on past q) (On q is (built_reposts m owed))
 
-  built-step : (q : Port) (step : LoopStep) → has q → OwesStep o step → BuiltAll o has 4 2 (takes_loop_step q step)
+  built_step : (q : Port) (step : LoopStep) → has q → OwesStep o step → BuiltAll o has 4 2 (takes_loop_step q step)
   unfolding takes_loop_step forwards
-  built-step q PassOver is owed = EmptyAll
-  built-step q GiveUp is owed = MoreAll (On q is built_loosens_master) refl
-  built-step q (Forward m) is owed = MoreAll (ForPorts (OtherPorts q) (λ r has_r. built-reposts m r owed has_r)) refl
+  built_step q PassOver is owed = EmptyAll
+  built_step q GiveUp is owed = MoreAll (On q is built_loosens_master) refl
+  built_step q (Forward m) is owed = MoreAll (ForPorts (OtherPorts q) (λ r has_r. built_reposts_holds m r owed has_r)) refl
 
   pub built_heeds : (q : Port) (from : Place) (m : MessageValue) → has q → ((own : List ℕ) (ports : ℕ) → OwesStep o (judge own ports q m)) →
       BuiltAll o has 4 2 (reading_all (hears_on from q) (heeds_loop q m))
@@ -72,7 +72,7 @@ module _ {o : Owed} {has : Port → Type 0} where
   built_heeds q from m is owed = ReadingAll Any (hears_on from q) (λ x past. tt) by_case where
     by_case : (b : Bool) → Any b → BuiltAll o has 4 2 (heeds_loop q m b)
     by_case true known = ReadingAll (OwesStep o) (λ x past. judge past.name (length past.ports) q m) (λ x past. owed past.name (length past.ports))
-        (λ step owes. built-step q step is owes)
+        (λ step owes. built_step q step is owes)
     by_case false known = EmptyAll
 
   -- all that is taken

@@ -38,23 +38,23 @@ candidate_sorts _ = quit_sorts
 abbrev pub all_candidate_sorts : List Sort
 all_candidate_sorts = Acking ∷ Counting ∷ Changing ∷ quit_sorts
 
-candidate-part : (k : Kind) → is_part (candidate_sorts k) all_candidate_sorts ≡ true
-candidate-part Ack = refl
-candidate-part _ = refl
+candidate_part : (k : Kind) → is_part (candidate_sorts k) all_candidate_sorts ≡ true
+candidate_part Ack = refl
+candidate_part _ = refl
 
 module _ {m : Naming} {o : Owed} where
   pub built_yields : Built m o yield_sorts 0 2 yields yields
   unfolding yields
   built_yields = Then (At (Puts (Become Loose) refl tt) refl) (Wider refl built_arms_elect)
 
-  built-lead : Built m o window_sorts 1 2 lead_row lead_row
+  built_lead : Built m o window_sorts 1 2 lead_row lead_row
   unfolding lead_row
-  built-lead = Then (At (Puts (Become Master) refl tt) refl) (Then (At (Arms Round ROUND tt) refl) (At (ToOthers MasterUp refl) refl))
+  built_lead = Then (At (Puts (Become Master) refl tt) refl) (Then (At (Arms Round ROUND tt) refl) (At (ToOthers MasterUp refl) refl))
 
   pub built_window_rings : m.stands → Built m o window_sorts 1 3 window_rings window_rings
   unfolding window_rings
   built_window_rings stands = whichever (InTime Window)
-      (Then (At (Puts (Ring Window) refl tt) refl) (whichever (HasWon stands) built-lead (More (Wider refl built_yields) refl)))
+      (Then (At (Puts (Ring Window) refl tt) refl) (whichever (HasWon stands) built_lead (More (Wider refl built_yields) refl)))
       (More (Then (At (Puts (Late Window) refl tt) refl) (Wider refl built_yields)) refl)
 
   pub built_accepted_by : (p : PeerId) (number : ℕ) → m.known p → Built m o (candidate_sorts Accept) 0 2 (accepted_by p number)
@@ -82,7 +82,7 @@ module _ {m : Naming} {o : Owed} where
   pub built_candidate_takes : (p : PeerId) (msg : MessageValue) → m.known p → o.of (ANumber msg.number) →
       Built m o all_candidate_sorts 0 5 (candidate_takes p msg) (candidate_takes (m.names.peer p) msg)
   unfolding candidate_takes
-  built_candidate_takes p msg known is = Wider (candidate-part msg.kind) (built_candidate_takes_kind p msg msg.kind known is)
+  built_candidate_takes p msg known is = Wider (candidate_part msg.kind) (built_candidate_takes_kind p msg msg.kind known is)
 
 -- how the rows are made that a master has for messages, with its resolutions
 
@@ -201,26 +201,26 @@ module _ {m : Naming} {o : Owed} where
   unfolding reports_conflict
   built_reports_conflict q known = whichever (IsFree q) (built_begins Conflict q known refl refl) Empty
 
-  built-masterup : (p : PeerId) → m.known p → (r : Role) → known_role m r → Built m o (slave_sorts MasterUp) 0 3 (masterup_in p r)
+  built_masterup : (p : PeerId) → m.known p → (r : Role) → known_role m r → Built m o (slave_sorts MasterUp) 0 3 (masterup_in p r)
       (masterup_in (m.names.peer p) (renamed_role m.names r))
   unfolding masterup_in
-  built-masterup p known Loose told = Wider refl (built_follow_row p known)
-  built-masterup p known (Follow q) told = If (q.0 == p.0) _ (m.same q p) (λ e. More (Wider refl (built_again p known)) refl)
+  built_masterup p known Loose told = Wider refl (built_follow_row p known)
+  built_masterup p known (Follow q) told = If (q.0 == p.0) _ (m.same q p) (λ e. More (Wider refl (built_again p known)) refl)
       (More (Wider refl (built_reports_conflict q told)) refl)
-  built-masterup p known _ told = Empty
+  built_masterup p known _ told = Empty
 
-  built-masterack : (p : PeerId) → m.known p → (r : Role) → known_role m r → Built m o (slave_sorts MasterAck) 0 3 (masterack_in p r)
+  built_masterack : (p : PeerId) → m.known p → (r : Role) → known_role m r → Built m o (slave_sorts MasterAck) 0 3 (masterack_in p r)
       (masterack_in (m.names.peer p) (renamed_role m.names r))
   unfolding masterack_in
-  built-masterack p known Loose told = whichever (Armed Search) (Wider refl (built_follow_row p known)) Empty
-  built-masterack p known (Follow q) told = If (q.0 == p.0) _ (m.same q p) (λ e. Empty) (More (Wider refl (built_reports_conflict q told)) refl)
-  built-masterack p known _ told = Empty
+  built_masterack p known Loose told = whichever (Armed Search) (Wider refl (built_follow_row p known)) Empty
+  built_masterack p known (Follow q) told = If (q.0 == p.0) _ (m.same q p) (λ e. Empty) (More (Wider refl (built_reports_conflict q told)) refl)
+  built_masterack p known _ told = Empty
 
-  built-from : {sorts : List Sort} {c : ℕ} (p : PeerId) (row row' : Row) → Built m o sorts 0 c row row' → (r : Role) →
+  built_from : {sorts : List Sort} {c : ℕ} (p : PeerId) (row row' : Row) → Built m o sorts 0 c row row' → (r : Role) →
       Built m o sorts 0 c (from_master p row r) (from_master (m.names.peer p) row' (renamed_role m.names r))
   unfolding from_master
-  built-from p row row' d (Follow q) = If (q.0 == p.0) _ (m.same q p) (λ e. d) Empty
-  built-from p row row' d _ = Empty
+  built_from p row row' d (Follow q) = If (q.0 == p.0) _ (m.same q p) (λ e. d) Empty
+  built_from p row row' d _ = Empty
 
   module _ (p : PeerId) (number : ℕ) (known : m.known p) (is : o.of (ANumber number)) where
     pub built_election_of : Built m o quit_sorts 0 3 (election_of p number) (election_of (m.names.peer p) number)
@@ -248,12 +248,12 @@ module _ {m : Naming} {o : Owed} where
   pub built_slave_takes_kind : (p : PeerId) (msg : MessageValue) (k : Kind) → m.known p → o.of (ANumber msg.number) →
       Built m o (slave_sorts k) 0 5 (slave_takes_kind p msg k) (slave_takes_kind (m.names.peer p) msg k)
   unfolding slave_takes_kind
-  built_slave_takes_kind p msg MasterUp known is = More (Reading _ RoleAt (built-masterup p known)) refl
-  built_slave_takes_kind p msg MasterAck known is = More (Reading _ RoleAt (built-masterack p known)) refl
+  built_slave_takes_kind p msg MasterUp known is = More (Reading _ RoleAt (built_masterup p known)) refl
+  built_slave_takes_kind p msg MasterAck known is = More (Reading _ RoleAt (built_masterack p known)) refl
   built_slave_takes_kind p msg Election known is = More (Wider refl (built_election_of p msg.number known is)) refl
-  built_slave_takes_kind p msg AdjTime known is = More (Reading _ RoleAt (λ r told. built-from p _ _ (built_adjtime_of p msg.number known is (time_in msg.body))
+  built_slave_takes_kind p msg AdjTime known is = More (Reading _ RoleAt (λ r told. built_from p _ _ (built_adjtime_of p msg.number known is (time_in msg.body))
       r)) refl
-  built_slave_takes_kind p msg SetTime known is = More (Reading _ RoleAt (λ r told. built-from p _ _ (built_settime_of p msg.number known is (time_in msg.body))
+  built_slave_takes_kind p msg SetTime known is = More (Reading _ RoleAt (λ r told. built_from p _ _ (built_settime_of p msg.number known is (time_in msg.body))
       r)) refl
   built_slave_takes_kind p msg QuitKind known is = Wider refl (built_quits p msg.number known is)
   built_slave_takes_kind p msg Ack known is = More (built_acknowledges p msg.number known) refl

@@ -27,21 +27,21 @@ abbrev pub round_sorts : List Sort
 round_sorts = Asking ∷ Posting ∷ Alarming ∷ close_sorts
 
 module _ {m : Naming} {o : Owed} where
-  built-begins : Built m o asking_sorts 2 3 round_begins round_begins
+  built_begins : Built m o asking_sorts 2 3 round_begins round_begins
   unfolding round_begins asks_slaves
-  built-begins =
+  built_begins =
       Then (At (Arms Round ROUND tt) refl) (Then (At (Arms Probe PROBE tt) refl) (Then (At (Arms CloseAlarm CLOSE tt) refl)
       (Then (At (ToOthers MasterUp refl) refl) (Each _ Table (λ p known. At (Asks p known) refl)))))
 
-  built-waits : (wait : Bool) → Built m o asking_sorts 2 3 (begins_or_waits wait) (begins_or_waits wait)
+  built_waits : (wait : Bool) → Built m o asking_sorts 2 3 (begins_or_waits wait) (begins_or_waits wait)
   unfolding begins_or_waits
-  built-waits true = More (At (Arms Round WAIT tt) refl) refl
-  built-waits false = built-begins
+  built_waits true = More (At (Arms Round WAIT tt) refl) refl
+  built_waits false = built_begins
 
   pub built_round_rings : (wait : Bool) → Built m o asking_sorts 2 4 (round_rings wait) (round_rings wait)
   unfolding round_rings
   built_round_rings wait = whichever (InTime Round)
-      (Then (At (Puts (Ring Round) refl tt) refl) (built-waits wait))
+      (Then (At (Puts (Ring Round) refl tt) refl) (built_waits wait))
       (More (Then (At (Puts (Late Round) refl tt) refl) (At (Arms Round ROUND tt) refl)) refl)
 
   pub built_abandons : Built m o (Rounding ∷ []) 0 1 abandons abandons
@@ -59,10 +59,10 @@ module _ {m : Naming} {o : Owed} where
       Empty)))
       (More (Then (At (Puts (Late Probe) refl tt) refl) (Wider refl built_abandons)) refl)
 
-  built-moves : (own : Bool) (mean : ℤ) → Built m o close_sorts 0 1 (moves own mean) (moves own mean)
+  built_moves : (own : Bool) (mean : ℤ) → Built m o close_sorts 0 1 (moves own mean) (moves own mean)
   unfolding moves
-  built-moves true mean = At (Adjusts mean) refl
-  built-moves false mean = Empty
+  built_moves true mean = At (Adjusts mean) refl
+  built_moves false mean = Empty
 
   pub built_corrects_by : (mean : ℤ) (p : PeerId) → m.known p → (best : Option Estimate) → Corrects o mean best →
       Built m o correct_sorts 0 1 (corrects_by mean p best) (corrects_by mean (m.names.peer p) best)
@@ -75,16 +75,16 @@ module _ {m : Naming} {o : Owed} where
   pub built_close_rings : (own : Bool) → Built m o close_sorts 1 3 (close_rings own) (close_rings own)
   unfolding close_rings
   built_close_rings own = whichever (InTime CloseAlarm)
-      (Closes own refl (built-moves own) (λ mean p known best is. Wider refl (built_corrects_by mean p known best is)))
+      (Closes own refl (built_moves own) (λ mean p known best is. Wider refl (built_corrects_by mean p known best is)))
       (More (Then (At (Puts (Late CloseAlarm) refl tt) refl) (Wider refl built_abandons)) refl)
 
-  built-request : (p : PeerId) (r : ReplyValue) → m.known p → o.of (ATicket r.ticket) → (q : Option OpenRequest) →
+  built_request : (p : PeerId) (r : ReplyValue) → m.known p → o.of (ATicket r.ticket) → (q : Option OpenRequest) →
       Built m o (Sampling ∷ []) 0 1 (samples_request p r q) (samples_request (m.names.peer p) r q)
   unfolding samples_request
-  built-request p r known is None = Empty
-  built-request p r known is (Some q) = If (q.word == r.word) _ refl (λ e. Reading _ TargetAt (λ d told. At (Samples p r q.target d known is) refl)) Empty
+  built_request p r known is None = Empty
+  built_request p r known is (Some q) = If (q.word == r.word) _ refl (λ e. Reading _ TargetAt (λ d told. At (Samples p r q.target d known is) refl)) Empty
 
   pub built_samples : (p : PeerId) (r : ReplyValue) → m.known p → o.of (ATicket r.ticket) →
       Built m o (Sampling ∷ []) 0 1 (samples p r) (samples (m.names.peer p) r)
   unfolding samples
-  built_samples p r known is = Reading _ (RequestAt p r.counter) (λ q told. built-request p r known is q)
+  built_samples p r known is = Reading _ (RequestAt p r.counter) (λ q told. built_request p r known is q)

@@ -12,9 +12,9 @@ use Rattle.tsp_rules.proofs.Built.{Built, Empty, At, Then, EachSend, If, More, w
 abbrev pub send_sorts : List Sort
 send_sorts = Correcting ∷ Passing ∷ Numbering ∷ Posting ∷ Giving ∷ Tabling ∷ []
 
-kind-sent : (k : Kind) → is_part (sort_of_kind k ∷ []) send_sorts ≡ true
-kind-sent SetDateReq = refl
-kind-sent _ = refl
+kind_sent : (k : Kind) → is_part (sort_of_kind k ∷ []) send_sorts ≡ true
+kind_sent SetDateReq = refl
+kind_sent _ = refl
 
 module _ {m : Naming} {o : Owed} where
   pub built_begins_settime : (p : PeerId) (number : ℕ) → m.known p → o.of (ANumber number) →
@@ -26,17 +26,17 @@ module _ {m : Naming} {o : Owed} where
   unfolding begins_adjtime
   built_begins_adjtime p number amount known is time = whichever (MayCorrect p number) (At (PostsTime p AdjTime number amount known is time refl) refl) Empty
 
-  built-leaves : (p : PeerId) (k : Kind) → m.known p → Built m o send_sorts 0 1 (leaves_after p k) (leaves_after (m.names.peer p) k)
+  built_leaves : (p : PeerId) (k : Kind) → m.known p → Built m o send_sorts 0 1 (leaves_after p k) (leaves_after (m.names.peer p) k)
   unfolding leaves_after
-  built-leaves p k known = If (is_correction k) _ refl (λ e. whichever (IsSlave p) (At (Puts (Leave p) refl known) refl) Empty) Empty
+  built_leaves p k known = If (is_correction k) _ refl (λ e. whichever (IsSlave p) (At (Puts (Leave p) refl known) refl) Empty) Empty
 
-  built-repeats : (p : PeerId) → m.known p → (s : Sending) → o.of (ASend (Some s)) →
+  built_repeats : (p : PeerId) → m.known p → (s : Sending) → o.of (ASend (Some s)) →
       Built m o send_sorts 0 2 (repeats_send p (Some s)) (repeats_send (m.names.peer p) (Some (later_send m.names s)))
   unfolding repeats_send gives_up
-  built-repeats p known s is = whichever (IsSendDue s)
-      (whichever (IsSpent s) (Then (At (Puts (Gave p) refl known) refl) (built-leaves p s.message.kind known))
-      (More (At (Repeats p s known is) (kind-sent s.message.kind)) refl)) Empty
+  built_repeats p known s is = whichever (IsSendDue s)
+      (whichever (IsSpent s) (Then (At (Puts (Gave p) refl known) refl) (built_leaves p s.message.kind known))
+      (More (At (Repeats p s known is) (kind_sent s.message.kind)) refl)) Empty
 
   pub built_due_sends : Built m o send_sorts 2 0 due_sends due_sends
   unfolding due_sends due_send repeats_send
-  built_due_sends = EachSend repeats_send repeats_send (λ p. refl) (λ p. refl) built-repeats
+  built_due_sends = EachSend repeats_send repeats_send (λ p. refl) (λ p. refl) built_repeats

@@ -63,15 +63,15 @@ module _ {m : Naming} {o : Owed} where
       (Then (Reading _ OwnAt (λ own told. At (Puts (Back own) refl tt) refl))
       (Then (At (Arms Window WINDOW stands) refl) (Each _ Others (λ p known. built_begins Election p known refl refl))))
 
-  built-unless : (p : PeerId) (r : Role) → m.known p → Built m o quit_sorts 0 3 (follows_unless p r) (follows_unless (m.names.peer p) (renamed_role m.names r))
+  built_unless : (p : PeerId) (r : Role) → m.known p → Built m o quit_sorts 0 3 (follows_unless p r) (follows_unless (m.names.peer p) (renamed_role m.names r))
   unfolding follows_unless
-  built-unless p (Follow q) known = Empty
-  built-unless p _ known = Wider refl (built_follow_row p known)
+  built_unless p (Follow q) known = Empty
+  built_unless p _ known = Wider refl (built_follow_row p known)
 
   pub built_quits : (p : PeerId) (number : ℕ) → m.known p → o.of (ANumber number) → Built m o quit_sorts 0 5 (quits p number) (quits (m.names.peer p) number)
   unfolding quits
   built_quits p number known is = Then (At (Puts (Quit p) refl known) refl) (Then (At (Posts p Ack number known is refl) refl)
-      (Reading _ RoleAt (λ r told. built-unless p r known)))
+      (Reading _ RoleAt (λ r told. built_unless p r known)))
 
   pub built_acknowledges : (p : PeerId) (number : ℕ) → m.known p → Built m o (Acking ∷ []) 0 1 (acknowledges p number) (acknowledges (m.names.peer p) number)
   unfolding acknowledges

@@ -10,9 +10,9 @@ abbrev pub moves_by : Alarm → Bool
 moves_by CloseAlarm = true
 moves_by _ = false
 
-moves-part : (a : Alarm) → is_in Moving (ring_sorts a) ≡ true → moves_by a ≡ true
-moves-part CloseAlarm e = refl
-moves-part _ e = e
+moves_part : (a : Alarm) → is_in Moving (ring_sorts a) ≡ true → moves_by a ≡ true
+moves_part CloseAlarm e = refl
+moves_part _ e = e
 
 module _ {strange moving : Bool} where
   pub calm_due_sends : Calm strange moving 2 0 due_sends
@@ -20,7 +20,7 @@ module _ {strange moving : Bool} where
 
   -- only a close moves the clock
   pub calm_rings : (own wait : Bool) (a : Alarm) → (moves_by a ≡ true → moving ≡ true) → Calm strange moving 2 4 (rings own wait a)
-  calm_rings own wait a may = calm_built (λ h. may (moves-part a h)) (built_rings own wait a)
+  calm_rings own wait a may = calm_built (λ h. may (moves_part a h)) (built_rings own wait a)
 
 module _ {strange : Bool} where
   pub calm_alone : (a : Alarm) → Calm strange true 2 4 (rings_alone a)

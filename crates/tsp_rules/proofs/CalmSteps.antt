@@ -17,23 +17,23 @@ abbrev pub is_message : Taken → Bool
 is_message (Good (Message m)) = true
 is_message _ = false
 
-calm-owed : (strange : Bool) (t : Taken) → Owes (answers_owed strange) t
-calm-owed strange (Bad fault) = tt
-calm-owed strange (Good (Message m)) = (tt, tt)
-calm-owed strange (Good (Stamp (Request word counter))) = tt
-calm-owed strange (Good (Stamp (Reply r))) = tt
+calm_owed : (strange : Bool) (t : Taken) → Owes (answers_owed strange) t
+calm_owed strange (Bad fault) = tt
+calm_owed strange (Good (Message m)) = (tt, tt)
+calm_owed strange (Good (Stamp (Request word counter))) = tt
+calm_owed strange (Good (Stamp (Reply r))) = tt
 
 pub calm_handles : (steer charge : Bool) (from : Place) (t : Taken) → Calm (is_stranger from) true 2 5 (handles steer charge from t)
-calm_handles steer charge from t = calm_moving (built_handles steer charge from t (place_unchanged from) (λ e. e) (calm-owed (is_stranger from) t))
+calm_handles steer charge from t = calm_moving (built_handles steer charge from t (place_unchanged from) (λ e. e) (calm_owed (is_stranger from) t))
 
-unmoving-stamps : (t : Taken) → is_message t ≡ false → is_in Moving (taken_sorts t) ≡ false
-unmoving-stamps (Good (Message m)) e = absurd (true≢false e)
-unmoving-stamps _ e = refl
+unmoving_stamps : (t : Taken) → is_message t ≡ false → is_in Moving (taken_sorts t) ≡ false
+unmoving_stamps (Good (Message m)) e = absurd (true≢false e)
+unmoving_stamps _ e = refl
 
 -- stamps, and octets that are no datagram, never move the clock
 pub calm_stamps : (steer charge : Bool) (from : Place) (t : Taken) → is_message t ≡ false → Calm (is_stranger from) false 2 5 (handles steer charge from t)
-calm_stamps steer charge from t e = calm_unmoving (unmoving-stamps t e) (built_handles steer charge from t (place_unchanged from) (λ e. e)
-    (calm-owed (is_stranger from) t))
+calm_stamps steer charge from t e = calm_unmoving (unmoving_stamps t e) (built_handles steer charge from t (place_unchanged from) (λ e. e)
+    (calm_owed (is_stranger from) t))
 
 pub calm_abandons_going : {strange moving : Bool} → Calm strange moving 0 1 abandons_going
 calm_abandons_going = calm_unmoving refl built_abandons_going
@@ -140,6 +140,6 @@ known_once from t peers acts o =
     subst (λ z. All known z) (sym o.is) (All-append known o.before (Took from t ∷ o.after) (known_calm (is_stranger from) true o.before o.calm_before)
     (All-cons known (Took from t) o.after tt (known_calm (is_stranger from) true o.after o.calm_after)))
 
-pub strangers-answered : StrangersAreAnswered
-strangers-answered Turn x past = known_calm false true (answers Turn x past) (calm_turn.calm x past)
-strangers-answered (Got from t) x past = known_once from t (length past.peers) (answers (Got from t) x past) (takes_once from t x past)
+pub strangers_answered : StrangersAreAnswered
+strangers_answered Turn x past = known_calm false true (answers Turn x past) (calm_turn.calm x past)
+strangers_answered (Got from t) x past = known_once from t (length past.peers) (answers (Got from t) x past) (takes_once from t x past)

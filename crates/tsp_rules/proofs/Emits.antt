@@ -186,15 +186,15 @@ is_part [] all = true
 is_part (s ∷ rest) all = is_in s all && is_part rest all
 
 -- what each act of these sorts keeps a row of them keeps
-keeps-all : {T : Type 0} (sorts : List Sort) (also : Past → T → Type 0) → ((a : Act) → is_in (sort_of a) sorts ≡ true → Keeps also (puts a)) →
+keeps_all : {T : Type 0} (sorts : List Sort) (also : Past → T → Type 0) → ((a : Act) → is_in (sort_of a) sorts ≡ true → Keeps also (puts a)) →
     (acts : List Act) → AllOf sorts acts → (x : ℕ) (past : Past) (state : T) → also past state → also (grown x past acts) state
 unfolding puts
-keeps-all sorts also k [] a x past state h = h
-keeps-all sorts also k (c ∷ rest) a x past state h = keeps-all sorts also k rest a.1 x (grown x past (c ∷ [])) state (k c a.0 x past state h)
+keeps_all sorts also k [] a x past state h = h
+keeps_all sorts also k (c ∷ rest) a x past state h = keeps_all sorts also k rest a.1 x (grown x past (c ∷ [])) state (k c a.0 x past state h)
 
 pub Keeps_by : {T : Type 0} (sorts : List Sort) (also : Past → T → Type 0) (row : Row) → ((a : Act) → is_in (sort_of a) sorts ≡ true → Keeps also (puts a)) →
     Emits sorts row → Keeps also row
-Keeps_by sorts also row k e = λ x past state h. keeps-all sorts also k (row x past) (e.only x past) x past state h
+Keeps_by sorts also row k e = λ x past state h. keeps_all sorts also k (row x past) (e.only x past) x past state h
 
 pub Emits_posts_back : {sorts : List Sort} (from : Place) (kind : Kind) (number : ℕ) → is_in (sort_of_kind kind) sorts ≡ true →
     Emits sorts (posts_back from kind number)
@@ -218,29 +218,29 @@ or-false : (a b : Bool) → (a || b) ≡ true → a ≡ false → b ≡ true
 or-false true b h e = absurd (true≢false e)
 or-false false b h e = h
 
-pub is_in-own : (s : Sort) → is_in s (s ∷ []) ≡ true
-is_in-own s = let same : (code s == code s) ≡ true = eq-eqb (code s) (code s) refl in rw same refl
+pub is_in_own : (s : Sort) → is_in s (s ∷ []) ≡ true
+is_in_own s = let same : (code s == code s) ≡ true = eq-eqb (code s) (code s) refl in rw same refl
 
-is_in-code : (s t : Sort) (all : List Sort) → code s ≡ code t → is_in t all ≡ true → is_in s all ≡ true
-is_in-code s t [] e h = h
-is_in-code s t (u ∷ all) e h = by-head (code t == code u) refl (λ k. is_in-code s t all e k) where
-  by-head : (b : Bool) → (code t == code u) ≡ b → (is_in t all ≡ true → is_in s all ≡ true) → ((code s == code u) || is_in s all) ≡ true
-  by-head true k f = (let same : (code s == code u) ≡ true = ap (λ c. c == code u) e ∙ k in rw same refl)
-  by-head false k f =
+is_in_code : (s t : Sort) (all : List Sort) → code s ≡ code t → is_in t all ≡ true → is_in s all ≡ true
+is_in_code s t [] e h = h
+is_in_code s t (u ∷ all) e h = by_head (code t == code u) refl (λ k. is_in_code s t all e k) where
+  by_head : (b : Bool) → (code t == code u) ≡ b → (is_in t all ≡ true → is_in s all ≡ true) → ((code s == code u) || is_in s all) ≡ true
+  by_head true k f = (let same : (code s == code u) ≡ true = ap (λ c. c == code u) e ∙ k in rw same refl)
+  by_head false k f =
       let same : (code s == code u) ≡ false = ap (λ c. c == code u) e ∙ k in
       rw same (f (or-false (code t == code u) (is_in t all) h k))
 
-pub is_in-part : (s : Sort) (few all : List Sort) → is_part few all ≡ true → is_in s few ≡ true → is_in s all ≡ true
-is_in-part s [] all p h = absurd (true≢false (sym h))
-is_in-part s (t ∷ few) all p h = by-head (code s == code t) refl (λ k. is_in-part s few all ((and_parts (is_in t all) (is_part few all) p).1) k) where
-  by-head : (b : Bool) → (code s == code t) ≡ b → (is_in s few ≡ true → is_in s all ≡ true) → is_in s all ≡ true
-  by-head true k f = is_in-code s t all (eqb-true (code s) (code t) k) ((and_parts (is_in t all) (is_part few all) p).0)
-  by-head false k f = f (or-false (code s == code t) (is_in s few) h k)
+pub is_in_part : (s : Sort) (few all : List Sort) → is_part few all ≡ true → is_in s few ≡ true → is_in s all ≡ true
+is_in_part s [] all p h = absurd (true≢false (sym h))
+is_in_part s (t ∷ few) all p h = by_head (code s == code t) refl (λ k. is_in_part s few all ((and_parts (is_in t all) (is_part few all) p).1) k) where
+  by_head : (b : Bool) → (code s == code t) ≡ b → (is_in s few ≡ true → is_in s all ≡ true) → is_in s all ≡ true
+  by_head true k f = is_in_code s t all (eqb-true (code s) (code t) k) ((and_parts (is_in t all) (is_part few all) p).0)
+  by_head false k f = f (or-false (code s == code t) (is_in s few) h k)
 
-all-more : (few all : List Sort) (acts : List Act) → is_part few all ≡ true → AllOf few acts → AllOf all acts
-all-more few all [] p h = tt
-all-more few all (a ∷ rest) p h = (is_in-part (sort_of a) few all p h.0, all-more few all rest p h.1)
+all_more : (few all : List Sort) (acts : List Act) → is_part few all ≡ true → AllOf few acts → AllOf all acts
+all_more few all [] p h = tt
+all_more few all (a ∷ rest) p h = (is_in_part (sort_of a) few all p h.0, all_more few all rest p h.1)
 
 -- a row of few sorts is one of more
 pub Emits_more : (few : List Sort) {all : List Sort} {row : Row} → is_part few all ≡ true → Emits few row → Emits all row
-Emits_more few {all} {row} p e = record { only = λ x past. all-more few all (row x past) p (e.only x past) }
+Emits_more few {all} {row} p e = record { only = λ x past. all_more few all (row x past) p (e.only x past) }

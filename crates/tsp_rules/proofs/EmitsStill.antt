@@ -12,13 +12,13 @@ still_sorts = Taking ∷ Asking ∷ Correcting ∷ Numbering ∷ Passing ∷ Pos
     Tabling ∷ Rivalling ∷ Acking ∷ Giving ∷ Sampling ∷ Closing ∷ Tracing ∷ []
 
 -- acts without a Correct
-pub corrects-none : (acts : List Act) → AllOf still_sorts acts → corrects acts ≡ false
-corrects-none [] h = refl
-corrects-none (a ∷ acts) h = ap (λ b. b || corrects acts) (by_act a h.0) ∙ corrects-none acts h.1 where
+pub corrects_none : (acts : List Act) → AllOf still_sorts acts → corrects acts ≡ false
+corrects_none [] h = refl
+corrects_none (a ∷ acts) h = ap (λ b. b || corrects acts) (by_act a h.0) ∙ corrects_none acts h.1 where
   by_act : (k : Act) → is_in (sort_of k) still_sorts ≡ true → is_correct k ≡ false
   by_act (Correct amount stepped shown) e = absurd (false≢true e)
   by_act _ e = refl
 
 -- a row of such acts
-pub row_corrects-none : {row : Row} → Emits still_sorts row → (x : ℕ) (past : Past) → corrects (row x past) ≡ false
-row_corrects-none {row} e x past = corrects-none (row x past) (e.only x past)
+pub row_corrects_none : {row : Row} → Emits still_sorts row → (x : ℕ) (past : Past) → corrects (row x past) ≡ false
+row_corrects_none {row} e x past = corrects_none (row x past) (e.only x past)

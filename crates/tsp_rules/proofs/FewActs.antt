@@ -41,10 +41,10 @@ filter_few test (p ∷ ps) = by_case (test p) (filter_few test ps) where
   by_case true le = omega (arith, le)
   by_case false le = omega (arith, le)
 
-map-calm : (strange moving : Bool) (f : PeerId → Act) → ((p : PeerId) → is_calm_act strange moving (f p) ≡ true) → (ps : List PeerId) →
+map_calm : (strange moving : Bool) (f : PeerId → Act) → ((p : PeerId) → is_calm_act strange moving (f p) ≡ true) → (ps : List PeerId) →
     is_calm strange moving (map f ps) ≡ true
-map-calm strange moving f e [] = refl
-map-calm strange moving f e (p ∷ ps) = and_from (is_calm_act strange moving (f p)) (is_calm strange moving (map f ps)) (e p) (map-calm strange moving f e ps)
+map_calm strange moving f e [] = refl
+map_calm strange moving f e (p ∷ ps) = and_from (is_calm_act strange moving (f p)) (is_calm strange moving (map f ps)) (e p) (map_calm strange moving f e ps)
 
 module _ {strange moving : Bool} where
   pub calm_nothing : Calm strange moving 0 0 nothing
@@ -91,11 +91,11 @@ module _ {strange moving : Bool} where
   -- more is allowed
   pub calm_more : (j b k c : ℕ) (row : Row) → j ≤ k → b ≤ c → Calm strange moving j b row → Calm strange moving k c row
   calm_more j b k c row le more p = record {
-    few = λ x past. let first = p.few x past in let scaled = mul-le j k (length past.peers) le in omega (arith, first, scaled, more);
+    few = λ x past. let first = p.few x past in let scaled = mul_le j k (length past.peers) le in omega (arith, first, scaled, more);
     calm = p.calm;
   } where
-    mul-le : (j k n : ℕ) → j ≤ k → j * n ≤ k * n
-    mul-le j k n le = grind (arith, le)
+    mul_le : (j k n : ℕ) → j ≤ k → j * n ≤ k * n
+    mul_le j k n le = grind (arith, le)
 
   pub calm_none : (k c : ℕ) → Calm strange moving k c nothing
   calm_none k c = calm_more 0 0 k c nothing (omega arith) (omega arith) calm_nothing
@@ -122,7 +122,7 @@ module _ {strange moving : Bool} where
         let one : 1 * length past.peers ≡ length past.peers = grind arith in
         omega (arith, length-map (others past.own past.peers) (f past), some, same, one);
     calm = λ x past. subst (λ acts. is_calm strange moving acts ≡ true) (sym (is x past))
-        (map-calm strange moving (f past) (e past) (others past.own past.peers));
+        (map_calm strange moving (f past) (e past) (others past.own past.peers));
   }
 
   pub calm_posts_to_others : (kind : Kind) (number : ℕ) → Calm strange moving 1 0 (posts_to_others kind number)
@@ -154,9 +154,9 @@ module _ {strange moving : Bool} where
   unfolding reading
   calm_each c fact r bound k = record {
     few = λ x past.
-        let some = mul-le c (length (fact x past)) (length past.peers) (bound x past) in
+        let some = mul_le c (length (fact x past)) (length past.peers) (bound x past) in
         omega (arith, each_few c r k (fact x past) x past, some);
     calm = λ x past. each_calm c r k (fact x past) x past;
   } where
-    mul-le : (c m n : ℕ) → m ≤ n → c * m ≤ c * n
-    mul-le c m n le = grind (arith, le)
+    mul_le : (c m n : ℕ) → m ≤ n → c * m ≤ c * n
+    mul_le c m n le = grind (arith, le)

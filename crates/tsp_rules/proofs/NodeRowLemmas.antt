@@ -28,16 +28,16 @@ abbrev pub Bootless : List Act → Type 0
 Bootless [] = Unit {0}
 Bootless (a ∷ rest) = (a ≢ Boot) × Bootless rest
 
-not-shared : (a : Act) → a ≢ Boot → is_shared (Acts a) ≡ false
-not-shared Boot n = absurd (n refl)
-not-shared _ n = refl
+not_shared : (a : Act) → a ≢ Boot → is_shared (Acts a) ≡ false
+not_shared Boot n = absurd (n refl)
+not_shared _ n = refl
 
 -- another port's acts are elsewhere, unless they boot
 pub view_other : (q r : Port) (step : Step) (x : ℕ) (acts : List Act) (lines : List Line) → (q.0 == r.0) ≡ false → Bootless acts →
     view r (joined step x (placed q acts) lines) ≡ passed step x acts (view r lines)
 view_other q r step x [] lines n b = refl
 view_other q r step x (a ∷ rest) lines n b =
-    let there : ((q.0 == r.0) || is_shared (Acts a)) ≡ false = rw (n, not-shared a b.0) refl in
+    let there : ((q.0 == r.0) || is_shared (Acts a)) ≡ false = rw (n, not_shared a b.0) refl in
     view_other q r step x rest (line_of step x q (Acts a) ∷ lines) n b.1
     ∙ ap (λ c. passed step x rest (seen_as c (line_of step x q (Acts a)).did ∷ view r lines)) there
 

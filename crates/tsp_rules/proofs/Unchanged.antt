@@ -20,22 +20,22 @@ comes_unchanged (Peer p) = tt
 comes_unchanged Stranger = tt
 
 -- every role
-role-unchanged : (r : Role) → known_role unchanged r
-role-unchanged Candidate = tt
-role-unchanged _ = tt
+role_unchanged : (r : Role) → known_role unchanged r
+role_unchanged Candidate = tt
+role_unchanged _ = tt
 
 -- and every alarm
-wakes-unchanged : (alarm : Alarm) → Wakes unchanged alarm
-wakes-unchanged Window = tt
-wakes-unchanged _ = tt
+wakes_unchanged : (alarm : Alarm) → Wakes unchanged alarm
+wakes_unchanged Window = tt
+wakes_unchanged _ = tt
 
 -- facts and tests tell nothing new
 pub told_unchanged : {A : Type 0} {f : A → A} {told : A → Type 0} {fact fact' : ℕ → Past → A} → Fact unchanged A f told fact fact' → (a : A) → told a
-told_unchanged RoleAt r = role-unchanged r
+told_unchanged RoleAt r = role_unchanged r
 told_unchanged _ a = tt
 
 pub yes_unchanged : {t t' : ℕ → Past → Bool} (test : Test unchanged t t') → yes test
-yes_unchanged (Due alarm) = wakes-unchanged alarm
+yes_unchanged (Due alarm) = wakes_unchanged alarm
 yes_unchanged _ = tt
 
 pub no_unchanged : {t t' : ℕ → Past → Bool} (test : Test unchanged t t') → no test

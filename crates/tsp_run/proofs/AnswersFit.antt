@@ -11,56 +11,56 @@ use Rattle.tsp_run.proofs.CalmPorts.{AreCalm, Small, small_spread, calm_boots, c
 use Rattle.tsp_run.proofs.{NetworkLemmas.peers_few, FitsLines.TakenOk, FitsLines.AllTaken, FitsLines.AllAlive, FitsLines.ActsOn, FitsLines.did_in}
 
 -- a node that is up stays so
-stays-up : (a : Act) (is_up : Bool) → is_up ≡ true → up_after (Acts a) is_up ≡ true
-stays-up Boot is_up u = refl
-stays-up a is_up u = u
+stays_up : (a : Act) (is_up : Bool) → is_up ≡ true → up_after (Acts a) is_up ≡ true
+stays_up Boot is_up u = refl
+stays_up a is_up u = u
 
 module _ (setting : Setting) (step : Step) (x : ℕ) (history : List Line) (strange : Bool) where
-  alive-one : (p : Placed) (a : Act) (before : List Did) → p.act ≡ a → is_calm_act strange true a ≡ true → up before ≡ true →
+  alive_one : (p : Placed) (a : Act) (before : List Did) → p.act ≡ a → is_calm_act strange true a ≡ true → up before ≡ true →
       Alive setting (Acts p.act) (did_in step x (Acts p.act)) before
-  alive-one p Boot before is e u = absurd (true≢false (sym e))
-  alive-one p a before is e u = rw is u
+  alive_one p Boot before is e u = absurd (true≢false (sym e))
+  alive_one p a before is e u = rw is u
 
-  taken-one : (port : Port) (a : Act) → is_calm_act strange true a ≡ true → TakenOk setting step x history port a
-  taken-one port (Took from t) e = absurd (true≢false (sym e))
-  taken-one port _ e = tt
+  taken_one : (port : Port) (a : Act) → is_calm_act strange true a ≡ true → TakenOk setting step x history port a
+  taken_one port (Took from t) e = absurd (true≢false (sym e))
+  taken_one port _ e = tt
 
   -- calm acts of a node that is up, before others
-  alive-calm : (n : ℕ) (acts rest : List Placed) (before : List Did) → AreCalm strange n acts → up before ≡ true →
+  alive_calm : (n : ℕ) (acts rest : List Placed) (before : List Did) → AreCalm strange n acts → up before ≡ true →
       ((ds : List Did) → up ds ≡ true → AllAlive setting step x ds rest) → AllAlive setting step x before (acts ++ rest)
-  alive-calm n [] rest before c u k = k before u
-  alive-calm n (p ∷ acts) rest before c u k =
-      (alive-one p p.act before refl c.1 u, alive-calm n acts rest (did_in step x (Acts p.act) ∷ before) c.2 (stays-up p.act (up before) u) k)
+  alive_calm n [] rest before c u k = k before u
+  alive_calm n (p ∷ acts) rest before c u k =
+      (alive_one p p.act before refl c.1 u, alive_calm n acts rest (did_in step x (Acts p.act) ∷ before) c.2 (stays_up p.act (up before) u) k)
 
-  taken-calm : (n : ℕ) (acts rest : List Placed) → AreCalm strange n acts → AllTaken setting step x history rest →
+  taken_calm : (n : ℕ) (acts rest : List Placed) → AreCalm strange n acts → AllTaken setting step x history rest →
       AllTaken setting step x history (acts ++ rest)
-  taken-calm n [] rest c k = k
-  taken-calm n (p ∷ acts) rest c k = (taken-one p.port p.act c.1, taken-calm n acts rest c.2 k)
+  taken_calm n [] rest c k = k
+  taken_calm n (p ∷ acts) rest c k = (taken_one p.port p.act c.1, taken_calm n acts rest c.2 k)
 
-on-calm : (strange : Bool) (n : ℕ) (acts rest : List Placed) → AreCalm strange n acts → ActsOn n rest → ActsOn n (acts ++ rest)
-on-calm strange n [] rest c k = k
-on-calm strange n (p ∷ acts) rest c k = ((λ e. c.0), on-calm strange n acts rest c.2 k)
+on_calm : (strange : Bool) (n : ℕ) (acts rest : List Placed) → AreCalm strange n acts → ActsOn n rest → ActsOn n (acts ++ rest)
+on_calm strange n [] rest c k = k
+on_calm strange n (p ∷ acts) rest c k = ((λ e. c.0), on_calm strange n acts rest c.2 k)
 
 -- calm acts alone
-alive-all : (setting : Setting) (step : Step) (x : ℕ) (strange : Bool) (n : ℕ) (acts : List Placed) (before : List Did) →
+alive_all : (setting : Setting) (step : Step) (x : ℕ) (strange : Bool) (n : ℕ) (acts : List Placed) (before : List Did) →
     AreCalm strange n acts → up before ≡ true → AllAlive setting step x before acts
-alive-all setting step x strange n [] before c u = tt
-alive-all setting step x strange n (p ∷ acts) before c u = (
-  alive-one setting step x [] strange p p.act before refl c.1 u,
-  alive-all setting step x strange n acts (did_in step x (Acts p.act) ∷ before) c.2 (stays-up p.act (up before) u),
+alive_all setting step x strange n [] before c u = tt
+alive_all setting step x strange n (p ∷ acts) before c u = (
+  alive_one setting step x [] strange p p.act before refl c.1 u,
+  alive_all setting step x strange n acts (did_in step x (Acts p.act) ∷ before) c.2 (stays_up p.act (up before) u),
 )
 
-taken-all : (setting : Setting) (step : Step) (x : ℕ) (history : List Line) (strange : Bool) (n : ℕ) (acts : List Placed) → AreCalm strange n acts →
+taken_all : (setting : Setting) (step : Step) (x : ℕ) (history : List Line) (strange : Bool) (n : ℕ) (acts : List Placed) → AreCalm strange n acts →
     AllTaken setting step x history acts
-taken-all setting step x history strange n [] c = tt
-taken-all setting step x history strange n (p ∷ acts) c = (
-  taken-one setting step x history strange p.port p.act c.1,
-  taken-all setting step x history strange n acts c.2,
+taken_all setting step x history strange n [] c = tt
+taken_all setting step x history strange n (p ∷ acts) c = (
+  taken_one setting step x history strange p.port p.act c.1,
+  taken_all setting step x history strange n acts c.2,
 )
 
-on-all : (strange : Bool) (n : ℕ) (acts : List Placed) → AreCalm strange n acts → ActsOn n acts
-on-all strange n [] c = tt
-on-all strange n (p ∷ acts) c = ((λ e. c.0), on-all strange n acts c.2)
+on_all : (strange : Bool) (n : ℕ) (acts : List Placed) → AreCalm strange n acts → ActsOn n acts
+on_all strange n [] c = tt
+on_all strange n (p ∷ acts) c = ((λ e. c.0), on_all strange n acts c.2)
 
 -- what a step by the rules owes besides, after these deeds of its node, of which the last is the step's mark
 pub record StepOk (ports wanted : ℕ) (setting : Setting) (step : Step) (x : ℕ) (history : List Line) (before : List Did) (acts : List Placed) : Type 0 where
@@ -79,9 +79,9 @@ turn_ok setting step x history before past four is_up =
     let c = (calm_turn_all {strange = false} n (room past.ports) four).run x past (small_room past) in
     record {
       few = (let few = c.few in omega (arith, few));
-      alive = alive-all setting step x false n (answers_all NodeTurn x past) before c.calm is_up;
-      taken = taken-all setting step x history false n (answers_all NodeTurn x past) c.calm;
-      on = on-all false n (answers_all NodeTurn x past) c.calm;
+      alive = alive_all setting step x false n (answers_all NodeTurn x past) before c.calm is_up;
+      taken = taken_all setting step x history false n (answers_all NodeTurn x past) c.calm;
+      on = on_all false n (answers_all NodeTurn x past) c.calm;
     }
 
 pub got_ok : (setting : Setting) (step : Step) (x : ℕ) (history : List Line) (before : List Did) (past : NodePast) (q : Port) (from : Place)
@@ -96,13 +96,13 @@ got_ok setting step x history before past q from t four has is_up f =
     record {
       few = o.few;
       alive = subst (λ acts. AllAlive setting step x before acts) (sym o.is)
-          (alive-calm setting step x history strange n o.before (took ∷ o.after) before o.calm_before is_up
-          (λ ds u. (u, alive-all setting step x strange n o.after (did_in step x (Acts (Took from t)) ∷ ds) o.calm_after u)));
-      taken = subst (λ acts. AllTaken setting step x history acts) (sym o.is) (taken-calm setting step x history strange n o.before (took ∷
-          o.after) o.calm_before (f, taken-all setting step x history strange n o.after o.calm_after));
-      on = subst (λ acts. ActsOn n acts) (sym o.is) (on-calm strange n o.before (took ∷ o.after) o.calm_before (
+          (alive_calm setting step x history strange n o.before (took ∷ o.after) before o.calm_before is_up
+          (λ ds u. (u, alive_all setting step x strange n o.after (did_in step x (Acts (Took from t)) ∷ ds) o.calm_after u)));
+      taken = subst (λ acts. AllTaken setting step x history acts) (sym o.is) (taken_calm setting step x history strange n o.before (took ∷
+          o.after) o.calm_before (f, taken_all setting step x history strange n o.after o.calm_after));
+      on = subst (λ acts. ActsOn n acts) (sym o.is) (on_calm strange n o.before (took ∷ o.after) o.calm_before (
         (λ e. has),
-        on-all strange n o.after o.calm_after,
+        on_all strange n o.after o.calm_after,
       ));
     }
 
@@ -119,7 +119,7 @@ boot_ok setting step x history before past word four cause =
     (small_spread n (room past.ports) x past boot (small_room past)) in
     record {
       few = (let few = c.few in omega (arith, few));
-      alive = ((word, cause), alive-all setting step x false n rest (did_in step x (Acts Boot) ∷ before) c.calm refl);
-      taken = (tt, taken-all setting step x history false n rest c.calm);
-      on = ((λ e. let bad : ⊥ = cc in absurd bad), on-all false n rest c.calm);
+      alive = ((word, cause), alive_all setting step x false n rest (did_in step x (Acts Boot) ∷ before) c.calm refl);
+      taken = (tt, taken_all setting step x history false n rest c.calm);
+      on = ((λ e. let bad : ⊥ = cc in absurd bad), on_all false n rest c.calm);
     }

@@ -6,9 +6,9 @@ use Rattle.tsp_rules.specs.NodeRows.{NodePast, on, ◌and_then◌, reading_all, 
 use Rattle.tsp_rules.proofs.NodeRowLemmas.{spread_append}
 use Rattle.tsp_run.proofs.RunLemmas.{up_joined}
 
-pub boots-up : (x : ℕ) (past : NodePast) → up (dids (spread x past (boots_all x past)).lines) ≡ true
+pub boots_up : (x : ℕ) (past : NodePast) → up (dids (spread x past (boots_all x past)).lines) ≡ true
 unfolding boots_all on puts ◌and_then◌
-boots-up x past =
+boots_up x past =
     let boot : List Placed = record { port = first_port; act = Boot } ∷ [] in
     let rest = reading_all all_ports (for_ports boots_on) x (spread x past boot) in
     subst (λ (z : NodePast). up (dids z.lines) ≡ true) (sym (spread_append x past boot rest)) (up_joined past.step x rest (spread x past boot).lines refl)

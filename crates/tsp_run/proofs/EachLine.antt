@@ -6,20 +6,20 @@ use Rattle.tsp_base.specs.Words.{HeaderValue, Acts, Begins, Booted, Came, Cause,
 use Rattle.tsp_promises.specs.Everywhere.{Everywhere}
 use Rattle.tsp_codec.specs.Taken.{taken_of}
 use Rattle.tsp_run.specs.{Clocked.Clocks, Clocked.boot_by, Clocked.run_by, Clocked.tick_by, Run.joins}
-use Rattle.tsp_run.proofs.HappensBy.{acts_by, steps-are, takes-or, taking, taking_row, taking_step}
+use Rattle.tsp_run.proofs.HappensBy.{acts_by, steps_are, takes_or, taking, taking_row, taking_step}
 
 -- every line of a step has a property, whatever it does and whatever was before
 abbrev pub AllLines : (Line → List Line → Type 0) → Step → ℕ → Type 0
 AllLines P step x = (port : Port) (deed : Deed) (before : List Line) → P (line_of step x port deed) before
 
-each-joined : (P : Line → List Line → Type 0) (step : Step) (x : ℕ) (acts : List Placed) (h : List Line) → AllLines P step x → Everywhere P h →
+each_joined : (P : Line → List Line → Type 0) (step : Step) (x : ℕ) (acts : List Placed) (h : List Line) → AllLines P step x → Everywhere P h →
     Everywhere P (joined step x acts h)
-each-joined P step x [] h all e = e
-each-joined P step x (p ∷ rest) h all e = each-joined P step x rest (line_of step x p.port (Acts p.act) ∷ h) all (all p.port (Acts p.act) h, e)
+each_joined P step x [] h all e = e
+each_joined P step x (p ∷ rest) h all e = each_joined P step x rest (line_of step x p.port (Acts p.act) ∷ h) all (all p.port (Acts p.act) h, e)
 
-pub each-stepped : (P : Line → List Line → Type 0) (step : Step) (x : ℕ) (acts : List Placed) (h : List Line) → AllLines P step x → Everywhere P h →
+pub each_stepped : (P : Line → List Line → Type 0) (step : Step) (x : ℕ) (acts : List Placed) (h : List Line) → AllLines P step x → Everywhere P h →
     Everywhere P (stepped step x acts h)
-each-stepped P step x acts h all e = each-joined P step x acts (line_of step x first_port Begins ∷ h) all (all first_port Begins h, e)
+each_stepped P step x acts h all e = each_joined P step x acts (line_of step x first_port Begins ∷ h) all (all first_port Begins h, e)
 
 -- the cause of a step that an event makes
 abbrev pub IsCause : Event → Cause → Type 0
@@ -29,9 +29,9 @@ IsCause (Take at k) cause = cause ≡ Came k
 IsCause (Bytes at node port from octets) cause = cause ≡ Handed
 
 module _ (P : Line → List Line → Type 0) (clocks : Clocks) (header : HeaderValue) (before : List Event) (e : Everywhere P (run_by clocks header before)) where
-  by-row : (row : NodeRow) (step : Step) → AllLines P step (tick_by clocks step) →
+  by_row : (row : NodeRow) (step : Step) → AllLines P step (tick_by clocks step) →
       Everywhere P (stepped step (tick_by clocks step) (acts_by clocks header (run_by clocks header before) row step) (run_by clocks header before))
-  by-row row step all = each-stepped P step (tick_by clocks step) (acts_by clocks header (run_by clocks header before) row step)
+  by_row row step all = each_stepped P step (tick_by clocks step) (acts_by clocks header (run_by clocks header before) row step)
       (run_by clocks header before) all e
 
   -- a property of every line with an event's cause holds everywhere after it, if it did before
@@ -40,21 +40,21 @@ module _ (P : Line → List Line → Type 0) (clocks : Clocks) (header : HeaderV
   each_event (BootAt at node word) all =
       let step = boot_by clocks (run_by clocks header before) at node word in
       subst (λ h. Everywhere P (stepped h.step h.tick h.acts (run_by clocks header before)))
-      (sym (steps-are clocks header (run_by clocks header before) boots_all step)) (by-row boots_all step (all step _ (_, refl)))
+      (sym (steps_are clocks header (run_by clocks header before) boots_all step)) (by_row boots_all step (all step _ (_, refl)))
   each_event (Turn at node) all =
       let step : Step = record { at = at; node = node; cause = Turned } in
       let row = answers_all NodeTurn in
       subst (λ h. Everywhere P (stepped h.step h.tick h.acts (run_by clocks header before)))
-      (sym (steps-are clocks header (run_by clocks header before) row step)) (by-row row step (all step _ refl))
+      (sym (steps_are clocks header (run_by clocks header before) row step)) (by_row row step (all step _ refl))
   each_event (Bytes at node port from octets) all =
       let step : Step = record { at = at; node = node; cause = Handed } in
       let row = answers_all (GotOn port from (taken_of octets)) in
       subst (λ h. Everywhere P (stepped h.step h.tick h.acts (run_by clocks header before)))
-      (sym (steps-are clocks header (run_by clocks header before) row step)) (by-row row step (all step _ refl))
-  each_event (Take at k) all = elim (takes-or clocks header (run_by clocks header before) at k) [
+      (sym (steps_are clocks header (run_by clocks header before) row step)) (by_row row step (all step _ refl))
+  each_event (Take at k) all = elim (takes_or clocks header (run_by clocks header before) at k) [
     | inl a ↦
         let step = taking_step at k a.to in
         subst (λ o. Everywhere P (joins o (run_by clocks header before))) (sym (taking clocks header (run_by clocks header before) at k a))
-        (by-row (taking_row a.post a.to) step (all step _ refl))
+        (by_row (taking_row a.post a.to) step (all step _ refl))
     | inr nothing ↦ subst (λ o. Everywhere P (joins o (run_by clocks header before))) (sym nothing.1) e
   ]

@@ -2,13 +2,13 @@
 use Rattle.std.proofs.Common.{sym, ap, subst, inl, inr, arith, eq-eqb, eqb-true, ◌≡◌, ◌⊎◌, ℕ, ◌+◌, ◌<◌, ◌≤◌, ◌^◌, ◌==◌, ◌||◌, Bool, true, false, if◌then◌else◌}
 use Rattle.std.proofs.Common.{List, [], ◌∷◌, length, refl}
 use Rattle.std.proofs.lemmas.Bool.{cases_lt}
-use Rattle.tsp_promises.proofs.{witness.StepChecks.Empty, witness.StepChecks.far-deed, witness.StepChecks.far-ends, shared.SendPlaces.posted-mono}
+use Rattle.tsp_promises.proofs.{witness.StepChecks.Empty, witness.StepChecks.far_deed, witness.StepChecks.far_ends, shared.SendPlaces.posted_mono}
 use Rattle.tsp_promises.specs.{DeedFits.ActFits, StepFacts.StepEnds}
 use Rattle.tsp_promises.specs.{PortFits.PortFits, Setting.Setting, Setting.setup_of, Fits.Alive, Fits.TookFits, Fits.LineFits, Fits.Fits}
 use Rattle.tsp_rules.specs.Values.{Act, Boot, Took, Post, Placed, Taken, Place, Port}
 use Rattle.tsp_base.specs.Words.{first_port, joined, line_of, Cause, Came, Step, Deed, Begins, Acts, Did, Line, Seen, of, view, seen_as, is_shared, dids}
 use Rattle.tsp_base.specs.Words.{time_of, Within, Setup, posted, posted_after}
-use Rattle.tsp_base.proofs.{PlaceLemmas.Within-all, PlaceLemmas.Within-through, ViewPlaces.port-same, ViewPlaces.sees-own}
+use Rattle.tsp_base.proofs.{PlaceLemmas.Within_all, PlaceLemmas.Within_through, ViewPlaces.port_same, ViewPlaces.sees_own}
 use Rattle.tsp_run.specs.Networks.{ports_on}
 
 -- a line on one of so many ports, or of the whole node
@@ -43,19 +43,19 @@ bystands : (ports : ℕ) (q : Port) → ports ≤ q.0 → (ls : List Line) → A
 bystands ports q past [] f = record { backs = refl; none = refl; heeded = refl; untaken = λ peers. refl; shut = λ p c. refl }
 bystands ports q past (l ∷ before) f = by_case (l.port.0 == q.0) refl (is_shared l.did.deed) refl (bystands ports q past before f.1) where
   by_case : (a : Bool) → (l.port.0 == q.0) ≡ a → (b : Bool) → is_shared l.did.deed ≡ b → Empty (view q before) → Empty (seen_as (a || b) l.did ∷ view q before)
-  by_case false e b i s = far-deed b l.did l.did.deed (view q before) refl i s
-  by_case true e true i s = far-deed true l.did l.did.deed (view q before) refl i s
+  by_case false e b i s = far_deed b l.did l.did.deed (view q before) refl i s
+  by_case true e true i s = far_deed true l.did l.did.deed (view q before) refl i s
   by_case true e false i s = let same = eqb-true l.port.0 q.0 e in let less = f.0 i in absurd (omega (arith, same, less, past))
 
-or-left : (a : Bool) → (a || false) ≡ true → a ≡ true
-or-left true e = refl
-or-left false e = e
+or_left : (a : Bool) → (a || false) ≡ true → a ≡ true
+or_left true e = refl
+or_left false e = e
 
 -- each port of a node ends its step well, if those do that it has
 pub all_end : (setup : Setup) (ports : ℕ) (q : Port) (ls : List Line) → AreOn ports ls → (q.0 < ports → StepEnds setup (view q ls)) → StepEnds setup (view q ls)
 all_end setup ports q ls f ends = elim (cases_lt q.0 ports) [
   | inl has ↦ ends has
-  | inr past ↦ far-ends setup (view q ls) (bystands ports q past ls f)
+  | inr past ↦ far_ends setup (view q ls) (bystands ports q past ls f)
 ]
 
 boot_or : (a : Act) → (a ≡ Boot) ⊎ (is_shared (Acts a) ≡ false)
@@ -68,8 +68,8 @@ act_fits : (setting : Setting) (n : ℕ) (p : Placed) (d : Did) (q : Port) (ls :
     ActFits (setup_of setting n q) p.act d (view q ls)
 act_fits setting n p d q ls f e = elim (boot_or p.act) [
   | inl boot ↦ subst (λ k. ActFits (setup_of setting n q) k d (view q ls)) (sym boot) tt
-  | inr own ↦ subst (λ r. ActFits (setup_of setting n r) p.act d (view r ls)) (port-same p.port q
-      (or-left (p.port.0 == q.0) (subst (λ b. ((p.port.0 == q.0) || b) ≡ true) own e))) (f own)
+  | inr own ↦ subst (λ r. ActFits (setup_of setting n r) p.act d (view r ls)) (port_same p.port q
+      (or_left (p.port.0 == q.0) (subst (λ b. ((p.port.0 == q.0) || b) ≡ true) own e))) (f own)
 ]
 
 -- what a step's line of an act takes, over the history before the step
@@ -98,7 +98,7 @@ taken_more : (setting : Setting) (step : Step) (x : ℕ) (port : Port) (history 
 taken_more setting step x port history h from t w (Came k) is f = record {
   post = f.post;
   older = f.older;
-  place = Within-through (f.post ∷ f.older) history h f.place w;
+  place = Within_through (f.post ∷ f.older) history h f.place w;
   number = f.number;
   datagram = f.datagram;
   deed = f.deed;
@@ -133,7 +133,7 @@ owes_here setup step x p h f =
     let l = line_of step x p.port (Acts p.act) in
     let fits : PortFits setup (seen_as ((p.port.0 == p.port.0) || is_shared (Acts p.act)) l.did ∷ view p.port (of step.node h)) =
     subst (λ ls. PortFits setup (view p.port ls)) (one_line step x p.port (Acts p.act) h) f in
-    (subst (λ b. PortFits setup (seen_as b l.did ∷ view p.port (of step.node h))) (sees-own p.port (is_shared (Acts p.act))) fits).0
+    (subst (λ b. PortFits setup (seen_as b l.did ∷ view p.port (of step.node h))) (sees_own p.port (is_shared (Acts p.act))) fits).0
 
 took_is : (setting : Setting) (step : Step) (x : ℕ) (history : List Line) (port : Port) (a : Act) (from : Place) (t : Taken) → a ≡ Took from t →
     TakenOk setting step x history port a → TookFits step.cause setting (line_of step x port (Acts (Took from t))) history from t
@@ -174,11 +174,11 @@ posted_more (Acts (Post to datagram)) n = omega arith
 posted_more _ n = omega arith
 
 -- what was posted stays posted
-pub posted-joined : (step : Step) (x : ℕ) (acts : List Placed) (h : List Line) → posted (dids h) ≤ posted (dids (joined step x acts h))
-posted-joined step x [] h = omega arith
-posted-joined step x (p ∷ rest) h =
+pub posted_joined : (step : Step) (x : ℕ) (acts : List Placed) (h : List Line) → posted (dids h) ≤ posted (dids (joined step x acts h))
+posted_joined step x [] h = omega arith
+posted_joined step x (p ∷ rest) h =
     let l = line_of step x p.port (Acts p.act) in
-    omega (arith, posted-mono h (l ∷ h) (inr (Within-all h)), posted-joined step x rest (l ∷ h))
+    omega (arith, posted_mono h (l ∷ h) (inr (Within_all h)), posted_joined step x rest (l ∷ h))
 
 -- all acts of a step
 pub acts_fit : (ports : ℕ) (setting : Setting) (step : Step) (x : ℕ) (history : List Line) (acts : List Placed) (port : Port) (d : Deed) (before : List Line) →
@@ -196,7 +196,7 @@ acts_fit ports setting step x history (p ∷ rest) port d before tick on w few a
     let own = λ (e : is_shared (Acts p.act) ≡ false).
     owes_here (setup_of setting step.node p.port) step x p h (fits_before (setup_of setting step.node p.port) p.port step x rest
     (line_of step x p.port (Acts p.act) ∷ h) (fits p.port (on.0 e))) in
-    let kept = posted-joined step x (p ∷ rest) h in
+    let kept = posted_joined step x (p ∷ rest) h in
     let line = act_line setting step x history port d before p tick w (omega (arith, few, kept)) alive.0 took.0 own in
     acts_fit ports setting step x history rest p.port (Acts p.act) h tick on.1 (inr w) few
     (subst (λ ds. AllAlive setting step x ds rest) (sym own_is) alive.1) took.1 fits

@@ -17,9 +17,9 @@ acts_by header = HappensBy.acts_by (clocks_of header) header
 abbrev pub stepping : HeaderValue → List Line → NodeRow → Step → Happening
 stepping header = HappensBy.stepping (clocks_of header) header
 
-pub steps-are : (header : HeaderValue) (history : List Line) (row : NodeRow) (step : Step) → steps header history row step ≡ stepping header history row step
+pub steps_are : (header : HeaderValue) (history : List Line) (row : NodeRow) (step : Step) → steps header history row step ≡ stepping header history row step
 unfolding steps
-steps-are header history row step = refl
+steps_are header history row step = refl
 
 module _ {header : HeaderValue} (is : IsHeader header) (history : List Line) (step : Step) where
   pub boot_acts : Boots (ports_in header step) (acts_by header history boots_all step)
@@ -48,9 +48,9 @@ pub taking : (header : HeaderValue) (history : List Line) (at k : ℕ) (a : Arri
 taking header history at k a = sym (happening_same header history (Take at k)) ∙ HappensBy.taking (clocks_of header) header history at k a
 
 -- a take hands something over, or nothing happens, since the datagram goes nowhere
-pub takes-or : (header : HeaderValue) (history : List Line) (at k : ℕ) →
+pub takes_or : (header : HeaderValue) (history : List Line) (at k : ℕ) →
     Arrives header history at k ⊎ ((goes_to (networks header) (slice_get (posts history) k) ≡ None) × (happening header history (Take at k) ≡ None))
-takes-or header history at k = elim (HappensBy.takes-or (clocks_of header) header history at k) [
+takes_or header history at k = elim (HappensBy.takes_or (clocks_of header) header history at k) [
   | inl a ↦ inl a
   | inr nothing ↦ inr (nothing.0, sym (happening_same header history (Take at k)) ∙ nothing.1)
 ]

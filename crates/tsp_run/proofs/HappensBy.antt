@@ -10,7 +10,7 @@ use Rattle.tsp_run.specs.{Run.Happening, Run.arrives, Run.arrives_at, Run.goes_t
 use Rattle.tsp_run.specs.Clocked.{Clocks, IsSetUp, happening_by, reaches_by, steps_by, tick_by}
 use Rattle.tsp_run.{specs.Setup.past_of, specs.declared.posted.Posted.Posted, proofs.AnswersFit.small_room}
 use Rattle.tsp_run.proofs.CalmPorts.{AreCalm, CalmActs, small_spread, TakesOnce, calm_boots, calm_turn_all, step_most, takes_once_on, turns_most}
-use Rattle.tsp_run.proofs.{NetworkLemmas.few_ports_of, NetworkLemmas.goes_there, RefusalLemmas.goes-nowhere, RefusalLemmas.goes_to-post}
+use Rattle.tsp_run.proofs.{NetworkLemmas.few_ports_of, NetworkLemmas.goes_there, RefusalLemmas.goes_nowhere, RefusalLemmas.goes_to_post}
 
 -- the acts of a step by a row
 abbrev pub acts_by : Clocks → HeaderValue → List Line → NodeRow → Step → List Placed
@@ -20,10 +20,10 @@ acts_by clocks header history row step = row (tick_by clocks step) (in_node_step
 abbrev pub stepping : Clocks → HeaderValue → List Line → NodeRow → Step → Happening
 stepping clocks header history row step = record { step = step; tick = tick_by clocks step; acts = acts_by clocks header history row step }
 
-pub steps-are : (clocks : Clocks) (header : HeaderValue) (history : List Line) (row : NodeRow) (step : Step) →
+pub steps_are : (clocks : Clocks) (header : HeaderValue) (history : List Line) (row : NodeRow) (step : Step) →
     steps_by clocks header history row step ≡ stepping clocks header history row step
 unfolding steps_by
-steps-are clocks header history row step = refl
+steps_are clocks header history row step = refl
 
 -- a boot's acts: the Boot, and a few that are neither boots nor takings
 pub record Boots (ports : ℕ) (acts : List Placed) : Type 0 where
@@ -52,15 +52,15 @@ module _ (clocks : Clocks) {header : HeaderValue} (is : IsSetUp header) (history
       record { rest = rest; is = refl; calm = c.calm; few = c.few }
 
   -- a turn's acts are few, and neither boots nor takings
-  turn-calm : CalmActs false (ports_in header step) (turns_most (room (ports_on step.node (networks header))))
+  turn_calm : CalmActs false (ports_in header step) (turns_most (room (ports_on step.node (networks header))))
       (acts_by clocks header history (answers_all NodeTurn) step)
-  turn-calm =
+  turn_calm =
       let x : ℕ = tick_by clocks step in
       let past : NodePast = in_node_step step x (past_of header step history) in
       (calm_turn_all {strange = false} (length past.ports) (room past.ports) four).run x past (small_room past)
 
   pub turn_acts : AreCalm false (ports_in header step) (acts_by clocks header history (answers_all NodeTurn) step)
-  turn_acts = turn-calm.calm
+  turn_acts = turn_calm.calm
 
   -- how many acts a step has at the most
   abbrev pub most : ℕ
@@ -75,7 +75,7 @@ module _ (clocks : Clocks) {header : HeaderValue} (is : IsSetUp header) (history
 
   -- nor are a turn's
   pub turn_few : length (acts_by clocks header history (answers_all NodeTurn) step) ≤ most
-  turn_few = let few = turn-calm.few in omega (arith, few)
+  turn_few = let few = turn_calm.few in omega (arith, few)
 
   -- a datagram is taken once
   pub got_acts : (q : Port) (from : Place) (t : Taken) → q.0 < ports_in header step →
@@ -110,15 +110,15 @@ pub taking : (clocks : Clocks) (header : HeaderValue) (history : List Line) (at 
 taking clocks header history at k a =
     ap (λ o. reaches_by clocks header history at k (arrives (networks header) o)) a.there
     ∙ ap (λ o. reaches_by clocks header history at k (arrives_at a.post o)) a.goes
-    ∙ ap (λ h. Some h) (steps-are clocks header history (taking_row a.post a.to) (taking_step at k a.to))
+    ∙ ap (λ h. Some h) (steps_are clocks header history (taking_row a.post a.to) (taking_step at k a.to))
 
 -- a take hands something over, or nothing happens, since the datagram goes nowhere
-pub takes-or : (clocks : Clocks) (header : HeaderValue) (history : List Line) (at k : ℕ) →
+pub takes_or : (clocks : Clocks) (header : HeaderValue) (history : List Line) (at k : ℕ) →
     Arrives header history at k ⊎ ((goes_to (networks header) (slice_get (posts history) k) ≡ None) × (happening_by clocks header history (Take at k) ≡ None))
-takes-or clocks header history at k = by_case (goes_to (networks header) (slice_get (posts history) k)) refl where
+takes_or clocks header history at k = by_case (goes_to (networks header) (slice_get (posts history) k)) refl where
   by_case : (o : Option Address) → goes_to (networks header) (slice_get (posts history) k) ≡ o →
       Arrives header history at k ⊎ ((goes_to (networks header) (slice_get (posts history) k) ≡ None) × (happening_by clocks header history (Take at k) ≡ None))
-  by_case None e = inr (e, ap (λ a. reaches_by clocks header history at k a) (goes-nowhere (networks header) (slice_get (posts history) k) e))
+  by_case None e = inr (e, ap (λ a. reaches_by clocks header history at k a) (goes_nowhere (networks header) (slice_get (posts history) k) e))
   by_case (Some a) e =
-      let p = goes_to-post (networks header) (slice_get (posts history) k) a e in
+      let p = goes_to_post (networks header) (slice_get (posts history) k) a e in
       inl (record { post = p.0; to = a; there = p.1; goes = p.2; has = (goes_there (networks header) p.0.from p.0.port p.0.to a p.2).has })

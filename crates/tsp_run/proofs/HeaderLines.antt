@@ -7,8 +7,8 @@ use Rattle.tsp_promises.proofs.leads.SoundFacts.{no_name}
 use Rattle.tsp_run.specs.{Clocked.IsSetUp, Setup.node_line, Setup.nobody}
 
 -- no node's clock passes the drift
-pub rate-node_line : (header : HeaderValue) → IsHeader header → (n : ℕ) → nat_abs (node_line header n).rate ≤ header.drift
-rate-node_line header is n = elim (cases_lt n (length header.nodes)) [
+pub rate_node_line : (header : HeaderValue) → IsHeader header → (n : ℕ) → nat_abs (node_line header n).rate ≤ header.drift
+rate_node_line header is n = elim (cases_lt n (length header.nodes)) [
   | inl within ↦ (is.kept n nobody within).rate
   | inr past ↦ subst (λ (l : NodeLine). nat_abs l.rate ≤ header.drift) (sym (get_or_past header.nodes n nobody past)) (omega arith)
 ]
@@ -23,8 +23,8 @@ set_up_of header is = record {
 }
 
 -- each node has a name
-pub name-node_line : (header : HeaderValue) → IsSetUp header → (n : ℕ) → IsName (node_line header n).name
-name-node_line header is n = elim (cases_lt n (length header.nodes)) [
+pub name_node_line : (header : HeaderValue) → IsSetUp header → (n : ℕ) → IsName (node_line header n).name
+name_node_line header is n = elim (cases_lt n (length header.nodes)) [
   | inl within ↦ is.named n nobody within
   | inr past ↦ subst (λ (l : NodeLine). IsName l.name) (sym (get_or_past header.nodes n nobody past)) no_name
 ]

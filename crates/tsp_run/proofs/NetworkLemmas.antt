@@ -12,8 +12,8 @@ use Rattle.tsp_run.specs.{Setting.members_of, Setting.named_or, Setting.network_
 pub some_same : {A : Type 0} {a b : A} → Some a ≡ Some b → a ≡ b
 some_same e = cc
 
-not-equal : (a b : ℕ) → a + 1 ≤ b → (a == b) ≡ false
-not-equal a b h = ne_eqb a b (λ e. absurd (omega (arith, e, h)))
+not_equal : (a b : ℕ) → a + 1 ≤ b → (a == b) ≡ false
+not_equal a b h = ne_eqb a b (λ e. absurd (omega (arith, e, h)))
 
 -- a network that port q has, and by which port the node is on it
 pub record OnNetwork (n q k p i : ℕ) (nets : List (List ℕ)) : Type 0 where
@@ -26,11 +26,11 @@ pub record OnNetwork (n q k p i : ℕ) (nets : List (List ℕ)) : Type 0 where
   pub member : has_member n (slice_index_or nets j []) ≡ true
 
 -- one network more before
-on-more : (n q k p i : ℕ) (net : List ℕ) (rest : List (List ℕ)) → has_member n net ≡ true → OnNetwork n q k (p + 1) (i + 1) rest →
+on_more : (n q k p i : ℕ) (net : List ℕ) (rest : List (List ℕ)) → has_member n net ≡ true → OnNetwork n q k (p + 1) (i + 1) rest →
     OnNetwork n q k p i (net ∷ rest)
-on-more n q k p i net rest m h =
-    let here : (i == k) ≡ false = not-equal i k (let a = h.place in omega (arith, a)) in
-    let first : (p == q) ≡ false = not-equal p q h.later in
+on_more n q k p i net rest m h =
+    let here : (i == k) ≡ false = not_equal i k (let a = h.place in omega (arith, a)) in
+    let first : (p == q) ≡ false = not_equal p q h.later in
     record {
       later = (let a = h.later in omega (arith, a));
       few = (let a = h.few in rw m (omega (arith, a)));
@@ -41,9 +41,9 @@ on-more n q k p i net rest m h =
       member = h.member;
     }
 
-on-past : (n q k p i : ℕ) (net : List ℕ) (rest : List (List ℕ)) → has_member n net ≡ false → OnNetwork n q k p (i + 1) rest → OnNetwork n q k p i (net ∷ rest)
-on-past n q k p i net rest m h =
-    let here : (i == k) ≡ false = not-equal i k (let a = h.place in omega (arith, a)) in
+on_past : (n q k p i : ℕ) (net : List ℕ) (rest : List (List ℕ)) → has_member n net ≡ false → OnNetwork n q k p (i + 1) rest → OnNetwork n q k p i (net ∷ rest)
+on_past n q k p i net rest m h =
+    let here : (i == k) ≡ false = not_equal i k (let a = h.place in omega (arith, a)) in
     record {
       later = h.later;
       few = (let a = h.few in rw m a);
@@ -54,8 +54,8 @@ on-past n q k p i net rest m h =
       member = h.member;
     }
 
-on-first : (n p i : ℕ) (net : List ℕ) (rest : List (List ℕ)) → has_member n net ≡ true → OnNetwork n p i p i (net ∷ rest)
-on-first n p i net rest m =
+on_first : (n p i : ℕ) (net : List ℕ) (rest : List (List ℕ)) → has_member n net ≡ true → OnNetwork n p i p i (net ∷ rest)
+on_first n p i net rest m =
     let here : (i == i) ≡ true = eq-eqb i i refl in
     let first : (p == p) ≡ true = eq-eqb p p refl in
     record {
@@ -80,9 +80,9 @@ on_network n q k p i (net ∷ rest) e = by_member (has_member n net) refl (λ f.
       by_member true m more past e = by_port (p == q) refl e where
         by_port : (b : Bool) → (p == q) ≡ b → (if b then Some i else network_from n q (p + 1) (i + 1) rest) ≡ Some k → OnNetwork n q k p i (net ∷ rest)
         by_port true same e = subst (λ r. OnNetwork n r k p i (net ∷ rest)) (eqb-true p q same) (subst (λ r. OnNetwork n p r p i (net ∷ rest)) (some_same e)
-            (on-first n p i net rest m))
-        by_port false other e = on-more n q k p i net rest m (more e)
-      by_member false m more past e = on-past n q k p i net rest m (past e)
+            (on_first n p i net rest m))
+        by_port false other e = on_more n q k p i net rest m (more e)
+      by_member false m more past e = on_past n q k p i net rest m (past e)
 
 -- the port of a network
 pub on_port_of : (n q k p i : ℕ) (nets : List (List ℕ)) → port_from n k p i nets ≡ Some q → OnNetwork n q k p i nets
@@ -94,10 +94,10 @@ on_port_of n q k p i (net ∷ rest) e = by_place (i == k) refl (λ f. on_port_of
           (if c then (if b then Some p else None) else (if b then port_from n k (p + 1) (i + 1) rest else port_from n k p (i + 1) rest)) ≡ Some q →
           OnNetwork n q k p i (net ∷ rest)
       by_place true same more past true m e = subst (λ r. OnNetwork n q r p i (net ∷ rest)) (eqb-true i k same)
-          (subst (λ r. OnNetwork n r i p i (net ∷ rest)) (some_same e) (on-first n p i net rest m))
+          (subst (λ r. OnNetwork n r i p i (net ∷ rest)) (some_same e) (on_first n p i net rest m))
       by_place true same more past false m e = let bad : ⊥ = cc in absurd bad
-      by_place false other more past true m e = on-more n q k p i net rest m (more e)
-      by_place false other more past false m e = on-past n q k p i net rest m (past e)
+      by_place false other more past true m e = on_more n q k p i net rest m (more e)
+      by_place false other more past false m e = on_past n q k p i net rest m (past e)
 
 -- how a port is set up: by its network
 pub record SetUp (n r p i : ℕ) (nets : List (List ℕ)) : Type 0 where
@@ -115,7 +115,7 @@ set_up n r p i (net ∷ rest) h = by_member (λ r. set_up n r (p + 1) (i + 1) re
       record { j = 0; network = rw (m, first) (ap (λ k. Some k) (let e : i ≡ i + 0 = omega arith in e)); setup = rw m refl }
   by_member more past true m (suc r) h =
       let s = more r (omega (arith, h)) in
-      let other : (p == p + suc r) ≡ false = not-equal p (p + suc r) (omega arith) in
+      let other : (p == p + suc r) ≡ false = not_equal p (p + suc r) (omega arith) in
       record {
         j = suc s.j;
         network = rw (m, other) (ap (λ k. network_from n k (p + 1) (i + 1) rest) (let e : p + suc r ≡ (p + 1) + r = omega arith in e) ∙ s.network ∙
@@ -131,9 +131,9 @@ set_up n r p i (net ∷ rest) h = by_member (λ r. set_up n r (p + 1) (i + 1) re
       }
 
 -- the peers of a port are its network's members
-pub is_among-peers : (n : ℕ) (net : List ℕ) → is_among (peer_of n) (peers_on net) ≡ has_member n net
-is_among-peers n [] = refl
-is_among-peers n (m ∷ rest) = ap (λ b. (m == n) || b) (is_among-peers n rest)
+pub is_among_peers : (n : ℕ) (net : List ℕ) → is_among (peer_of n) (peers_on net) ≡ has_member n net
+is_among_peers n [] = refl
+is_among_peers n (m ∷ rest) = ap (λ b. (m == n) || b) (is_among_peers n rest)
 
 -- a node is a member of its networks
 pub own_member : (nets : List (List ℕ)) (n : ℕ) (q : Port) → is_among (peer_of n) (members_of nets (network_of nets n q)) ≡ true
@@ -143,7 +143,7 @@ own_member nets n q = by_case (network_at n q nets) refl where
   by_case (Some k) e =
       let h = on_network n q.0 k 0 0 nets e in
       let same : h.j ≡ k = (let a = h.place in omega (arith, a)) in
-      is_among-peers n (slice_index_or nets k []) ∙ subst (λ j. has_member n (slice_index_or nets j []) ≡ true) same h.member
+      is_among_peers n (slice_index_or nets k []) ∙ subst (λ j. has_member n (slice_index_or nets j []) ≡ true) same h.member
 
 pub port_named : (q r : Port) → q.0 ≡ r.0 → q ≡ r
 port_named q r e = ap (λ k. let p : Port = record { 0 = k } in p) e
@@ -191,9 +191,9 @@ goes_there nets from port (Peer p) a e = by_network (network_at from port nets) 
   by_network (Some k) f e = by_port k f (port_from p.0 k 0 0 nets) refl e
 
 -- a node has as many ports as networks
-pub length-ports_on : (n : ℕ) (nets : List (List ℕ)) → length (ports_on n nets) ≡ nets_with n nets
-length-ports_on n [] = refl
-length-ports_on n (net ∷ rest) = by_member (has_member n net) (length-ports_on n rest) ∙
+pub length_ports_on : (n : ℕ) (nets : List (List ℕ)) → length (ports_on n nets) ≡ nets_with n nets
+length_ports_on n [] = refl
+length_ports_on n (net ∷ rest) = by_member (has_member n net) (length_ports_on n rest) ∙
     sym (sum_by-append (λ x. if has_member n x then 1 else 0) (net ∷ []) rest) where
       by_member : (b : Bool) → length (ports_on n rest) ≡ nets_with n rest → length (if b then port_on n net ∷ ports_on n rest else ports_on n rest) ≡
           (0 + (if b then 1 else 0)) + nets_with n rest
@@ -208,7 +208,7 @@ few_ports_of header all n = by_nets header.nets (all n) where
     by_member : (b : Bool) → length (if b then port_on n (numbers_below (length header.nodes)) ∷ [] else []) ≤ 4
     by_member true = omega arith
     by_member false = omega arith
-  by_nets (net ∷ rest) few = let e = length-ports_on n (net ∷ rest) in omega (arith, e, few)
+  by_nets (net ∷ rest) few = let e = length_ports_on n (net ∷ rest) in omega (arith, e, few)
 
 pub few_ports : (header : HeaderValue) → IsHeader header → (n : ℕ) → length (ports_on n (networks header)) ≤ 4
 few_ports header is = few_ports_of header is.few_ports

@@ -8,22 +8,22 @@ use Rattle.tsp_run.specs.Clocked.{clocks_of, happening_by, reaches_by, steps_by}
 use Rattle.tsp_run.specs.{declared.arrival.Arrival.Arrival, Networks.networks, Possible.Happens, Possible.Possible}
 use Rattle.tsp_run.specs.{Premised.IsPrompt, Premised.KeptByText, Premised.Prompt, Premised.own_posts, Refusals.Scene, Refusals.impossible}
 use Rattle.tsp_run.specs.{Setting.SetBy, Setup.node_line}
-use Rattle.tsp_run.proofs.{HeaderLines.rate-node_line, HeaderLines.set_up_of}
+use Rattle.tsp_run.proofs.{HeaderLines.rate_node_line, HeaderLines.set_up_of}
 use Rattle.tsp_promises.{proofs.shared.Rates.keeps_time, specs.Everywhere.Everywhere, specs.Fits.node_of, specs.Setting.Setting}
 use Rattle.tsp_promises.specs.Premises.{Few, Honest, Life, NamesApart, OwnWords, Words}
 
-reaches-same : (header : HeaderValue) (history : List Line) (at k : ℕ) (o : Option Arrival) →
+reaches_same : (header : HeaderValue) (history : List Line) (at k : ℕ) (o : Option Arrival) →
     reaches_by (clocks_of header) header history at k o ≡ reaches header history at k o
 unfolding steps steps_by
-reaches-same header history at k None = refl
-reaches-same header history at k (Some a) = refl
+reaches_same header history at k None = refl
+reaches_same header history at k (Some a) = refl
 
 -- each event makes the same happen
 pub happening_same : (header : HeaderValue) (history : List Line) (e : Event) → happening_by (clocks_of header) header history e ≡ happening header history e
 unfolding steps steps_by
 happening_same header history (BootAt at node word) = refl
 happening_same header history (Turn at node) = refl
-happening_same header history (Take at k) = reaches-same header history at k (arrives (networks header) (slice_get (posts history) k))
+happening_same header history (Take at k) = reaches_same header history at k (arrives (networks header) (slice_get (posts history) k))
 happening_same header history (Bytes at node port from octets) = refl
 
 pub runs_by_own_clocks : RunsByOwnClocks
@@ -57,11 +57,11 @@ set_back header setting set = record {
 }
 
 -- what can happen after a run can after the same one
-happen-own : (header : HeaderValue) (events : List Event) → Happens header events → HappensBy (clocks_of header) header events
-happen-own header [] h = tt
-happen-own header (e ∷ before) h = (
+happen_own : (header : HeaderValue) (events : List Event) → Happens header events → HappensBy (clocks_of header) header events
+happen_own header [] h = tt
+happen_own header (e ∷ before) h = (
   subst (λ lines. impossible (scene_after lines) e ≡ None) (sym (runs_by_own_clocks header before)) h.0,
-  happen-own header before h.1,
+  happen_own header before h.1,
 ) where
   scene_after : List Line → Scene
   scene_after lines = record {
@@ -78,9 +78,9 @@ happen-own header (e ∷ before) h = (
 pub possible_own : (header : HeaderValue) (events : List Event) → Possible header events → PossibleBy (clocks_of header) header events
 possible_own header events p = record {
   header_is = set_up_of header p.header_is;
-  keeps = λ n. keeps_time (node_line header n).rate header.drift (rate-node_line header p.header_is n) p.header_is.small;
+  keeps = λ n. keeps_time (node_line header n).rate header.drift (rate_node_line header p.header_is n) p.header_is.small;
   ranges = p.ranges;
-  happens = happen-own header events p.happens;
+  happens = happen_own header events p.happens;
   few = subst (λ lines. length (posts lines) < 2 ^ 64) (sym (runs_by_own_clocks header events)) p.few;
 }
 
@@ -89,9 +89,9 @@ is-prompt : (header : HeaderValue) (before : List Event) (e : Event) → IsPromp
 is-prompt header before (Take at k) early = λ p there. early p (subst (λ lines. slice_get (posts lines) k ≡ Some p) (runs_by_own_clocks header before) there)
 is-prompt header before _ early = tt
 
-prompt-own : (header : HeaderValue) (events : List Event) → Prompt header events → PromptBy (clocks_of header) header events
-prompt-own header [] early = tt
-prompt-own header (e ∷ before) early = (is-prompt header before e early.0, prompt-own header before early.1)
+prompt_own : (header : HeaderValue) (events : List Event) → Prompt header events → PromptBy (clocks_of header) header events
+prompt_own header [] early = tt
+prompt_own header (e ∷ before) early = (is-prompt header before e early.0, prompt_own header before early.1)
 
 -- the premises of a run by the header's clocks are those of the schedule's
 pub kept_own : (header : HeaderValue) (events : List Event) → KeptByEvents (clocks_of header) header events → KeptByText header events
@@ -100,7 +100,7 @@ kept_own header events k =
     record {
       honest = λ s. subst Honest same (k.honest s);
       only_honest = λ h. k.only_honest (subst Honest (sym same) h);
-      life = λ early. subst Life same (k.life (prompt-own header events early));
+      life = λ early. subst Life same (k.life (prompt_own header events early));
       words = λ w. subst Words same (k.words w);
       only_words = λ w. k.only_words (subst Words (sym same) w);
       own_words = λ w. subst OwnWords same (k.own_words w);

@@ -7,26 +7,27 @@ use Rattle.tsp_rules.specs.GateRows.{NodeGiven, NodeTurn, GotOn, answers_all, bo
 use Rattle.tsp_rules.specs.NodeRows.{NodePast, NodeRow, PortSetup, in_node_step, on_port, port_setup, spread}
 use Rattle.tsp_base.specs.Words.{first_port, joined, line_of, stepped, HeaderValue, Booted, Turned, Came, Handed, Step, Begins, Acts, Line, of, view, dids}
 use Rattle.tsp_base.specs.Words.{lives, time_of, up, posted, peer_of}
-use Rattle.tsp_base.proofs.PlaceLemmas.{Within-all}
+use Rattle.tsp_base.proofs.PlaceLemmas.{Within_all}
 use Rattle.tsp_promises.specs.{Fits.Finished, Fits.Fits, Fits.TookFits, Sound.IsSound, Sound.IsSoundDeed, StepFacts.StepEnds}
 use Rattle.tsp_promises.specs.{PortFits.PortFits, PortFits.setup_in, Setting.Alone, Setting.Named, Setting.Setting, Setting.setup_of}
 use Rattle.tsp_promises.proofs.{leads.NodeLeads.begins_all, leads.NodeLeads.boots_all_lead, leads.GateLeads.GivenOn, leads.GateLeads.answers_all_lead}
-use Rattle.tsp_promises.proofs.{leads.Known.Ended, leads.Known.Fresh, shared.Clocks.tick-mono}
-use Rattle.tsp_promises.proofs.{leads.RunLeads.ends_of, leads.RunLeads.ended_later, leads.RunLeads.ended_seen, leads.RunLeads.nothing-done, leads.GateSteps.AllPorts}
+use Rattle.tsp_promises.proofs.{leads.Known.Ended, leads.Known.Fresh, shared.Clocks.tick_mono}
+use Rattle.tsp_promises.proofs.{leads.RunLeads.ends_of, leads.RunLeads.ended_later, leads.RunLeads.ended_seen, leads.RunLeads.nothing_done}
+use Rattle.tsp_promises.proofs.{leads.GateSteps.AllPorts}
 use Rattle.tsp_codec.specs.{Canon.canon, Taken.taken_of}
 use Rattle.tsp_run.specs.Networks.{networks, network_from, ports_on, address_of, room}
 use Rattle.tsp_run.specs.Clocked.{ClockedRunsFit, Clocks, IsSetUp, PossibleBy, SetByClocks, boot_by, clocks_of, reaches_by, run_by, scene_by, steps_by, tick_by}
-use Rattle.tsp_run.{proofs.RefusalLemmas.CanHappen, proofs.RefusalLemmas.can_happen, proofs.RefusalLemmas.up-down}
+use Rattle.tsp_run.{proofs.RefusalLemmas.CanHappen, proofs.RefusalLemmas.can_happen, proofs.RefusalLemmas.up_down}
 use Rattle.tsp_run.{specs.Ranges.IsInRange, proofs.NetworkLemmas.few_ports_of, proofs.NetworkLemmas.goes_there, proofs.NetworkLemmas.set_up}
 use Rattle.tsp_run.specs.{Refusals.down, Refusals.node_in, Setup.node_line, Setup.past_of, Setup.rests}
 use Rattle.tsp_run.specs.Run.{joins, event_at, last_at, posts, arrives, arrives_at, goes_to}
 use Rattle.tsp_run.specs.{Setting.PossibleRunsFit, Setting.RunsFit, Setting.named_or, declared.address.Address.Address}
-use Rattle.tsp_run.{specs.declared.posted.Posted.Posted, proofs.PostPlaces.length-posts, proofs.PostPlaces.post_at}
+use Rattle.tsp_run.{specs.declared.posted.Posted.Posted, proofs.PostPlaces.length_posts, proofs.PostPlaces.post_at}
 use Rattle.tsp_run.proofs.AnswersFit.{StepOk, turn_ok, got_ok, boot_ok}
-use Rattle.tsp_run.proofs.FitsLines.{ActsOn, AllAlive, ArePlaced, acts_fit, all_end, did_in, mark_line, of_placed, posted-joined}
-use Rattle.tsp_run.proofs.{OwnClocks.possible_own, OwnClocks.runs_by_own_clocks, OwnClocks.set_own, HeaderLines.name-node_line, SoundLemmas.line_sound}
+use Rattle.tsp_run.proofs.FitsLines.{ActsOn, AllAlive, ArePlaced, acts_fit, all_end, did_in, mark_line, of_placed, posted_joined}
+use Rattle.tsp_run.proofs.{OwnClocks.possible_own, OwnClocks.runs_by_own_clocks, OwnClocks.set_own, HeaderLines.name_node_line, SoundLemmas.line_sound}
 use Rattle.tsp_run.proofs.{SoundLemmas.octets_sound, SoundLemmas.sound_read}
-use Rattle.tsp_run.proofs.{PossibleRun.accepted-possible, PossibleRun.possible_before, RunLemmas.stepped_own, RunLemmas.stepped_other}
+use Rattle.tsp_run.proofs.{PossibleRun.accepted_possible, PossibleRun.possible_before, RunLemmas.stepped_own, RunLemmas.stepped_other}
 use Rattle.tsp_run.proofs.SoundAll.{SoundNode, IsSoundInput, sound_answers_all, sound_begins, sound_boots_all}
 
 -- what is known of a run: its lines fit and are on their nodes' ports, its time is that of its last event, each port of each node is at rest, and each node
@@ -38,14 +39,14 @@ pub record Ran (header : HeaderValue) (setting : Setting) (t : ℕ) (h : List Li
   pub nodes : (n : ℕ) → AllPorts (λ r. Ended) (setting.tick n t) (past_of header (rests n) h)
   pub sound : (n : ℕ) → SoundNode (past_of header (rests n) h)
 
-joined-placed : (nets : List (List ℕ)) (step : Step) (x : ℕ) (acts : List Placed) (h : List Line) → ActsOn (length (ports_on step.node nets)) acts →
+joined_placed : (nets : List (List ℕ)) (step : Step) (x : ℕ) (acts : List Placed) (h : List Line) → ActsOn (length (ports_on step.node nets)) acts →
     ArePlaced nets h → ArePlaced nets (joined step x acts h)
-joined-placed nets step x [] h on p = p
-joined-placed nets step x (a ∷ rest) h on p = joined-placed nets step x rest (line_of step x a.port (Acts a.act) ∷ h) on.1 (on.0, p)
+joined_placed nets step x [] h on p = p
+joined_placed nets step x (a ∷ rest) h on p = joined_placed nets step x rest (line_of step x a.port (Acts a.act) ∷ h) on.1 (on.0, p)
 
-pub joined-time : (step : Step) (x : ℕ) (acts : List Placed) (h : List Line) → time_of (dids h) ≤ step.at → time_of (dids (joined step x acts h)) ≤ step.at
-joined-time step x [] h e = e
-joined-time step x (a ∷ rest) h e = joined-time step x rest (line_of step x a.port (Acts a.act) ∷ h) (omega arith)
+pub joined_time : (step : Step) (x : ℕ) (acts : List Placed) (h : List Line) → time_of (dids h) ≤ step.at → time_of (dids (joined step x acts h)) ≤ step.at
+joined_time step x [] h e = e
+joined_time step x (a ∷ rest) h e = joined_time step x rest (line_of step x a.port (Acts a.act) ∷ h) (omega arith)
 
 -- after a step each port of each node is at rest
 node_after : (header : HeaderValue) (setting : Setting) (t : ℕ) (h : List Line) (step : Step) (x : ℕ) (acts : List Placed) → t ≤ step.at →
@@ -66,7 +67,7 @@ node_after header setting t h step x acts later nodes after tick_is n false e = 
     let now : List Line = stepped step x acts h in
     ended_seen (setting.tick n step.at) (on_port r (past_of header (rests n) h)) (on_port r (past_of header (rests n) now)) refl refl
     (ap (λ l. view r l) (sym (stepped_other n step x acts h e)))
-    (ended_later (setting.tick n t) (setting.tick n step.at) (on_port r (past_of header (rests n) h)) (tick-mono setting n t step.at later) (nodes n r has))
+    (ended_later (setting.tick n t) (setting.tick n step.at) (on_port r (past_of header (rests n) h)) (tick_mono setting n t step.at later) (nodes n r has))
 
 -- after a step whose acts are sound all nodes' are
 sound_after : (header : HeaderValue) (h : List Line) (step : Step) (x : ℕ) (acts : List Placed) → ((n : ℕ) → SoundNode (past_of header (rests n) h)) →
@@ -138,9 +139,9 @@ by_row clocks header setting t h step row set r later few leads soundly ok =
     ended_seen x (on_port q (past_of header (rests step.node) h)) (on_port q base) refl refl refl
     (subst (λ k. Ended k (on_port q (past_of header (rests step.node) h))) (sym tick_is)
     (ended_later (setting.tick step.node t) (setting.tick step.node step.at) (on_port q (past_of header (rests step.node) h))
-    (tick-mono setting step.node t step.at later) (r.nodes step.node q has))) in
+    (tick_mono setting step.node t step.at later) (r.nodes step.node q has))) in
     let after : AllPorts (λ r. Ended) x (spread x past acts) = leads (begins_all step x x base (omega arith) (λ q has. own_is header step h q has) rested) in
-    let kept : posted (dids h) ≤ posted (dids (joined step x acts (mark ∷ h))) = posted-joined step x acts (mark ∷ h) in
+    let kept : posted (dids h) ≤ posted (dids (joined step x acts (mark ∷ h))) = posted_joined step x acts (mark ∷ h) in
     let all : posted (dids (joined step x acts (mark ∷ h))) < 2 ^ 64 = few in
     let line = mark_line ports setting step x h tick_is (of_placed nets step.node h r.placed) (let b = r.time in omega (arith, b, later))
     (omega (arith, all, kept))
@@ -148,14 +149,14 @@ by_row clocks header setting t h step row set r later few leads soundly ok =
     let own : (step.node == step.node) ≡ true = eq-eqb step.node step.node refl in
     let own_is : dids (of step.node (mark ∷ h)) ≡ mark.did ∷ dids (of step.node h) = rw own refl in
     record {
-      fits = acts_fit ports setting step x h acts first_port Begins h tick_is ok.on (inr (Within-all h)) all
+      fits = acts_fit ports setting step x h acts first_port Begins h tick_is ok.on (inr (Within_all h)) all
           (subst (λ ds. AllAlive setting step x ds acts) (sym own_is) ok.alive) ok.taken
           (λ q has. subst (λ l. PortFits (setup_of setting step.node q) (view q l)) (sym (stepped_own step.node step x acts h own))
           (subst (λ k. PortFits k (view q (joined step x acts (mark ∷ of step.node h)))) (setup_is clocks header setting step h q set has)
           (after q has).0.fits))
           (line, r.fits);
-      placed = joined-placed nets step x acts (mark ∷ h) ok.on ((λ e. let bad : ⊥ = cc in absurd bad), r.placed);
-      time = joined-time step x acts (mark ∷ h) (omega arith);
+      placed = joined_placed nets step x acts (mark ∷ h) ok.on ((λ e. let bad : ⊥ = cc in absurd bad), r.placed);
+      time = joined_time step x acts (mark ∷ h) (omega arith);
       nodes = λ n. node_after header setting t h step x acts later r.nodes after tick_is n (step.node == n) refl;
       sound = λ n. sound_after header h step x acts r.sound (soundly (sound_begins step x base (let s = r.sound step.node in
           record { name = s.name; word_fits = s.word_fits; ports = s.ports; lines = s.lines }))) n (step.node == n) refl;
@@ -163,7 +164,7 @@ by_row clocks header setting t h step row set r later few leads soundly ok =
 
 up_seen : (clocks : Clocks) (header : HeaderValue) (before : List Event) (n : ℕ) → down (scene_by clocks header before).up (Some n) ≡ None →
     up (dids (of n (run_by clocks header before))) ≡ true
-up_seen clocks header before n e = up-down (scene_by clocks header before) n e
+up_seen clocks header before n e = up_down (scene_by clocks header before) n e
 
 module _ {clocks : Clocks} {header : HeaderValue} {setting : Setting} (is : IsSetUp header) (set : SetByClocks clocks header setting) where
   by_answers : (before : List Event) (step : Step) (g : NodeGiven) → Ran header setting (last_at before) (run_by clocks header before) →
@@ -217,14 +218,14 @@ module _ {clocks : Clocks} {header : HeaderValue} {setting : Setting} (is : IsSe
   four : (n : ℕ) → length (ports_on n (networks header)) ≤ 4
   four n = few_ports_of header is.few_ports n
 
-  nobody-acts : (before : List Event) (at k : ℕ) → Ran header setting (last_at before) (run_by clocks header before) →
+  nobody_acts : (before : List Event) (at k : ℕ) → Ran header setting (last_at before) (run_by clocks header before) →
       CanHappen (scene_by clocks header before) (Take at k) → Ran header setting at (run_by clocks header before)
-  nobody-acts before at k r can = record {
+  nobody_acts before at k r can = record {
     fits = r.fits;
     placed = r.placed;
     time = (let b = r.time in let c = can.time in omega (arith, b, c));
     nodes = λ n q has. ended_later (setting.tick n (last_at before)) (setting.tick n at)
-        (on_port q (past_of header (rests n) (run_by clocks header before))) (tick-mono setting n (last_at before) at can.time) (r.nodes n q has);
+        (on_port q (past_of header (rests n) (run_by clocks header before))) (tick_mono setting n (last_at before) at can.time) (r.nodes n q has);
     sound = r.sound;
   }
 
@@ -234,12 +235,12 @@ module _ {clocks : Clocks} {header : HeaderValue} {setting : Setting} (is : IsSe
       (run_by clocks header before))) < 2 ^ 64 →
       Ran header setting at (joins (reaches_by clocks header (run_by clocks header before) at k (arrives (networks header) o))
       (run_by clocks header before))
-  taken_step before at k None r can there few = nobody-acts before at k r can
+  taken_step before at k None r can there few = nobody_acts before at k r can
   taken_step before at k (Some p) r can there few = arrived (address_of (networks header) p.from p.port p.to) refl few where
     arrived : (o : Option Address) → address_of (networks header) p.from p.port p.to ≡ o →
         posted (dids (joins (reaches_by clocks header (run_by clocks header before) at k (arrives_at p o)) (run_by clocks header before))) < 2 ^ 64 →
         Ran header setting at (joins (reaches_by clocks header (run_by clocks header before) at k (arrives_at p o)) (run_by clocks header before))
-    arrived None e few = nobody-acts before at k r can
+    arrived None e few = nobody_acts before at k r can
     arrived (Some a) e few =
         let sound = post_sound before (last_at before) k p r there in
         let step : Step = record { at = at; node = a.node; cause = Came k } in
@@ -287,12 +288,12 @@ module _ {clocks : Clocks} {header : HeaderValue} {setting : Setting} (is : IsSe
     fits = tt;
     placed = tt;
     time = omega arith;
-    nodes = λ n q has. nothing-done (setting.tick n 0) (on_port q (past_of header (rests n) []));
-    sound = λ n. record { name = name-node_line header is n; word_fits = omega arith; ports = four n; lines = tt };
+    nodes = λ n q has. nothing_done (setting.tick n 0) (on_port q (past_of header (rests n) []));
+    sound = λ n. record { name = name_node_line header is n; word_fits = omega arith; ports = four n; lines = tt };
   }
   ran (e ∷ before) p =
       let few = p.few in
-      let same = length-posts (run_by clocks header (e ∷ before)) in
+      let same = length_posts (run_by clocks header (e ∷ before)) in
       event_ran before e (ran before (possible_before clocks header e before p)) (All-head IsInRange e before p.ranges)
       (can_happen (scene_by clocks header before) e p.happens.0) (omega (arith, few, same))
 
@@ -308,11 +309,11 @@ clocked_runs_fit clocks header setting events set p =
     )
 
 -- so does that of every possible schedule
-pub possible-runs-fit : PossibleRunsFit
-possible-runs-fit header setting events set p =
+pub possible_runs_fit_holds : PossibleRunsFit
+possible_runs_fit_holds header setting events set p =
     subst (λ h. Fits setting h × Finished setting h) (runs_by_own_clocks header events)
     (clocked_runs_fit (clocks_of header) header setting events (set_own header setting set) (possible_own header events p))
 
 -- and that of every accepted one
-pub runs-fit : RunsFit
-runs-fit header setting events set a = possible-runs-fit header setting events set (accepted-possible header events a)
+pub runs_fit_holds : RunsFit
+runs_fit_holds header setting events set a = possible_runs_fit_holds header setting events set (accepted_possible header events a)

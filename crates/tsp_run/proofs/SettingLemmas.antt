@@ -3,7 +3,7 @@ use Rattle.std.specs.Prelude.{refl}
 use Rattle.tsp_promises.proofs.shared.Rates.{keeps_time}
 use Rattle.tsp_run.specs.{Clocked.ClocksAreSet, Clocked.clocks_of, Networks.networks, Setting.EachIsSet, Setting.members_of, Setting.network_of}
 use Rattle.tsp_run.specs.{Setup.node_line}
-use Rattle.tsp_run.proofs.{HeaderLines.rate-node_line, HeaderLines.set_up_of, NetworkLemmas.own_member, NetworkLemmas.ports_apart, OwnClocks.set_back}
+use Rattle.tsp_run.proofs.{HeaderLines.rate_node_line, HeaderLines.set_up_of, NetworkLemmas.own_member, NetworkLemmas.ports_apart, OwnClocks.set_back}
 
 pub clocks_are_set : ClocksAreSet
 clocks_are_set clocks header is keeps = (
@@ -32,8 +32,8 @@ clocks_are_set clocks header is keeps = (
   },
 )
 
-pub each-is-set : EachIsSet
-each-is-set header is =
+pub each_is_set_holds : EachIsSet
+each_is_set_holds header is =
     let s = clocks_are_set (clocks_of header) header (set_up_of header is)
-    (λ n. keeps_time (node_line header n).rate header.drift (rate-node_line header is n) is.small) in
+    (λ n. keeps_time (node_line header n).rate header.drift (rate_node_line header is n) is.small) in
     (s.0, set_back header s.0 s.1)

@@ -15,7 +15,8 @@ use Rattle.tsp_base.specs.Words.{Step, Acts, Line, dids, is_shared, plain, seen_
 use Rattle.tsp_base.specs.Words.{first_port, carries_time, carries_hops, MessageValue, body_fits, word_after, puts}
 use Rattle.tsp_base.proofs.Views.{plain_view}
 use Rattle.tsp_promises.specs.Sound.{IsSoundAct, IsSoundDeed, AreSound, SoundPast, IsSound, IsSoundBody, IsSoundTaken}
-use Rattle.tsp_promises.proofs.{leads.GateSteps.LeadsAll, leads.GateSteps.All_after, shared.PortLists.Ranged, shared.PortLists.listed_ranged, leads.SoundFacts.Soundly}
+use Rattle.tsp_promises.proofs.{leads.GateSteps.LeadsAll, leads.GateSteps.All_after, shared.PortLists.Ranged, shared.PortLists.listed_ranged}
+use Rattle.tsp_promises.proofs.{leads.SoundFacts.Soundly}
 use Rattle.tsp_promises.proofs.{leads.SoundBuilt.sound_built, leads.SoundBuilt.ranges_owed, leads.SoundBuilt.taken_ranges, leads.SoundSteps.acts_sound}
 
 -- each deed of a node is sound
@@ -37,9 +38,9 @@ SoundAll x past = SoundNode past
 abbrev pub SoundlyAll : NodeRow → Type 0
 SoundlyAll row = LeadsAll SoundAll row SoundAll
 
-view-sound : (q : Port) (lines : List Line) → AreSoundLines lines → AreSound (view q lines)
-view-sound q [] s = tt
-view-sound q (l ∷ before) s = by_case ((l.port.0 == q.0) || is_shared l.did.deed) (view-sound q before s.1) where
+view_sound : (q : Port) (lines : List Line) → AreSoundLines lines → AreSound (view q lines)
+view_sound q [] s = tt
+view_sound q (l ∷ before) s = by_case ((l.port.0 == q.0) || is_shared l.did.deed) (view_sound q before s.1) where
   by_case : (b : Bool) → AreSound (view q before) → AreSound (seen_as b l.did ∷ view q before)
   by_case true more = (s.0, more)
   by_case false more = more
@@ -49,18 +50,18 @@ pub sound_port : (q : Port) (past : NodePast) → SoundNode past → SoundPast (
 sound_port q past s = record {
   name = s.name;
   word_fits = subst (λ d. word d < 2 ^ 64) (sym (plain_view q past.lines)) s.word_fits;
-  acts = view-sound q past.lines s.lines;
+  acts = view_sound q past.lines s.lines;
 }
 
-joined-sound : (step : Step) (x : ℕ) (q : Port) (acts : List Act) (lines : List Line) → All IsSoundAct acts → AreSoundLines lines →
+joined_sound : (step : Step) (x : ℕ) (q : Port) (acts : List Act) (lines : List Line) → All IsSoundAct acts → AreSoundLines lines →
     AreSoundLines (joined step x (placed q acts) lines)
-joined-sound step x q [] lines a s = s
-joined-sound step x q (a ∷ rest) lines k s = joined-sound step x q rest (line_of step x q (Acts a) ∷ lines) (All-tail IsSoundAct a rest k)
+joined_sound step x q [] lines a s = s
+joined_sound step x q (a ∷ rest) lines k s = joined_sound step x q rest (line_of step x q (Acts a) ∷ lines) (All-tail IsSoundAct a rest k)
     (All-head IsSoundAct a rest k, s)
 
-sound-on : (q : Port) (row : Row) → Soundly row → SoundlyAll (on q row)
+sound_on : (q : Port) (row : Row) → Soundly row → SoundlyAll (on q row)
 unfolding on
-sound-on q row k = record {
+sound_on q row k = record {
   run = λ x past s.
       let acts : List Act = row x (on_port q past) in
       let after : SoundPast (grown x (on_port q past) acts) = k.run x (on_port q past) (sound_port q past s) in
@@ -70,40 +71,40 @@ sound-on q row k = record {
         word_fits = subst (λ d. word d < 2 ^ 64) (plain_view q lines) (subst (λ v. word (plain v) < 2 ^ 64) (sym (view_own q past.step x acts past.lines))
             after.word_fits);
         ports = s.ports;
-        lines = joined-sound past.step x q acts past.lines (acts_sound past.step x acts (view q past.lines) after.acts) s.lines;
+        lines = joined_sound past.step x q acts past.lines (acts_sound past.step x acts (view q past.lines) after.acts) s.lines;
       };
 }
 
-sound-nothing : SoundlyAll nothing_at_all
+sound_nothing : SoundlyAll nothing_at_all
 unfolding nothing_at_all
-sound-nothing = record { run = λ x past s. s }
+sound_nothing = record { run = λ x past s. s }
 
-sound-list : (r : Port → NodeRow) (n : ℕ) (ports : List Port) → Ranged n ports → ((q : Port) → q.0 < n → SoundlyAll (r q)) → SoundlyAll (for_ports r ports)
+sound_list : (r : Port → NodeRow) (n : ℕ) (ports : List Port) → Ranged n ports → ((q : Port) → q.0 < n → SoundlyAll (r q)) → SoundlyAll (for_ports r ports)
 unfolding for_ports
-sound-list r n [] ranged k = sound-nothing
-sound-list r n (q ∷ rest) ranged k = All_after (r q) (for_ports r rest) (k q ranged.0) (sound-list r n rest ranged.1 k)
+sound_list r n [] ranged k = sound_nothing
+sound_list r n (q ∷ rest) ranged k = All_after (r q) (for_ports r rest) (k q ranged.0) (sound_list r n rest ranged.1 k)
 
-sound-abandons : (q : Port) → SoundlyAll (abandons_on q)
+sound_abandons : (q : Port) → SoundlyAll (abandons_on q)
 unfolding abandons_on
-sound-abandons q = record { run = λ x past s. by_case x past s (is_going (view q past.lines)) } where
+sound_abandons q = record { run = λ x past s. by_case x past s (is_going (view q past.lines)) } where
   by_case : (x : ℕ) (past : NodePast) → SoundNode past → (b : Bool) → SoundNode (spread x past (if b then record { port = q; act = Abandon } ∷ [] else []))
   by_case x past s true = record { name = s.name; word_fits = s.word_fits; ports = s.ports; lines = (tt, s.lines) }
   by_case x past s false = s
 
-sound-stirring : (q : Port) (ports : NodePast → List Port) (row : Row) → PortsOf ports → Soundly row → SoundlyAll (λ x past. stirring q (ports past) row x past)
+sound_stirring : (q : Port) (ports : NodePast → List Port) (row : Row) → PortsOf ports → Soundly row → SoundlyAll (λ x past. stirring q (ports past) row x past)
 unfolding stirring on
-sound-stirring q ports row l k = record { run = λ x past s. by_case x past ((sound-on q row k).run x past s) (corrects (row x (on_port q past))) } where
+sound_stirring q ports row l k = record { run = λ x past s. by_case x past ((sound_on q row k).run x past s) (corrects (row x (on_port q past))) } where
   by_case : (x : ℕ) (past : NodePast) → SoundNode (spread x past (placed q (row x (on_port q past)))) → (b : Bool) →
       SoundNode (spread x past (placed q (row x (on_port q past)) ++ (if b then for_ports abandons_on (ports past) x
       (spread x past (placed q (row x (on_port q past)))) else [])))
   by_case x past first true =
       let acts : List Placed = placed q (row x (on_port q past)) in
       subst (λ z. SoundNode z) (sym (spread_append x past acts (for_ports abandons_on (ports past) x (spread x past acts))))
-      ((sound-list abandons_on (length past.ports) (ports past) (listed_ranged past l) (λ r has. sound-abandons r)).run x (spread x past acts) first)
+      ((sound_list abandons_on (length past.ports) (ports past) (listed_ranged past l) (λ r has. sound_abandons r)).run x (spread x past acts) first)
   by_case x past first false = subst (λ acts. SoundNode (spread x past acts)) (sym (append-nil (placed q (row x (on_port q past))))) first
 
-sound-where : (test : NodePast → Bool) (row : NodeRow) → SoundlyAll row → SoundlyAll (λ x past. if test past then row x past else [])
-sound-where test row k = record {
+sound_where : (test : NodePast → Bool) (row : NodeRow) → SoundlyAll row → SoundlyAll (λ x past. if test past then row x past else [])
+sound_where test row k = record {
   run = λ x past s. elim (test past) as (λ b. SoundNode (spread x past (if b then row x past else []))) [
     | true ↦
         k.run x past s
@@ -113,60 +114,60 @@ sound-where test row k = record {
 
 -- a row over ports keeps a node sound
 pub sound_all_built : {has : Port → Type 0} {k c : ℕ} {row : NodeRow} → ((q : Port) → q.0 < 4 → has q) → BuiltAll ranges_owed has k c row → SoundlyAll row
-sound_all_built few EmptyAll = sound-nothing
-sound_all_built few (On {row = row} q is d) = sound-on q row (sound_built d)
+sound_all_built few EmptyAll = sound_nothing
+sound_all_built few (On {row = row} q is d) = sound_on q row (sound_built d)
 sound_all_built few (ThenAll d e) = All_after _ _ (sound_all_built few d) (sound_all_built few e)
 sound_all_built few (ReadingAll known fact holds d) = record { run = λ x past s. (sound_all_built few (d (fact x past) (holds x past))).run x past s }
-sound_all_built few (WhereAll {row = row} test d) = sound-where test row (sound_all_built few d)
+sound_all_built few (WhereAll {row = row} test d) = sound_where test row (sound_all_built few d)
 sound_all_built few (ForPorts {ports = ports} {row = row} l d) = record {
-  run = λ x past s. (sound-list row (length past.ports) (ports past) (listed_ranged past l)
+  run = λ x past s. (sound_list row (length past.ports) (ports past) (listed_ranged past l)
       (λ q lt. sound_all_built few (d q (few q (let most = s.ports in omega (arith, lt, most)))))).run x past s;
 }
-sound_all_built few (StirringAll {ports = ports} {row = row} q is l d) = sound-stirring q ports row l (sound_built d)
+sound_all_built few (StirringAll {ports = ports} {row = row} q is l d) = sound_stirring q ports row l (sound_built d)
 sound_all_built few (MoreAll d le) = sound_all_built few d
 
 -- what a node does over its ports keeps its lines sound, where what it is given is
 
 -- a LOOP that is passed on
-hops-sound : (b : Body) → IsSoundBody b → hops_in b < 2 ^ 8
-hops-sound (Hops h) s = s
-hops-sound _ s = omega arith
+hops_sound : (b : Body) → IsSoundBody b → hops_in b < 2 ^ 8
+hops_sound (Hops h) s = s
+hops_sound _ s = omega arith
 
-less-sound : (m : MessageValue) → m.kind ≡ LoopKind → IsSound (Message m) → IsSound (Message (one_hop_less m))
+less_sound : (m : MessageValue) → m.kind ≡ LoopKind → IsSound (Message m) → IsSound (Message (one_hop_less m))
 unfolding body_fits carries_time carries_hops
-less-sound m kind s = (
+less_sound m kind s = (
   s.0,
   subst (λ k. body_fits k (Hops (hops_in m.body - 1)) ≡ true) (sym kind) refl,
   s.2,
-  (let few = hops-sound m.body s.3 in omega (arith, few)),
+  (let few = hops_sound m.body s.3 in omega (arith, few)),
 )
 
 owes_if : (b : Bool) (s t : LoopStep) → OwesStep ranges_owed s → OwesStep ranges_owed t → OwesStep ranges_owed (if b then s else t)
 owes_if true s t p q = p
 owes_if false s t p q = q
 
-judge-sound : (own : List ℕ) (ports : ℕ) (port : Port) (m : MessageValue) → m.kind ≡ LoopKind → IsSound (Message m) →
+judge_sound : (own : List ℕ) (ports : ℕ) (port : Port) (m : MessageValue) → m.kind ≡ LoopKind → IsSound (Message m) →
     OwesStep ranges_owed (judge own ports port m)
-judge-sound own ports port m kind s =
+judge_sound own ports port m kind s =
     owes_if (nat_le 2 ports) _ _ (owes_if (same_name m.name own) _ _ (owes_if (nat_lt m.number port.0) GiveUp PassOver tt tt)
-    (owes_if (nat_le 1 (hops_in m.body) && nat_le (hops_in m.body) HOPS) (Forward (one_hop_less m)) PassOver (less-sound m kind s) tt)) tt
+    (owes_if (nat_le 1 (hops_in m.body) && nat_le (hops_in m.body) HOPS) (Forward (one_hop_less m)) PassOver (less_sound m kind s) tt)) tt
 
 -- what a step is given is sound
 abbrev pub IsSoundInput : NodeGiven → Type 0
 IsSoundInput NodeTurn = Unit {0}
 IsSoundInput (GotOn q from t) = IsSoundTaken t
 
-sound-input : (g : NodeGiven) → IsSoundInput g → SoundlyAll (input_all g)
+sound_input : (g : NodeGiven) → IsSoundInput g → SoundlyAll (input_all g)
 unfolding input_all
-sound-input NodeTurn h = sound_all_built {has = AnyPort} {k = 0} {c = 0} (λ q few. tt) EmptyAll
-sound-input (GotOn q from t) h = sound_all_built {has = AnyPort} (λ r few. tt) (built_takes_on q from tt tt t h (taken_ranges t h)
-    (λ m is kind own ports. judge-sound own ports q m kind (subst IsSoundTaken is h)))
+sound_input NodeTurn h = sound_all_built {has = AnyPort} {k = 0} {c = 0} (λ q few. tt) EmptyAll
+sound_input (GotOn q from t) h = sound_all_built {has = AnyPort} (λ r few. tt) (built_takes_on q from tt tt t h (taken_ranges t h)
+    (λ m is kind own ports. judge_sound own ports q m kind (subst IsSoundTaken is h)))
 
 -- what a node answers keeps it sound
 pub sound_answers_all : (g : NodeGiven) → IsSoundInput g → SoundlyAll (answers_all g)
 unfolding answers_all
 sound_answers_all g h = All_after (reading_all all_ports (for_ports turns_on)) (input_all g) (sound_all_built {has = λ q. q.0 < 4} (λ q few. few)
-    (built_all_turns (λ q few. omega (arith, few)))) (sound-input g h)
+    (built_all_turns (λ q few. omega (arith, few)))) (sound_input g h)
 
 -- so does a boot with a word of 64 bits
 pub sound_boots_all : (x : ℕ) (past : NodePast) (w : ℕ) (wall : ℤ) → past.step.cause ≡ Booted w wall → w < 2 ^ 64 → SoundNode past →

@@ -4,7 +4,7 @@ use Rattle.tsp_rules.specs.Values.{Datagram, Message, Stamp, Taken, Good, Bad, K
 use Rattle.tsp_base.specs.Words.{Line, of, body_fits, word, Within}
 use Rattle.tsp_codec.specs.{Canon.canon, Canon.IsWritable, Canon.IsWritableBody, Faults.Reads, Spelling.Spells, Spelling.SpellsBody}
 use Rattle.tsp_codec.specs.{Numbers.octet_at, Numbers.be16_at, Numbers.be64_at, Taken.taken_of}
-use Rattle.tsp_codec.proofs.TakenOf.{Reads-taken_of, taken_of_canon}
+use Rattle.tsp_codec.proofs.TakenOf.{Reads_taken_of, taken_of_canon}
 use Rattle.tsp_promises.specs.Sound.{IsSound, IsSoundBody, IsSoundDeed, IsSoundTaken}
 use Rattle.tsp_run.proofs.SoundAll.{AreSoundLines}
 
@@ -65,7 +65,7 @@ taken_sound o (Bad fault) h r = tt
 
 -- what a reader takes from octets is sound
 pub octets_sound : (o : List ℕ) → ((i : ℕ) → octet_at o i < 256) → IsSoundTaken (taken_of o)
-octets_sound o h = taken_sound o (taken_of o) h (Reads-taken_of o)
+octets_sound o h = taken_sound o (taken_of o) h (Reads_taken_of o)
 
 -- each line of a sound history is sound
 pub line_sound : (h : List Line) (l : Line) (older : List Line) → Within (l ∷ older) h → AreSoundLines (of l.did.step.node h) → IsSoundDeed l.did.deed

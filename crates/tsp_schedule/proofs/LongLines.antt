@@ -56,9 +56,9 @@ node_length n i = simp length-append (omega (
 ))
 
 -- a long line is no event's and not the last
-pub SpellsEvent-long : (line : List ℕ) → 1024 < length line → (item : EventItem) → SpellsEvent line item → ⊥
-SpellsEvent-long line l (EventOf e) s = let b : length line ≤ 1024 = rw s.1.2 (event_length e s.1.0 s.0 s.1.1) in omega (arith, l, b)
-SpellsEvent-long line l End s = let b : length line ≡ length (codes "end") = ap length s in omega (arith, l, b)
+pub SpellsEvent_long : (line : List ℕ) → 1024 < length line → (item : EventItem) → SpellsEvent line item → ⊥
+SpellsEvent_long line l (EventOf e) s = let b : length line ≤ 1024 = rw s.1.2 (event_length e s.1.0 s.0 s.1.1) in omega (arith, l, b)
+SpellsEvent_long line l End s = let b : length line ≡ length (codes "end") = ap length s in omega (arith, l, b)
 
 numbers_length : (ns : List ℕ) → All (λ n. n < 2 ^ 32) ns → length (numbers_text ns) ≤ 11 * length ns
 numbers_length [] h = omega arith
@@ -75,25 +75,25 @@ net_length : (members : List ℕ) → IsNetLine members → length (net_text mem
 net_length members i = omega (arith, length-append (codes "net") (numbers_text members), numbers_length members i.small, i.few)
 
 -- a long line isn't a schedule's second one
-pub SpellsHead-second : (line : List ℕ) → 1024 < length line → (item : HeadItem) → SpellsHead 2 line item → ⊥
-SpellsHead-second line l (Drift p) s = let b : length line ≡ length (codes "drift " ++ decimal p) = ap length s.2 in
+pub SpellsHead_second : (line : List ℕ) → 1024 < length line → (item : HeadItem) → SpellsHead 2 line item → ⊥
+SpellsHead_second line l (Drift p) s = let b : length line ≡ length (codes "drift " ++ decimal p) = ap length s.2 in
     omega (arith, l, b, length-append (codes "drift ") (decimal p), number_length p (omega (arith, s.1)))
-SpellsHead-second line l _ s = omega (arith, s.0)
+SpellsHead_second line l _ s = omega (arith, s.0)
 
 -- a long line from the third on is no line of the header, if it isn't behind it
-SpellsHead-long : (place : ℕ) (line : List ℕ) → 3 ≤ place → 1024 < length line → (IsNotHead place line → ⊥) → (item : HeadItem) → SpellsHead place line item → ⊥
-SpellsHead-long place line h l n Strict s = let b : length line ≡ length (codes "strict") = ap length s.1 in omega (arith, l, b)
-SpellsHead-long place line h l n (Node m) s = let b : length line ≤ 1024 = rw s.2 (node_length m s.1) in omega (arith, l, b)
-SpellsHead-long place line h l n (Net m) s = let b : length line ≤ 1024 = rw s.2 (net_length m s.1) in omega (arith, l, b)
-SpellsHead-long place line h l n NotHead s = n s.1
-SpellsHead-long place line h l n _ s = omega (arith, h, s.0)
+SpellsHead_long : (place : ℕ) (line : List ℕ) → 3 ≤ place → 1024 < length line → (IsNotHead place line → ⊥) → (item : HeadItem) → SpellsHead place line item → ⊥
+SpellsHead_long place line h l n Strict s = let b : length line ≡ length (codes "strict") = ap length s.1 in omega (arith, l, b)
+SpellsHead_long place line h l n (Node m) s = let b : length line ≤ 1024 = rw s.2 (node_length m s.1) in omega (arith, l, b)
+SpellsHead_long place line h l n (Net m) s = let b : length line ≤ 1024 = rw s.2 (net_length m s.1) in omega (arith, l, b)
+SpellsHead_long place line h l n NotHead s = n s.1
+SpellsHead_long place line h l n _ s = omega (arith, h, s.0)
 
 next_place_by : (b : Bool) → 3 ≤ (if b then 3 else 4)
 next_place_by true = omega arith
 next_place_by false = omega arith
 
-pub next_place-low : (header : HeaderValue) → 3 ≤ next_place header
-next_place-low header = next_place_by (length header.nodes == 0 && not header.strict)
+pub next_place_low : (header : HeaderValue) → 3 ≤ next_place header
+next_place_low header = next_place_by (length header.nodes == 0 && not header.strict)
 
 -- what a line's first octets begin with, the line begins with
 starts : (front line start rest : List ℕ) → start ≡ take 8 line → start ≡ front ++ rest → line ≡ front ++ (rest ++ drop 8 line)
@@ -103,7 +103,7 @@ starts front line start rest s e = sym (take-append-drop 8 line) ∙ ap (λ l. l
 pub not_head : (header : HeaderValue) (line start : List ℕ) → 1024 < length line → start ≡ take 8 line
     → ((rest : List ℕ) → start ≡ codes "node " ++ rest → ⊥) → ((rest : List ℕ) → start ≡ codes "net " ++ rest → ⊥) → SpellsHead (next_place header) line NotHead
 not_head header line start l s a b = (
-  next_place-low header,
+  next_place_low header,
   record {
     no_node = λ rest e. a (take 3 rest) (s ∙ ap (λ l. take 8 l) e);
     no_net = λ rest e. b (take 4 rest) (s ∙ ap (λ l. take 8 l) e);
@@ -113,48 +113,48 @@ not_head header line start l s a b = (
 
 module _ {C : Type 0} (refused : Refusing) (stands : HeaderValue → List Event → C → Type 0) where
   -- where a node is expected, a long line that begins as a node's or a network's is the header's
-  pub Refuses-node : (header : HeaderValue) (line start : List ℕ) → 1024 < length line → start ≡ take 8 line → (rest : List ℕ) ×
+  pub Refuses_node : (header : HeaderValue) (line start : List ℕ) → 1024 < length line → start ≡ take 8 line → (rest : List ℕ) ×
       (start ≡ codes "node " ++ rest) → Refuses refused (Heading header) line (codes "header")
-  Refuses-node header line start l s r = inl (
-    inl (SpellsHead-long (next_place header) line (next_place-low header) l (λ n. n.no_node (r.0 ++
+  Refuses_node header line start l s r = inl (
+    inl (SpellsHead_long (next_place header) line (next_place_low header) l (λ n. n.no_node (r.0 ++
         drop 8 line) (starts (codes "node ") line start r.0 s r.1))),
     refl,
   )
 
-  pub Refuses-net : (header : HeaderValue) (line start : List ℕ) → 1024 < length line → start ≡ take 8 line → (rest : List ℕ) × (start ≡ codes "net " ++ rest) →
+  pub Refuses_net : (header : HeaderValue) (line start : List ℕ) → 1024 < length line → start ≡ take 8 line → (rest : List ℕ) × (start ≡ codes "net " ++ rest) →
       Refuses refused (Heading header) line (codes "header")
-  Refuses-net header line start l s r = inl (
-    inl (SpellsHead-long (next_place header) line (next_place-low header) l (λ n. n.no_net (r.0 ++
+  Refuses_net header line start l s r = inl (
+    inl (SpellsHead_long (next_place header) line (next_place_low header) l (λ n. n.no_net (r.0 ++
         drop 8 line) (starts (codes "net ") line start r.0 s r.1))),
     refl,
   )
 
-  pub Refuses-none : (header : HeaderValue) (line : List ℕ) → SpellsHead (next_place header) line NotHead → ¬ IsComplete header →
+  pub Refuses_none : (header : HeaderValue) (line : List ℕ) → SpellsHead (next_place header) line NotHead → ¬ IsComplete header →
       Refuses refused (Heading header) line (codes "header")
-  Refuses-none header line s e = inl (inr (inr (inr (inl (s, e)))), refl)
+  Refuses_none header line s e = inl (inr (inr (inr (inl (s, e)))), refl)
 
-  pub Refuses-other : (header : HeaderValue) (line : List ℕ) → 1024 < length line → SpellsHead (next_place header) line NotHead → IsComplete header →
+  pub Refuses_other : (header : HeaderValue) (line : List ℕ) → 1024 < length line → SpellsHead (next_place header) line NotHead → IsComplete header →
       Refuses refused (Heading header) line (codes "line")
-  Refuses-other header line l s h = inr (s, h, inl (SpellsEvent-long line l, refl))
+  Refuses_other header line l s h = inr (s, h, inl (SpellsEvent_long line l, refl))
 
   -- at a stage a long line is refused as where that stage stands
-  pub Refuses-titled : (p : Progress) (version : ℕ) (line : List ℕ) → StageStands stands p (AtTitled version) → 1024 < length line →
+  pub Refuses_titled : (p : Progress) (version : ℕ) (line : List ℕ) → StageStands stands p (AtTitled version) → 1024 < length line →
       Refuses refused p line (codes "header")
-  Refuses-titled (Titled read) version line s l = (SpellsHead-second line l, refl)
-  Refuses-titled _ version line s l = absurd s
+  Refuses_titled (Titled read) version line s l = (SpellsHead_second line l, refl)
+  Refuses_titled _ version line s l = absurd s
 
-  pub Refuses-drifted : (p : Progress) (held : HeaderValue) (line : List ℕ) → StageStands stands p (AtDrifted held) → 1024 < length line →
+  pub Refuses_drifted : (p : Progress) (held : HeaderValue) (line : List ℕ) → StageStands stands p (AtDrifted held) → 1024 < length line →
       Refuses refused p line (codes "header")
-  Refuses-drifted (Drifted drift) held line s l = ((λ k. let z : length line ≡ length (codes "strict") = ap length k.1 in omega (arith, l, z)), refl)
-  Refuses-drifted _ held line s l = absurd s
+  Refuses_drifted (Drifted drift) held line s l = ((λ k. let z : length line ≡ length (codes "strict") = ap length k.1 in omega (arith, l, z)), refl)
+  Refuses_drifted _ held line s l = absurd s
 
-  pub Refuses-heading : (p : Progress) (held : HeaderValue) (line cause : List ℕ) → StageStands stands p (AtHeading held) →
+  pub Refuses_heading : (p : Progress) (held : HeaderValue) (line cause : List ℕ) → StageStands stands p (AtHeading held) →
       Refuses refused (Heading held) line cause → Refuses refused p line cause
-  Refuses-heading (Heading header) held line cause s r = subst {A = HeaderValue} (λ h. Refuses refused (Heading h) line cause) s r
-  Refuses-heading _ held line cause s r = absurd s
+  Refuses_heading (Heading header) held line cause s r = subst {A = HeaderValue} (λ h. Refuses refused (Heading h) line cause) s r
+  Refuses_heading _ held line cause s r = absurd s
 
-  pub Refuses-running : (p : Progress) (run : Run C) (line : List ℕ) → RunStands stands p run → run.over ≡ false → 1024 < length line →
+  pub Refuses_running : (p : Progress) (run : Run C) (line : List ℕ) → RunStands stands p run → run.over ≡ false → 1024 < length line →
       Refuses refused p line (codes "line")
-  Refuses-running (Running header events) run line s o l = inl (SpellsEvent-long line l, refl)
-  Refuses-running (Ended header events) run line s o l = let e = sym s.0 ∙ o in absurd (cc)
-  Refuses-running _ run line s o l = absurd s
+  Refuses_running (Running header events) run line s o l = inl (SpellsEvent_long line l, refl)
+  Refuses_running (Ended header events) run line s o l = let e = sym s.0 ∙ o in absurd (cc)
+  Refuses_running _ run line s o l = absurd s

@@ -2,7 +2,7 @@
 use Rattle.std.proofs.Common.{◌≡◌, ℕ, ◌≤◌, length, ap, inl, inr, List, [], ◌∷◌, ◌++◌, length-append, sym, subst, arith, ◌==◌, Bool, true, false, if◌then◌else◌}
 use Rattle.std.proofs.lemmas.List.Elements.{All-push}
 use Rattle.tsp_base.specs.{Words.HeaderValue, Words.IsHeader, Words.KeepsDrift, declared.event.Event.Event}
-use Rattle.tsp_base.{proofs.HeaderLemmas.IsHeader-joined, specs.declared.header.NodeLine.NodeLine}
+use Rattle.tsp_base.{proofs.HeaderLemmas.IsHeader_joined, specs.declared.header.NodeLine.NodeLine}
 use Rattle.tsp_schedule.specs.Schedules.{Progress, Untitled, Titled, Drifted, Heading, Running, Ended, Takes, TakesNet, new_header, RunsOn, GoesOn, Reaches}
 use Rattle.tsp_schedule.specs.Refusing.{Refusing}
 
@@ -35,7 +35,7 @@ one_node header node h t = record {
 }
 
 one_net : (header : HeaderValue) (m : List ℕ) → IsHeader header → TakesNet header m → IsHeader (record header { nets = header.nets ++ m ∷ [] })
-one_net header m h t = IsHeader-joined header m h t.few t.joins
+one_net header m h t = IsHeader_joined header m h t.few t.joins
 
 module _ (refused : Refusing) where
   run_header : (header : HeaderValue) (events : List Event) (line : List ℕ) (to : Progress) → IsHeader header → RunsOn refused header events line to →
@@ -57,6 +57,6 @@ module _ (refused : Refusing) where
   goes_header (Ended header events) line to h g = absurd g
 
   -- so it is wherever lines have brought it
-  pub Reaches-header : (lines : List (List ℕ)) (p : Progress) → Reaches refused lines p → KeepsHeader p
-  Reaches-header [] p r = subst (λ q. KeepsHeader q) (sym r) tt
-  Reaches-header (line ∷ before) p r = goes_header r.0 line p (Reaches-header before r.0 r.1) r.2
+  pub Reaches_header : (lines : List (List ℕ)) (p : Progress) → Reaches refused lines p → KeepsHeader p
+  Reaches_header [] p r = subst (λ q. KeepsHeader q) (sym r) tt
+  Reaches_header (line ∷ before) p r = goes_header r.0 line p (Reaches_header before r.0 r.1) r.2

@@ -16,7 +16,7 @@ use Rattle.tsp_script.specs.declared.verbs.Verb.{Verb, TheVariants.Correct as Co
 use Rattle.tsp_script.specs.declared.verbs.Verb.TheVariants.{Trace as TraceWord, Post as PostWord, Boot as BootWord, Abandon as AbandonWord, Took as TookWord}
 use Rattle.tsp_script.specs.declared.verbs.Verb.TheVariants.{Become as BecomeWord, Arm as ArmWord, Sample as SampleWord, Close as CloseWord}
 use Rattle.tsp_script.proofs.{Cuts.cut_front, Cuts.space_inside, MessageLines.message_rest, MessageLines.request_rest, MessageLines.reply_rest}
-use Rattle.tsp_script.proofs.KindWords.{no_space-spaceless, spaceless, no_space-kind_word, not_kind}
+use Rattle.tsp_script.proofs.KindWords.{no_space_spaceless, spaceless, no_space_kind_word, not_kind}
 
 -- a word that a test tells from another is another word
 pub told_apart : (is : Verb → Bool) (v w : Verb) → is v ≡ true → is w ≡ false → v ≢ w
@@ -129,10 +129,10 @@ is_abandon AbandonWord = true
 is_abandon _ = false
 
 -- a word of an act has no space
-spaceless-verb : (v : Verb) → spaceless (verb_word v) ≡ true
+spaceless_verb : (v : Verb) → spaceless (verb_word v) ≡ true
 unfolding verb_word
-spaceless-verb BootWord = refl
-spaceless-verb _ = refl
+spaceless_verb BootWord = refl
+spaceless_verb _ = refl
 
 -- an act's text is cut behind its word
 pub act_splits : (number : ℕ) (a : Act) → Splits (act_text number a) (verb_word (verb_of a)) (rest_of_act number a)
@@ -140,7 +140,7 @@ unfolding verb_word
 act_splits number Boot = (refl, refl)
 act_splits number Abandon = (refl, refl)
 act_splits number a = cut_front (act_text number a) (verb_word (verb_of a)) (rest_of_act number a)
-    (no_space-spaceless (verb_word (verb_of a)) (spaceless-verb (verb_of a))) (act_joined number a (told_apart is_boot BootWord (verb_of a) refl refl)
+    (no_space_spaceless (verb_word (verb_of a)) (spaceless_verb (verb_of a))) (act_joined number a (told_apart is_boot BootWord (verb_of a) refl refl)
     (told_apart is_abandon AbandonWord (verb_of a) refl refl))
 
 -- an act whose text has no space is `boot` or `abandon`
@@ -186,10 +186,10 @@ joined_found text word rest v number a l w s n m = l ∙ rw (w, s.0, s.1) (sym (
 -- an act whose text has a space is neither `boot` nor `abandon`
 pub not_lone : (text word rest : List ℕ) (v : Verb) (number : ℕ) (a : Act) → v ≡ verb_of a → text ≡ act_text number a → text ≡ word ++ 32 ∷ rest →
     (v ≢ BootWord) × (v ≢ AbandonWord)
-not_lone text word rest v number Boot w e l = (λ b. no_space-spaceless (codes "boot") refl (space_inside (codes "boot") word rest (sym e ∙ l)), λ b. cc)
+not_lone text word rest v number Boot w e l = (λ b. no_space_spaceless (codes "boot") refl (space_inside (codes "boot") word rest (sym e ∙ l)), λ b. cc)
 not_lone text word rest v number Abandon w e l = (
   λ b. cc,
-  λ b. no_space-spaceless (codes "abandon") refl (space_inside (codes "abandon") word rest (sym e ∙
+  λ b. no_space_spaceless (codes "abandon") refl (space_inside (codes "abandon") word rest (sym e ∙
       l)),
 )
 not_lone text word rest v number a w e l = (
@@ -197,9 +197,9 @@ not_lone text word rest v number a w e l = (
   λ b. told_apart is_abandon AbandonWord (verb_of a) refl refl (sym b ∙ w),
 )
 
-kind_word-not_refused : (k : Kind) → kind_word k ≡ codes "refused" → ⊥
+kind_word_not_refused : (k : Kind) → kind_word k ≡ codes "refused" → ⊥
 unfolding kind_word
-kind_word-not_refused = not_kind (codes "refused") refl
+kind_word_not_refused = not_kind (codes "refused") refl
 
 request_not_refused : (word : List ℕ) → word ≡ codes "request" → word ≡ codes "refused" → ⊥
 request_not_refused word a b = let letter : 113 ≡ 102 = ap (λ xs. slice_index_or xs 2 0) (sym a ∙ b) in omega (arith, letter)
@@ -209,17 +209,17 @@ reply_not_refused word a b = cc
 
 -- no datagram's line begins with `refused`
 pub not_refused : (text : List ℕ) (d : Datagram) → text ≡ message_text d → first_word text ≡ codes "refused" → ⊥
-not_refused text (Message m) t w = kind_word-not_refused m.kind (sym (cut_front text (kind_word m.kind) (message_rest m) (no_space-kind_word m.kind) (t ∙
+not_refused text (Message m) t w = kind_word_not_refused m.kind (sym (cut_front text (kind_word m.kind) (message_rest m) (no_space_kind_word m.kind) (t ∙
     simp append_assoc)).0 ∙ w)
 not_refused text (Stamp (Request word counter)) t w = request_not_refused (first_word text) (cut_front text (codes "request") (request_rest word counter)
-    (no_space-spaceless (codes "request") refl) (t ∙ simp append_assoc)).0 w
+    (no_space_spaceless (codes "request") refl) (t ∙ simp append_assoc)).0 w
 not_refused text (Stamp (Reply r)) t w = reply_not_refused (first_word text) (cut_front text (codes "reply") (reply_rest r)
-    (no_space-spaceless (codes "reply") refl) (t ∙ simp append_assoc)).0 w
+    (no_space_spaceless (codes "reply") refl) (t ∙ simp append_assoc)).0 w
 
 -- behind `refused` stands a fault
 pub refused_case : (Holds : Taken → Type 0) (text rest : List ℕ) (t : Taken) → text ≡ taken_text t → text ≡ codes "refused " ++ rest →
     ((f : DecodeFault) → rest ≡ fault_word f → Holds (Bad f)) → Holds t
-refused_case Holds text rest (Good d) e w h = absurd (not_refused text d e (cut_front text (codes "refused") rest (no_space-spaceless (codes "refused") refl)
+refused_case Holds text rest (Good d) e w h = absurd (not_refused text d e (cut_front text (codes "refused") rest (no_space_spaceless (codes "refused") refl)
     w).0)
 refused_case Holds text rest (Bad f) e w h = h f (append_cancel_left (codes "refused ") _ _ (sym w ∙ e))
 
@@ -238,6 +238,6 @@ pub correct_of_parts : (amount : ℤ) (stepped : Bool) (shown other : ℤ) (way 
 correct_of_parts amount stepped shown other way last a b x = rw (a, b, x) refl
 
 -- the words of a correction's way have no space
-pub no_space-way_text : (stepped : Bool) → ¬ Contains (way_text stepped) 32
-no_space-way_text true = no_space-spaceless (codes "step") refl
-no_space-way_text false = no_space-spaceless (codes "slew") refl
+pub no_space_way_text : (stepped : Bool) → ¬ Contains (way_text stepped) 32
+no_space_way_text true = no_space_spaceless (codes "step") refl
+no_space_way_text false = no_space_spaceless (codes "slew") refl

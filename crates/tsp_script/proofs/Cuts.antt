@@ -12,63 +12,63 @@ contains_first m xs c e = (0, omega arith, e)
 contains_later : (m : ℕ) (xs : List ℕ) (c : ℕ) → Contains xs m → Contains (c ∷ xs) m
 contains_later m xs c k = (suc k.0, omega (arith, k.1), k.2)
 
-before_mark-mark : (m c : ℕ) (cs : List ℕ) → c ≡ m → before_mark m (c ∷ cs) ≡ []
-before_mark-mark m c cs h = grind arith
+before_mark_mark : (m c : ℕ) (cs : List ℕ) → c ≡ m → before_mark m (c ∷ cs) ≡ []
+before_mark_mark m c cs h = grind arith
 
-before_mark-other : (m c : ℕ) (cs : List ℕ) → c ≢ m → before_mark m (c ∷ cs) ≡ c ∷ before_mark m cs
-before_mark-other m c cs h = grind arith
+before_mark_other : (m c : ℕ) (cs : List ℕ) → c ≢ m → before_mark m (c ∷ cs) ≡ c ∷ before_mark m cs
+before_mark_other m c cs h = grind arith
 
-after_mark-mark : (m c : ℕ) (cs : List ℕ) → c ≡ m → after_mark m (c ∷ cs) ≡ cs
-after_mark-mark m c cs h = grind arith
+after_mark_mark : (m c : ℕ) (cs : List ℕ) → c ≡ m → after_mark m (c ∷ cs) ≡ cs
+after_mark_mark m c cs h = grind arith
 
-after_mark-other : (m c : ℕ) (cs : List ℕ) → c ≢ m → after_mark m (c ∷ cs) ≡ after_mark m cs
-after_mark-other m c cs h = grind arith
+after_mark_other : (m c : ℕ) (cs : List ℕ) → c ≢ m → after_mark m (c ∷ cs) ≡ after_mark m cs
+after_mark_other m c cs h = grind arith
 
 -- a line with its first mark at a place
-pub before_mark-at : (m : ℕ) (line : List ℕ) (i : ℕ) → i < length line → ¬ Contains (take i line) m → slice_index_or line i 0 ≡ m → before_mark m line ≡
+pub before_mark_at : (m : ℕ) (line : List ℕ) (i : ℕ) → i < length line → ¬ Contains (take i line) m → slice_index_or line i 0 ≡ m → before_mark m line ≡
     take i line
-before_mark-at m [] i h n e = absurd (omega arith)
-before_mark-at m (c ∷ cs) zero h n e = before_mark-mark m c cs e
-before_mark-at m (c ∷ cs) (suc i) h n e =
+before_mark_at m [] i h n e = absurd (omega arith)
+before_mark_at m (c ∷ cs) zero h n e = before_mark_mark m c cs e
+before_mark_at m (c ∷ cs) (suc i) h n e =
     let ne : c ≢ m = λ q. n (contains_first m (take i cs) c q) in
-    before_mark-other m c cs ne ∙ ap (λ xs. c ∷ xs) (before_mark-at m cs i (omega arith) (λ k. n (contains_later m (take i cs) c k)) e)
+    before_mark_other m c cs ne ∙ ap (λ xs. c ∷ xs) (before_mark_at m cs i (omega arith) (λ k. n (contains_later m (take i cs) c k)) e)
 
-pub after_mark-at : (m : ℕ) (line : List ℕ) (i : ℕ) → i < length line → ¬ Contains (take i line) m → slice_index_or line i 0 ≡ m → after_mark m line ≡
+pub after_mark_at : (m : ℕ) (line : List ℕ) (i : ℕ) → i < length line → ¬ Contains (take i line) m → slice_index_or line i 0 ≡ m → after_mark m line ≡
     drop (suc i) line
-after_mark-at m [] i h n e = absurd (omega arith)
-after_mark-at m (c ∷ cs) zero h n e = after_mark-mark m c cs e
-after_mark-at m (c ∷ cs) (suc i) h n e =
+after_mark_at m [] i h n e = absurd (omega arith)
+after_mark_at m (c ∷ cs) zero h n e = after_mark_mark m c cs e
+after_mark_at m (c ∷ cs) (suc i) h n e =
     let ne : c ≢ m = λ q. n (contains_first m (take i cs) c q) in
-    after_mark-other m c cs ne ∙ after_mark-at m cs i (omega arith) (λ k. n (contains_later m (take i cs) c k)) e
+    after_mark_other m c cs ne ∙ after_mark_at m cs i (omega arith) (λ k. n (contains_later m (take i cs) c k)) e
 
 -- a line without a mark
-pub before_mark-alone : (m : ℕ) (word : List ℕ) → ¬ Contains word m → before_mark m word ≡ word
-before_mark-alone m [] n = refl
-before_mark-alone m (c ∷ cs) n =
+pub before_mark_alone : (m : ℕ) (word : List ℕ) → ¬ Contains word m → before_mark m word ≡ word
+before_mark_alone m [] n = refl
+before_mark_alone m (c ∷ cs) n =
     let ne : c ≢ m = λ q. n (contains_first m cs c q) in
-    before_mark-other m c cs ne ∙ ap (λ xs. c ∷ xs) (before_mark-alone m cs (λ k. n (contains_later m cs c k)))
+    before_mark_other m c cs ne ∙ ap (λ xs. c ∷ xs) (before_mark_alone m cs (λ k. n (contains_later m cs c k)))
 
-pub after_mark-alone : (m : ℕ) (word : List ℕ) → ¬ Contains word m → after_mark m word ≡ []
-after_mark-alone m [] n = refl
-after_mark-alone m (c ∷ cs) n =
+pub after_mark_alone : (m : ℕ) (word : List ℕ) → ¬ Contains word m → after_mark m word ≡ []
+after_mark_alone m [] n = refl
+after_mark_alone m (c ∷ cs) n =
     let ne : c ≢ m = λ q. n (contains_first m cs c q) in
-    after_mark-other m c cs ne ∙ after_mark-alone m cs (λ k. n (contains_later m cs c k))
+    after_mark_other m c cs ne ∙ after_mark_alone m cs (λ k. n (contains_later m cs c k))
 
 -- what stands in front of a mark, and behind it
-before_mark-front : (m : ℕ) (word rest : List ℕ) → ¬ Contains word m → before_mark m (word ++ m ∷ rest) ≡ word
-before_mark-front m [] rest n = before_mark-mark m m rest refl
-before_mark-front m (c ∷ cs) rest n =
+before_mark_front : (m : ℕ) (word rest : List ℕ) → ¬ Contains word m → before_mark m (word ++ m ∷ rest) ≡ word
+before_mark_front m [] rest n = before_mark_mark m m rest refl
+before_mark_front m (c ∷ cs) rest n =
     let ne : c ≢ m = λ q. n (contains_first m cs c q) in
-    before_mark-other m c (cs ++ m ∷ rest) ne ∙ ap (λ xs. c ∷ xs) (before_mark-front m cs rest (λ k. n (contains_later m cs c k)))
+    before_mark_other m c (cs ++ m ∷ rest) ne ∙ ap (λ xs. c ∷ xs) (before_mark_front m cs rest (λ k. n (contains_later m cs c k)))
 
-after_mark-front : (m : ℕ) (word rest : List ℕ) → ¬ Contains word m → after_mark m (word ++ m ∷ rest) ≡ rest
-after_mark-front m [] rest n = after_mark-mark m m rest refl
-after_mark-front m (c ∷ cs) rest n =
+after_mark_front : (m : ℕ) (word rest : List ℕ) → ¬ Contains word m → after_mark m (word ++ m ∷ rest) ≡ rest
+after_mark_front m [] rest n = after_mark_mark m m rest refl
+after_mark_front m (c ∷ cs) rest n =
     let ne : c ≢ m = λ q. n (contains_first m cs c q) in
-    after_mark-other m c (cs ++ m ∷ rest) ne ∙ after_mark-front m cs rest (λ k. n (contains_later m cs c k))
+    after_mark_other m c (cs ++ m ∷ rest) ne ∙ after_mark_front m cs rest (λ k. n (contains_later m cs c k))
 
 pub mark_front : (m : ℕ) (line word rest : List ℕ) → ¬ Contains word m → line ≡ word ++ m ∷ rest → (before_mark m line ≡ word) × (after_mark m line ≡ rest)
-mark_front m line word rest n e = rw e (before_mark-front m word rest n, after_mark-front m word rest n)
+mark_front m line word rest n e = rw e (before_mark_front m word rest n, after_mark_front m word rest n)
 
 -- a line of a word, a space and more
 pub cut_front : (line word rest : List ℕ) → ¬ Contains word 32 → line ≡ word ++ 32 ∷ rest → (first_word line ≡ word) × (after_word line ≡ rest)
@@ -78,9 +78,9 @@ cut_front line word rest n e = mark_front 32 line word rest n e
 pub line_of_marks : (m : ℕ) (line : List ℕ) → 0 < length (after_mark m line) → line ≡ before_mark m line ++ m ∷ after_mark m line
 line_of_marks m [] h = absurd (omega arith)
 line_of_marks m (c ∷ cs) h = elim (eqb_tells c m) [
-  | inl e ↦ rw (before_mark-mark m c cs e.1, after_mark-mark m c cs e.1) (ap (λ x. x ∷ cs) e.1)
-  | inr e ↦ rw (before_mark-other m c cs e.1, after_mark-other m c cs e.1) (ap (λ xs. c ∷
-      xs) (line_of_marks m cs (let k = h in rw (after_mark-other m c cs e.1) at k)))
+  | inl e ↦ rw (before_mark_mark m c cs e.1, after_mark_mark m c cs e.1) (ap (λ x. x ∷ cs) e.1)
+  | inr e ↦ rw (before_mark_other m c cs e.1, after_mark_other m c cs e.1) (ap (λ xs. c ∷
+      xs) (line_of_marks m cs (let k = h in rw (after_mark_other m c cs e.1) at k)))
 ]
 
 -- a line with a mark at a place
@@ -102,30 +102,30 @@ cut_back line word rest text v r e h =
     line_of_marks 32 line behind ∙ rw (sym v ∙ e, sym r) refl
 
 -- what is no digit stands in no number
-no_mark-digits : (m : ℕ) (ds : List ℕ) → (AllDigits 10 (m ∷ []) → ⊥) → AllDigits 10 ds → ¬ Contains ds m
-no_mark-digits m [] v a (k, h, e) = omega arith
-no_mark-digits m (c ∷ cs) v a (zero, h, e) = v (subst (λ (x : ℕ). AllDigits 10 (x ∷ [])) e (a.0, tt))
-no_mark-digits m (c ∷ cs) v a (suc k, h, e) = no_mark-digits m cs v a.1 (k, omega arith, e)
+no_mark_digits : (m : ℕ) (ds : List ℕ) → (AllDigits 10 (m ∷ []) → ⊥) → AllDigits 10 ds → ¬ Contains ds m
+no_mark_digits m [] v a (k, h, e) = omega arith
+no_mark_digits m (c ∷ cs) v a (zero, h, e) = v (subst (λ (x : ℕ). AllDigits 10 (x ∷ [])) e (a.0, tt))
+no_mark_digits m (c ∷ cs) v a (suc k, h, e) = no_mark_digits m cs v a.1 (k, omega arith, e)
 
-pub no_feed-decimal : (n : ℕ) → n < 2 ^ 64 → ¬ Contains (decimal n) 10
-no_feed-decimal n h = no_mark-digits 10 (decimal n) (λ a. omega (arith, a.0)) (decimal_is_IsNumeral n h).0.1
+pub no_feed_decimal : (n : ℕ) → n < 2 ^ 64 → ¬ Contains (decimal n) 10
+no_feed_decimal n h = no_mark_digits 10 (decimal n) (λ a. omega (arith, a.0)) (decimal_is_IsNumeral n h).0.1
 
-pub no_nul-decimal : (n : ℕ) → n < 2 ^ 64 → ¬ Contains (decimal n) 0
-no_nul-decimal n h = no_mark-digits 0 (decimal n) (λ a. omega (arith, a.0)) (decimal_is_IsNumeral n h).0.1
+pub no_nul_decimal : (n : ℕ) → n < 2 ^ 64 → ¬ Contains (decimal n) 0
+no_nul_decimal n h = no_mark_digits 0 (decimal n) (λ a. omega (arith, a.0)) (decimal_is_IsNumeral n h).0.1
 
-pub no_slash-decimal : (n : ℕ) → n < 2 ^ 64 → ¬ Contains (decimal n) 47
-no_slash-decimal n h = no_mark-digits 47 (decimal n) (λ a. omega (arith, a.0)) (decimal_is_IsNumeral n h).0.1
+pub no_slash_decimal : (n : ℕ) → n < 2 ^ 64 → ¬ Contains (decimal n) 47
+no_slash_decimal n h = no_mark_digits 47 (decimal n) (λ a. omega (arith, a.0)) (decimal_is_IsNumeral n h).0.1
 
-pub no_space-decimal : (n : ℕ) → n < 2 ^ 64 → ¬ Contains (decimal n) 32
-no_space-decimal n h = no_mark-digits 32 (decimal n) (λ a. omega (arith, a.0)) (decimal_is_IsNumeral n h).0.1
+pub no_space_decimal : (n : ℕ) → n < 2 ^ 64 → ¬ Contains (decimal n) 32
+no_space_decimal n h = no_mark_digits 32 (decimal n) (λ a. omega (arith, a.0)) (decimal_is_IsNumeral n h).0.1
 
-pub no_space-later : (c : ℕ) (cs : List ℕ) → c ≢ 32 → ¬ Contains cs 32 → ¬ Contains (c ∷ cs) 32
-no_space-later c cs n m (zero, h, e) = n e
-no_space-later c cs n m (suc k, h, e) = m (k, omega arith, e)
+pub no_space_later : (c : ℕ) (cs : List ℕ) → c ≢ 32 → ¬ Contains cs 32 → ¬ Contains (c ∷ cs) 32
+no_space_later c cs n m (zero, h, e) = n e
+no_space_later c cs n m (suc k, h, e) = m (k, omega arith, e)
 
-pub no_space-signed : (z : ℤ) → FitsSigned w64 z → ¬ Contains (signed_decimal z) 32
-no_space-signed (pos n) h = no_space-decimal n (omega (arith, h.sfits))
-no_space-signed (negsuc n) h = no_space-later 45 (decimal (suc n)) (omega arith) (no_space-decimal (suc n) (omega (arith, h.sfits)))
+pub no_space_signed : (z : ℤ) → FitsSigned w64 z → ¬ Contains (signed_decimal z) 32
+no_space_signed (pos n) h = no_space_decimal n (omega (arith, h.sfits))
+no_space_signed (negsuc n) h = no_space_later 45 (decimal (suc n)) (omega arith) (no_space_decimal (suc n) (omega (arith, h.sfits)))
 
 -- words in front of a mark, and in front of a space
 pub marks_apart : (m : ℕ) (v w r s : List ℕ) → ¬ Contains v m → ¬ Contains w m → v ++ m ∷ r ≡ w ++ m ∷ s → (v ≡ w) × (r ≡ s)
@@ -140,12 +140,12 @@ words_apart = marks_apart 32
 -- numbers in front of a space
 pub numbers_apart : (m n : ℕ) (r s : List ℕ) → m < 2 ^ 64 → n < 2 ^ 64 → decimal m ++ 32 ∷ r ≡ decimal n ++ 32 ∷ s → (m ≡ n) × (r ≡ s)
 numbers_apart m n r s h k e =
-    let p = words_apart (decimal m) (decimal n) r s (no_space-decimal m h) (no_space-decimal n k) e in
+    let p = words_apart (decimal m) (decimal n) r s (no_space_decimal m h) (no_space_decimal n k) e in
     (decimal_injective m n h k p.0, p.1)
 
 -- numbers with their signs in front of a space
 pub signs_apart : (t u : ℤ) (r s : List ℕ) → FitsSigned w64 t → FitsSigned w64 u → mag t < 2 ^ 63 → mag u < 2 ^ 63 → signed_decimal t ++ 32 ∷ r ≡
     signed_decimal u ++ 32 ∷ s → (t ≡ u) × (r ≡ s)
 signs_apart t u r s h k l m e =
-    let p = words_apart (signed_decimal t) (signed_decimal u) r s (no_space-signed t h) (no_space-signed u k) e in
+    let p = words_apart (signed_decimal t) (signed_decimal u) r s (no_space_signed t h) (no_space_signed u k) e in
     (signed_decimal_injective t u l m p.0, p.1)

@@ -6,27 +6,27 @@ use Rattle.std.proofs.lemmas.{Fmt.decimal_step, Grind.pow_more, List.take_more, 
 use Rattle.tsp_script.specs.Eights.{octets_word, eight_value, word_at}
 
 -- a digit behind a number that isn't 0
-pub decimal-digit : (n d : ℕ) → 0 < n → n ≤ 1000000000000000000 → 48 ≤ d → d < 58 → decimal (n * 10 + (d - 48)) ≡ decimal n ++ d ∷ []
-decimal-digit n d some small low high =
+pub decimal_digit : (n d : ℕ) → 0 < n → n ≤ 1000000000000000000 → 48 ≤ d → d < 58 → decimal (n * 10 + (d - 48)) ≡ decimal n ++ d ∷ []
+decimal_digit n d some small low high =
     let q : (n * 10 + (d - 48)) / 10 ≡ n = omega arith in
     let r : 48 + (n * 10 + (d - 48)) % 10 ≡ d = omega arith in
     let s = decimal_step (n * 10 + (d - 48)) (omega arith) (omega arith) in
     rw (q, r) at s
 
 -- one digit more of those behind a number
-pub digits-more : (front n k : ℕ) (ds : List ℕ) → k < length ds → 0 < n → n ≤ 1000000000000000000 → 48 ≤ slice_index_or ds k 0 → slice_index_or ds k 0 < 58 →
+pub digits_more : (front n k : ℕ) (ds : List ℕ) → k < length ds → 0 < n → n ≤ 1000000000000000000 → 48 ≤ slice_index_or ds k 0 → slice_index_or ds k 0 < 58 →
     decimal n ≡ decimal front ++ take k ds
     → decimal (n * 10 + (slice_index_or ds k 0 - 48)) ≡ decimal front ++ take (k + 1) ds
-digits-more front n k ds h some small low high e =
-    let s = decimal-digit n (slice_index_or ds k 0) some small low high in
+digits_more front n k ds h some small low high e =
+    let s = decimal_digit n (slice_index_or ds k 0) some small low high in
     rw (take_more ds k 0 h) (rw e at s ∙ append_assoc (decimal front) (take k ds) (slice_index_or ds k 0 ∷ []))
 
 -- how large a number of so many digits is
-pub digits-bound : (n k d : ℕ) → n < 10 ^ (k + 1) → 48 ≤ d → d < 58 → n * 10 + (d - 48) < 10 ^ (k + 1 + 1)
-digits-bound n k d h low high = rw (pow_more 10 (k + 1)) (omega arith)
+pub digits_bound : (n k d : ℕ) → n < 10 ^ (k + 1) → 48 ≤ d → d < 58 → n * 10 + (d - 48) < 10 ^ (k + 1 + 1)
+digits_bound n k d h low high = rw (pow_more 10 (k + 1)) (omega arith)
 
-pub digits-small : (n k : ℕ) → k < 17 → n < 10 ^ (k + 1) → n < 100000000000000000
-digits-small n k h s = let most : 10 ^ (k + 1) ≤ 10 ^ 17 = pow-le-pow_right {n = 10} (omega arith) {i = k + 1} {j = 17} (omega arith) in omega (arith, most)
+pub digits_small : (n k : ℕ) → k < 17 → n < 10 ^ (k + 1) → n < 100000000000000000
+digits_small n k h s = let most : 10 ^ (k + 1) ≤ 10 ^ 17 = pow-le-pow_right {n = 10} (omega arith) {i = k + 1} {j = 17} (omega arith) in omega (arith, most)
 
 -- the high half of an octet is 3
 abbrev pub IsHigh : ℕ → Type 0
@@ -125,7 +125,7 @@ Grown front n k most ds = (0 < n) × (n ≤ most) × (decimal n ≡ decimal fron
 -- one digit more
 grow : (front n k most : ℕ) (ds : List ℕ) → k < 8 → 8 ≤ length ds → most ≤ 1000000000000000000 → IsDigit (slice_index_or ds k 0) → Grown front n k most ds →
     Grown front (n * 10 + (slice_index_or ds k 0 - 48)) (k + 1) (most * 10 + 9) ds
-grow front n k most ds k' l small d g = (omega arith, omega arith, digits-more front n k ds (omega arith) g.0 (omega arith) d.0 d.1 g.2)
+grow front n k most ds k' l small d g = (omega arith, omega arith, digits_more front n k ds (omega arith) g.0 (omega arith) d.0 d.1 g.2)
 
 joined_eight : (front n a b c d e f g h : ℕ) → n ≡ eight_value a b c d e f g h → front * 100000000 + n ≡
     (((((((front * 10 + a) * 10 + b) * 10 + c) * 10 + d) * 10 + e) * 10 + f) * 10 + g) * 10 + h
@@ -189,8 +189,8 @@ high_top : (b : ℕ) → IsHigh b → b ≤ 63
 high_top b h = omega (arith, h.1)
 
 -- how large the word of such octets is
-pub high_word-bounds : (ds : List ℕ) (word : ℕ) → word ≡ word_at ds → AreHigh ds → (3472328296227680304 ≤ word) × (word < 4629771061636907072)
-high_word-bounds ds word is p =
+pub high_word_bounds : (ds : List ℕ) (word : ℕ) → word ≡ word_at ds → AreHigh ds → (3472328296227680304 ≤ word) × (word < 4629771061636907072)
+high_word_bounds ds word is p =
     let low : octets_word 48 48 48 48 48 48 48 48 ≤ word_at ds = octets_le 48 48 48 48 48 48 48 48 _ _ _ _ _ _ _ _ p.0.0.0 p.0.1.0 p.0.2.0 p.0.3.0 p.1.0.0
     p.1.1.0 p.1.2.0 p.1.3.0 in
     let high : word_at ds ≤ octets_word 63 63 63 63 63 63 63 63 = octets_le _ _ _ _ _ _ _ _ 63 63 63 63 63 63 63 63 (high_top _ p.0.0) (high_top _ p.0.1)

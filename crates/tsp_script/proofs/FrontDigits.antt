@@ -13,11 +13,11 @@ tail_is : (x y : ℕ) (xs ys : List ℕ) → x ∷ xs ≡ y ∷ ys → xs ≡ ys
 tail_is x y xs ys e = cc
 
 -- nothing stands first, or an octet that is no digit
-pub NoDigit-nil : NoDigit []
-NoDigit-nil d r h e = let n : 0 ≡ length ((48 + d) ∷ r) = ap length e in omega (arith, n)
+pub NoDigit_nil : NoDigit []
+NoDigit_nil d r h e = let n : 0 ≡ length ((48 + d) ∷ r) = ap length e in omega (arith, n)
 
-pub NoDigit-other : (c : ℕ) (cs : List ℕ) → (48 ≤ c → 58 ≤ c) → NoDigit (c ∷ cs)
-NoDigit-other c cs o d r h e = let q = head_is c (48 + d) cs r e in omega (arith, q, o)
+pub NoDigit_other : (c : ℕ) (cs : List ℕ) → (48 ≤ c → 58 ≤ c) → NoDigit (c ∷ cs)
+NoDigit_other c cs o d r h e = let q = head_is c (48 + d) cs r e in omega (arith, q, o)
 
 not_first : (c : ℕ) (cs rest : List ℕ) → digit_value c < 10 → NoDigit rest → rest ≡ c ∷ cs → ⊥
 not_first c cs rest a n e =
@@ -95,7 +95,7 @@ no_number octets none n rest h b e = first (decimal n) (decimal_is_IsNumeral n h
 pub signed_behind : (word digits : List ℕ) (z : ℤ) → FitsSigned w64 z → word ≡ 45 ∷ digits → word ≡ signed_decimal z → (n : ℕ) × (z ≡ negsuc n) × (n < 2 ^ 63) ×
     (digits ≡ decimal (suc n))
 signed_behind word digits (pos n) h d e =
-    absurd (no_number (45 ∷ digits) (NoDigit-other 45 digits (λ x. omega (arith, x))) n [] (omega (arith, h.sfits)) NoDigit-nil (sym d ∙ e ∙
+    absurd (no_number (45 ∷ digits) (NoDigit_other 45 digits (λ x. omega (arith, x))) n [] (omega (arith, h.sfits)) NoDigit_nil (sym d ∙ e ∙
     sym (append-nil (decimal n))))
 signed_behind word digits (negsuc n) h d e = (n, refl, omega (arith, h.sfits), tail_is 45 45 digits (decimal (suc n)) (sym d ∙ e))
 
@@ -143,4 +143,4 @@ front_alone word [] n e z = e ∙ append-nil (decimal n)
 front_alone word (x ∷ xs) n e z = absurd (omega (arith, z))
 
 pub none_left : (m n : ℕ) (rest : List ℕ) → m < 2 ^ 64 → n < 2 ^ 64 → NoDigit rest → decimal m ++ rest ≡ decimal n → (m ≡ n) × (rest ≡ [])
-none_left m n rest h k b e = front_one m n rest [] h k b NoDigit-nil (e ∙ sym (append-nil (decimal n)))
+none_left m n rest h k b e = front_one m n rest [] h k b NoDigit_nil (e ∙ sym (append-nil (decimal n)))

@@ -6,7 +6,7 @@ use Rattle.std.proofs.lemmas.{Fmt.decimal_injective, List.append_cancel_left}
 use lib.Signed.{mag}
 use Rattle.tsp_base.specs.declared.header.NodeLine.{NodeLine}
 use Rattle.tsp_script.specs.Schedules.{is_host, flag_text, node_text, numbers_text, joined_text, net_text, IsHost, IsNodeLine, IsTitle, SpellsHead, ReadsHead}
-use Rattle.tsp_script.{specs.Schedules.IsNetLine, proofs.Cuts.words_apart, proofs.Cuts.signs_apart, proofs.NetLines.joined_text-injective}
+use Rattle.tsp_script.{specs.Schedules.IsNetLine, proofs.Cuts.words_apart, proofs.Cuts.signs_apart, proofs.NetLines.joined_text_injective}
 use Rattle.tsp_script.specs.declared.{head_line.HeadItem.HeadItem, line_fault.LineFault.LineFault, line_fault.LineFault.TheVariants.Bad}
 use Rattle.tsp_script.specs.declared.head_line.HeadItem.TheVariants.{Title, Drift, Strict, Node, Net, NotHead}
 
@@ -14,8 +14,8 @@ host_not_space : (c : ℕ) → is_host c ≡ true → c ≡ 32 → ⊥
 host_not_space c q e = let P : ℕ → Type 0 = λ (x : ℕ). is_host x ≡ true in let r = subst P e q in cc
 
 -- a schedule's name has no space
-pub no_space-host : (name : List ℕ) → IsHost name → ¬ Contains name 32
-no_space-host name h (k, b, e) = host_not_space (slice_index_or name k 32) (h.all k 32 b) e
+pub no_space_host : (name : List ℕ) → IsHost name → ¬ Contains name 32
+no_space_host name h (k, b, e) = host_not_space (slice_index_or name k 32) (h.all k 32 b) e
 
 pub fits_wall : (z : ℤ) → nat_abs z ≤ 1000000000000000 → FitsSigned w64 z
 fits_wall (pos n) h = record { sfits = omega arith }
@@ -101,53 +101,53 @@ small (negsuc n) h = omega (arith, h)
 flags_differ : flag_text true ≡ flag_text false → ⊥
 flags_differ e = let q : ◌≡◌ {A = ℕ} 109 115 = ap (λ l. slice_index_or l 0 0) e in omega (arith, q)
 
-flag_text-injective : (a b : Bool) → flag_text a ≡ flag_text b → a ≡ b
-flag_text-injective true true e = refl
-flag_text-injective true false e = absurd (flags_differ e)
-flag_text-injective false true e = absurd (flags_differ (sym e))
-flag_text-injective false false e = refl
+flag_text_injective : (a b : Bool) → flag_text a ≡ flag_text b → a ≡ b
+flag_text_injective true true e = refl
+flag_text_injective true false e = absurd (flags_differ e)
+flag_text_injective false true e = absurd (flags_differ (sym e))
+flag_text_injective false false e = refl
 
 nodes_apart : (m n : NodeLine) → IsNodeLine m → IsNodeLine n → node_rest m ≡ node_rest n → m ≡ n
 nodes_apart m n h k e =
     let a = words_apart m.name n.name (signed_decimal m.rate ++ 32 ∷ (signed_decimal m.wall ++ 32 ∷ flag_text m.may)) (signed_decimal n.rate ++ 32 ∷
-    (signed_decimal n.wall ++ 32 ∷ flag_text n.may)) (no_space-host m.name h.host) (no_space-host n.name k.host) e in
+    (signed_decimal n.wall ++ 32 ∷ flag_text n.may)) (no_space_host m.name h.host) (no_space_host n.name k.host) e in
     let i : nat_abs m.rate ≤ 1000000000000000 = omega (arith, h.rate) in
     let j : nat_abs n.rate ≤ 1000000000000000 = omega (arith, k.rate) in
     let b = signs_apart m.rate n.rate (signed_decimal m.wall ++ 32 ∷ flag_text m.may) (signed_decimal n.wall ++ 32 ∷ flag_text n.may) (fits_wall m.rate i)
     (fits_wall n.rate j) (small m.rate i) (small n.rate j) a.1 in
     let c = signs_apart m.wall n.wall (flag_text m.may) (flag_text n.may) (fits_wall m.wall h.wall) (fits_wall n.wall k.wall) (small m.wall h.wall)
     (small n.wall k.wall) b.1 in
-    node_of_parts m.name m.rate m.wall m.may n a.0 b.0 c.0 (flag_text-injective m.may n.may c.1)
+    node_of_parts m.name m.rate m.wall m.may n a.0 b.0 c.0 (flag_text_injective m.may n.may c.1)
 
 networks_apart : (k l : List ℕ) → IsNetLine k → IsNetLine l → net_text k ≡ net_text l → k ≡ l
-networks_apart k l h i e = joined_text-injective k l h.small i.small (append_cancel_left (codes "net ") _ _ (sym (net_form k h.some) ∙ (e ∙ net_form l i.some)))
+networks_apart k l h i e = joined_text_injective k l h.small i.small (append_cancel_left (codes "net ") _ _ (sym (net_form k h.some) ∙ (e ∙ net_form l i.some)))
 
 -- a line at a place of the header is one item
-pub SpellsHead-one : (place : ℕ) (line : List ℕ) (a b : HeadItem) → SpellsHead place line a → SpellsHead place line b → a ≡ b
-SpellsHead-one place line (Title v) (Title w) s t = ap Title (one_version line v w s.1 t.1)
-SpellsHead-one place line (Drift p) (Drift q) s t = ap Drift (decimal_injective p q (omega (arith, s.1)) (omega (arith, t.1))
+pub SpellsHead_one : (place : ℕ) (line : List ℕ) (a b : HeadItem) → SpellsHead place line a → SpellsHead place line b → a ≡ b
+SpellsHead_one place line (Title v) (Title w) s t = ap Title (one_version line v w s.1 t.1)
+SpellsHead_one place line (Drift p) (Drift q) s t = ap Drift (decimal_injective p q (omega (arith, s.1)) (omega (arith, t.1))
     (append_cancel_left (codes "drift ") _ _ (sym s.2 ∙ t.2)))
-SpellsHead-one place line Strict Strict s t = refl
-SpellsHead-one place line Strict (Node n) s t = absurd (strict_not_node (node_rest n) (sym s.1 ∙ (t.2 ∙ node_form n)))
-SpellsHead-one place line Strict (Net l) s t = absurd (strict_not_net (numbers_text l) (sym s.1 ∙ t.2))
-SpellsHead-one place line Strict NotHead s t = absurd (t.1.not_strict s.0 s.1)
-SpellsHead-one place line (Node m) Strict s t = absurd (strict_not_node (node_rest m) (sym t.1 ∙ (s.2 ∙ node_form m)))
-SpellsHead-one place line (Node m) (Node n) s t = ap Node (nodes_apart m n s.1 t.1 (append_cancel_left (codes "node ") _ _ (sym (node_form m) ∙
+SpellsHead_one place line Strict Strict s t = refl
+SpellsHead_one place line Strict (Node n) s t = absurd (strict_not_node (node_rest n) (sym s.1 ∙ (t.2 ∙ node_form n)))
+SpellsHead_one place line Strict (Net l) s t = absurd (strict_not_net (numbers_text l) (sym s.1 ∙ t.2))
+SpellsHead_one place line Strict NotHead s t = absurd (t.1.not_strict s.0 s.1)
+SpellsHead_one place line (Node m) Strict s t = absurd (strict_not_node (node_rest m) (sym t.1 ∙ (s.2 ∙ node_form m)))
+SpellsHead_one place line (Node m) (Node n) s t = ap Node (nodes_apart m n s.1 t.1 (append_cancel_left (codes "node ") _ _ (sym (node_form m) ∙
     (sym s.2 ∙ (t.2 ∙ node_form n)))))
-SpellsHead-one place line (Node m) (Net l) s t = absurd (node_not_net (node_rest m) (numbers_text l) (sym (node_form m) ∙ (sym s.2 ∙ t.2)))
-SpellsHead-one place line (Node m) NotHead s t = absurd (t.1.no_node (node_rest m) (s.2 ∙ node_form m))
-SpellsHead-one place line (Net k) Strict s t = absurd (strict_not_net (numbers_text k) (sym t.1 ∙ s.2))
-SpellsHead-one place line (Net k) (Node n) s t = absurd (node_not_net (node_rest n) (numbers_text k) (sym (node_form n) ∙ (sym t.2 ∙ s.2)))
-SpellsHead-one place line (Net k) (Net l) s t = ap Net (networks_apart k l s.1 t.1 (sym s.2 ∙ t.2))
-SpellsHead-one place line (Net k) NotHead s t = absurd (t.1.no_net (joined_text k) (s.2 ∙ net_form k s.1.some))
-SpellsHead-one place line NotHead Strict s t = absurd (s.1.not_strict t.0 t.1)
-SpellsHead-one place line NotHead (Node n) s t = absurd (s.1.no_node (node_rest n) (t.2 ∙ node_form n))
-SpellsHead-one place line NotHead (Net l) s t = absurd (s.1.no_net (joined_text l) (t.2 ∙ net_form l t.1.some))
-SpellsHead-one place line NotHead NotHead s t = refl
-SpellsHead-one place line a b s t = absurd (omega (arith, s.0, t.0))
+SpellsHead_one place line (Node m) (Net l) s t = absurd (node_not_net (node_rest m) (numbers_text l) (sym (node_form m) ∙ (sym s.2 ∙ t.2)))
+SpellsHead_one place line (Node m) NotHead s t = absurd (t.1.no_node (node_rest m) (s.2 ∙ node_form m))
+SpellsHead_one place line (Net k) Strict s t = absurd (strict_not_net (numbers_text k) (sym t.1 ∙ s.2))
+SpellsHead_one place line (Net k) (Node n) s t = absurd (node_not_net (node_rest n) (numbers_text k) (sym (node_form n) ∙ (sym t.2 ∙ s.2)))
+SpellsHead_one place line (Net k) (Net l) s t = ap Net (networks_apart k l s.1 t.1 (sym s.2 ∙ t.2))
+SpellsHead_one place line (Net k) NotHead s t = absurd (t.1.no_net (joined_text k) (s.2 ∙ net_form k s.1.some))
+SpellsHead_one place line NotHead Strict s t = absurd (s.1.not_strict t.0 t.1)
+SpellsHead_one place line NotHead (Node n) s t = absurd (s.1.no_node (node_rest n) (t.2 ∙ node_form n))
+SpellsHead_one place line NotHead (Net l) s t = absurd (s.1.no_net (joined_text l) (t.2 ∙ net_form l t.1.some))
+SpellsHead_one place line NotHead NotHead s t = refl
+SpellsHead_one place line a b s t = absurd (omega (arith, s.0, t.0))
 
 -- so what is read there is the only one
 pub reads_one : (place : ℕ) (line : List ℕ) (r : Result HeadItem LineFault) → ReadsHead place line r → (item : HeadItem) → SpellsHead place line item → r ≡
     Ok item
-reads_one place line (Ok read) s item t = ap Ok (SpellsHead-one place line read item s t)
+reads_one place line (Ok read) s item t = ap Ok (SpellsHead_one place line read item s t)
 reads_one place line (Err Bad) s item t = absurd (s item t)

@@ -12,18 +12,18 @@ abbrev are_values : ℕ → Bool
 are_values zero = true
 are_values (suc c) = (slice_index_or VALUES c 0 == unwrap_or (hex_digit_value c) 255) && are_values c
 
-are_values-at : (n c : ℕ) → are_values n ≡ true → c < n → (slice_index_or VALUES c 0 == unwrap_or (hex_digit_value c) 255) ≡ true
-are_values-at zero c t h = absurd (omega arith)
-are_values-at (suc n) c t h =
+are_values_at : (n c : ℕ) → are_values n ≡ true → c < n → (slice_index_or VALUES c 0 == unwrap_or (hex_digit_value c) 255) ≡ true
+are_values_at zero c t h = absurd (omega arith)
+are_values_at (suc n) c t h =
     let parts = and_parts (slice_index_or VALUES n 0 == unwrap_or (hex_digit_value n) 255) (are_values n) t in
     elim (cases_lt c n) [
-      | inl below ↦ are_values-at n c parts.1 below
+      | inl below ↦ are_values_at n c parts.1 below
       | inr top ↦ let e : c ≡ n = omega arith in rw e parts.0
     ]
 
 -- an octet's place of the table
-pub VALUES-at : (c : ℕ) → c < 256 → slice_index_or VALUES c 0 ≡ unwrap_or (hex_digit_value c) 255
-VALUES-at c h = eqb-true (slice_index_or VALUES c 0) (unwrap_or (hex_digit_value c) 255) (are_values-at 256 c refl h)
+pub VALUES_at : (c : ℕ) → c < 256 → slice_index_or VALUES c 0 ≡ unwrap_or (hex_digit_value c) 255
+VALUES_at c h = eqb-true (slice_index_or VALUES c 0) (unwrap_or (hex_digit_value c) 255) (are_values_at 256 c refl h)
 
 some_value : (o : Option ℕ) (v : ℕ) → v ≡ unwrap_or o 255 → v ≤ 15 → o ≡ Some v
 some_value None v e h = absurd (omega arith)

@@ -10,8 +10,8 @@ first_kind AdjTime = refl
 first_kind _ = refl
 
 -- a word is one kind's
-pub kind_word-injective : (k l : Kind) → kind_word k ≡ kind_word l → k ≡ l
-kind_word-injective k l e = one_word kind_word kinds k l (first_kind k) (first_kind l) e
+pub kind_word_injective : (k l : Kind) → kind_word k ≡ kind_word l → k ≡ l
+kind_word_injective k l e = one_word kind_word kinds k l (first_kind k) (first_kind l) e
 
 -- whether a word is without an octet of this value, and without a space
 abbrev pub without : ℕ → List ℕ → Bool
@@ -21,38 +21,38 @@ without m (c ∷ cs) = not (c == m) && without m cs
 abbrev pub spaceless : List ℕ → Bool
 spaceless word = without 32 word
 
-spaceless-kind_word : (k : Kind) → spaceless (kind_word k) ≡ true
+spaceless_kind_word : (k : Kind) → spaceless (kind_word k) ≡ true
 unfolding kind_word
-spaceless-kind_word AdjTime = refl
-spaceless-kind_word _ = refl
+spaceless_kind_word AdjTime = refl
+spaceless_kind_word _ = refl
 
 both : (a b : Bool) → a && b ≡ true → (a ≡ true) × (b ≡ true)
 both true b p = (refl, p)
 both false b p = absurd (cc)
 
-pub no_mark-without : (m : ℕ) (word : List ℕ) → without m word ≡ true → ¬ Contains word m
-no_mark-without m [] p (k, h, e) = omega arith
-no_mark-without m (c ∷ cs) p (zero, h, e) =
+pub no_mark_without : (m : ℕ) (word : List ℕ) → without m word ≡ true → ¬ Contains word m
+no_mark_without m [] p (k, h, e) = omega arith
+no_mark_without m (c ∷ cs) p (zero, h, e) =
     let q = (both (not (c == m)) (without m cs) p).0 in
     let t = eq-eqb c m e in
     let r = rw t at q in cc
-no_mark-without m (c ∷ cs) p (suc k, h, e) = no_mark-without m cs (both (not (c == m)) (without m cs) p).1 (k, omega arith, e)
+no_mark_without m (c ∷ cs) p (suc k, h, e) = no_mark_without m cs (both (not (c == m)) (without m cs) p).1 (k, omega arith, e)
 
-pub no_space-spaceless : (word : List ℕ) → spaceless word ≡ true → ¬ Contains word 32
-no_space-spaceless word p = no_mark-without 32 word p
+pub no_space_spaceless : (word : List ℕ) → spaceless word ≡ true → ¬ Contains word 32
+no_space_spaceless word p = no_mark_without 32 word p
 
-pub no_space-kind_word : (k : Kind) → ¬ Contains (kind_word k) 32
-no_space-kind_word k = no_space-spaceless (kind_word k) (spaceless-kind_word k)
+pub no_space_kind_word : (k : Kind) → ¬ Contains (kind_word k) 32
+no_space_kind_word k = no_space_spaceless (kind_word k) (spaceless_kind_word k)
 
 -- what isn't in the table is no kind's word
 pub not_kind : (word : List ℕ) → first_with kind_word kinds word ≡ None → (k : Kind) → kind_word k ≡ word → ⊥
 not_kind word none k e = none_not_some k (sym none ∙ ap (λ w. first_with kind_word kinds w) (sym e) ∙ first_kind k)
 
 -- no kind has a stamp's word
-pub kind_word-not_request : (k : Kind) → kind_word k ≡ codes "request" → ⊥
+pub kind_word_not_request : (k : Kind) → kind_word k ≡ codes "request" → ⊥
 unfolding kind_word
-kind_word-not_request = not_kind (codes "request") refl
+kind_word_not_request = not_kind (codes "request") refl
 
-pub kind_word-not_reply : (k : Kind) → kind_word k ≡ codes "reply" → ⊥
+pub kind_word_not_reply : (k : Kind) → kind_word k ≡ codes "reply" → ⊥
 unfolding kind_word
-kind_word-not_reply = not_kind (codes "reply") refl
+kind_word_not_reply = not_kind (codes "reply") refl

@@ -62,7 +62,7 @@ reply_length r w c v = simp length-append (omega (
 ))
 
 -- a message line has at most 818 octets
-pub length-message_text : (d : Datagram) → IsDatagram d → length (message_text d) ≤ 818
-length-message_text (Message m) h = message_length m h
-length-message_text (Stamp (Request word counter)) h = request_length word counter h.0 h.1
-length-message_text (Stamp (Reply r)) h = reply_length r h.0 h.1 h.2
+pub length_message_text : (d : Datagram) → IsDatagram d → length (message_text d) ≤ 818
+length_message_text (Message m) h = message_length m h
+length_message_text (Stamp (Request word counter)) h = request_length word counter h.0 h.1
+length_message_text (Stamp (Reply r)) h = reply_length r h.0 h.1 h.2

@@ -9,7 +9,7 @@ use Rattle.tsp_base.specs.declared.datagram.Datagram.{Datagram, TheVariants.Mess
 use Rattle.tsp_script.specs.{Ranges.IsBody, Ranges.IsMessage, Ranges.IsDatagram, Words.first_word, Words.after_word}
 use Rattle.tsp_script.specs.Texts.{body_text, name_text, message_line, reply_text, stamp_text, message_text}
 use Rattle.tsp_script.proofs.Cuts.{cut_front, cut_back}
-use Rattle.tsp_script.proofs.KindWords.{no_space-kind_word, no_space-spaceless, kind_word-not_request, kind_word-not_reply}
+use Rattle.tsp_script.proofs.KindWords.{no_space_kind_word, no_space_spaceless, kind_word_not_request, kind_word_not_reply}
 
 -- what stands behind the word of a message, a request or a reply
 abbrev pub message_rest : MessageValue → List ℕ
@@ -25,14 +25,14 @@ abbrev Splits : List ℕ → List ℕ → List ℕ → Type 0
 Splits line word rest = (first_word line ≡ word) × (after_word line ≡ rest)
 
 message_splits : (line : List ℕ) (m : MessageValue) → line ≡ message_line m → Splits line (kind_word m.kind) (message_rest m)
-message_splits line m e = cut_front line (kind_word m.kind) (message_rest m) (no_space-kind_word m.kind) (e ∙ simp append_assoc)
+message_splits line m e = cut_front line (kind_word m.kind) (message_rest m) (no_space_kind_word m.kind) (e ∙ simp append_assoc)
 
 request_splits : (line : List ℕ) (word counter : ℕ) → line ≡ stamp_text (Request word counter) → Splits line (codes "request") (request_rest word counter)
-request_splits line word counter e = cut_front line (codes "request") (request_rest word counter) (no_space-spaceless (codes "request") refl) (e ∙
+request_splits line word counter e = cut_front line (codes "request") (request_rest word counter) (no_space_spaceless (codes "request") refl) (e ∙
     simp append_assoc)
 
 reply_splits : (line : List ℕ) (r : ReplyValue) → line ≡ reply_text r → Splits line (codes "reply") (reply_rest r)
-reply_splits line r e = cut_front line (codes "reply") (reply_rest r) (no_space-spaceless (codes "reply") refl) (e ∙ simp append_assoc)
+reply_splits line r e = cut_front line (codes "reply") (reply_rest r) (no_space_spaceless (codes "reply") refl) (e ∙ simp append_assoc)
 
 not_both : (word : List ℕ) → word ≡ codes "request" → word ≡ codes "reply" → ⊥
 not_both word p q = cc
@@ -41,7 +41,7 @@ not_both word p q = cc
 pub request_reads : (line : List ℕ) (d : Datagram) (result : Option Datagram) → IsDatagram d → line ≡ message_text d → first_word line ≡ codes "request"
     → ((word counter : ℕ) → word < 2 ^ 64 → counter < 2 ^ 64 → after_word line ≡ request_rest word counter → result ≡ Some (Stamp (Request word counter)))
     → result ≡ Some d
-request_reads line (Message m) result h e w reads = absurd (kind_word-not_request m.kind (sym (message_splits line m e).0 ∙ w))
+request_reads line (Message m) result h e w reads = absurd (kind_word_not_request m.kind (sym (message_splits line m e).0 ∙ w))
 request_reads line (Stamp (Request word counter)) result h e w reads = reads word counter h.0 h.1 (request_splits line word counter e).1
 request_reads line (Stamp (Reply r)) result h e w reads = absurd (not_both (first_word line) w (reply_splits line r e).0)
 
@@ -49,7 +49,7 @@ request_reads line (Stamp (Reply r)) result h e w reads = absurd (not_both (firs
 pub reply_reads : (line : List ℕ) (d : Datagram) (result : Option Datagram) → IsDatagram d → line ≡ message_text d → first_word line ≡ codes "reply"
     → ((r : ReplyValue) → r.word < 2 ^ 64 → r.counter < 2 ^ 64 → IsReply r.ticket r.reading → after_word line ≡ reply_rest r → result ≡ Some (Stamp (Reply r)))
     → result ≡ Some d
-reply_reads line (Message m) result h e w reads = absurd (kind_word-not_reply m.kind (sym (message_splits line m e).0 ∙ w))
+reply_reads line (Message m) result h e w reads = absurd (kind_word_not_reply m.kind (sym (message_splits line m e).0 ∙ w))
 reply_reads line (Stamp (Request word counter)) result h e w reads = absurd (not_both (first_word line) (request_splits line word counter e).0 w)
 reply_reads line (Stamp (Reply r)) result h e w reads = reads r h.0 h.1 h.2 (reply_splits line r e).1
 

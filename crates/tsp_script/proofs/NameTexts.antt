@@ -9,15 +9,15 @@ use Rattle.tsp_base.specs.declared.name.NameFault.TheVariants.{TooLong, HasNul}
 use Rattle.tsp_script.{proofs.Outcomes.true_or_false, specs.Texts.is_plain, specs.Texts.escaped, specs.Texts.name_text}
 
 -- one octet
-pub IsBytes-one : (c : ℕ) → c < 256 → IsBytes (c ∷ [])
-IsBytes-one c h zero = h
-IsBytes-one c h (suc i) = omega arith
+pub IsBytes_one : (c : ℕ) → c < 256 → IsBytes (c ∷ [])
+IsBytes_one c h zero = h
+IsBytes_one c h (suc i) = omega arith
 
 -- two digits decoded into room for one octet
 pub decoded_pair : (s out : List ℕ) (c : ℕ) (r : Result Unit FromHexError) → c < 256 → s ≡ encode_lower (c ∷ [])
     → MatchResult (decode_sized s 1) (λ bytes. (r ≡ Ok tt) × (out ≡ bytes)) (λ e. r ≡ Err e) → (r ≡ Ok tt) × (out ≡ c ∷ [])
 decoded_pair s out c r h e m =
-    let d : decode_sized s 1 ≡ Ok (c ∷ []) = rw e (decode_sized-encode_lower (c ∷ []) 1 refl (IsBytes-one c h)) in
+    let d : decode_sized s 1 ≡ Ok (c ∷ []) = rw e (decode_sized-encode_lower (c ∷ []) 1 refl (IsBytes_one c h)) in
     rw d at m
 
 -- a text that begins with a per cent sign begins with an octet that is written by digits
@@ -81,17 +81,17 @@ name_text_some [] = omega arith
 name_text_some (c ∷ cs) = some_case (is_plain c) c (flat_map escaped cs)
 
 -- the octet behind those that were read
-pub IsBytes-next : (name items : List ℕ) (c : ℕ) (left : List ℕ) → IsBytes name → name ≡ items ++ c ∷ left → c < 256
-IsBytes-next name [] c left h e = let k = h 0 in rw e at k
-IsBytes-next name (x ∷ xs) c left h e = IsBytes-next (xs ++ c ∷ left) xs c left (λ i. let k = h (suc i) in rw e at k) refl
+pub IsBytes_next : (name items : List ℕ) (c : ℕ) (left : List ℕ) → IsBytes name → name ≡ items ++ c ∷ left → c < 256
+IsBytes_next name [] c left h e = let k = h 0 in rw e at k
+IsBytes_next name (x ∷ xs) c left h e = IsBytes_next (xs ++ c ∷ left) xs c left (λ i. let k = h (suc i) in rw e at k) refl
 
-IsBytes-behind : (items : List ℕ) (c : ℕ) → IsBytes items → c < 256 → IsBytes (items ++ c ∷ [])
-IsBytes-behind [] c b h i = IsBytes-one c h i
-IsBytes-behind (x ∷ xs) c b h zero = b 0
-IsBytes-behind (x ∷ xs) c b h (suc i) = IsBytes-behind xs c (λ k. b (suc k)) h i
+IsBytes_behind : (items : List ℕ) (c : ℕ) → IsBytes items → c < 256 → IsBytes (items ++ c ∷ [])
+IsBytes_behind [] c b h i = IsBytes_one c h i
+IsBytes_behind (x ∷ xs) c b h zero = b 0
+IsBytes_behind (x ∷ xs) c b h (suc i) = IsBytes_behind xs c (λ k. b (suc k)) h i
 
-pub IsBytes-more : (items more : List ℕ) (c : ℕ) → IsBytes items → c < 256 → more ≡ items ++ c ∷ [] → IsBytes more
-IsBytes-more items more c b h m = rw m (IsBytes-behind items c b h)
+pub IsBytes_more : (items more : List ℕ) (c : ℕ) → IsBytes items → c < 256 → more ≡ items ++ c ∷ [] → IsBytes more
+IsBytes_more items more c b h m = rw m (IsBytes_behind items c b h)
 
 -- what is left of a name when its text is read as far as rest
 abbrev pub Left : List ℕ → List ℕ → List ℕ → Type 0
@@ -105,7 +105,7 @@ pub one_more : (name items more rest after : List ℕ) (octet : ℕ) → IsBytes
     Left name items rest → Left name more after
 one_more name items more rest after octet b n reads m ([], p, q) = absurd (let z : length rest ≡ 0 = ap length q in omega arith)
 one_more name items more rest after octet b n reads m (c ∷ cs, p, q) =
-    let r = reads c (flat_map escaped cs) (IsBytes-next name items c cs b p) q in
+    let r = reads c (flat_map escaped cs) (IsBytes_next name items c cs b p) q in
     (cs, p ∙ sym (rw (m, append_assoc) (ap (λ x. items ++ x ∷ cs) r.0)), r.1)
 
 -- where text is left, not all octets are read
@@ -116,7 +116,7 @@ not_full name items rest n (c ∷ cs, p, q) = omega (arith, ap length p, length-
 -- an octet can be read where text is left
 pub can_read : (name items rest : List ℕ) → IsBytes name → 0 < length rest → Left name items rest → (c : ℕ) × (r : List ℕ) × (c < 256) × (rest ≡ escaped c ++ r)
 can_read name items rest b n ([], p, q) = absurd (let z : length rest ≡ 0 = ap length q in omega arith)
-can_read name items rest b n (c ∷ cs, p, q) = (c, flat_map escaped cs, IsBytes-next name items c cs b p, q)
+can_read name items rest b n (c ∷ cs, p, q) = (c, flat_map escaped cs, IsBytes_next name items c cs b p, q)
 
 empty : (xs : List ℕ) → length xs ≡ 0 → [] ≡ xs
 empty [] h = refl

@@ -23,9 +23,9 @@ pub true_or_false : (b : Bool) → b ≡ true → b ≡ false → ⊥
 true_or_false b p q = cc
 
 -- what follows for each value follows for the one that is there
-pub if_some-then : {A : Type 0} {P Q : A → Type 0} (r : Option A) → ((a : A) → P a → Q a) → IfSome r P → IfSome r Q
-if_some-then None f h = h
-if_some-then (Some a) f h = f a h
+pub if_some_then : {A : Type 0} {P Q : A → Type 0} (r : Option A) → ((a : A) → P a → Q a) → IfSome r P → IfSome r Q
+if_some_then None f h = h
+if_some_then (Some a) f h = f a h
 
 pub if_none : {A P : Type 0} (r : Option A) → P → IfNone r P
 if_none None p = p

@@ -10,19 +10,19 @@ abbrev are_pairs : ℕ → Bool
 are_pairs zero = true
 are_pairs (suc p) = ((slice_index_or PAIRS (p * 2) 0 == 48 + p / 10) && (slice_index_or PAIRS (p * 2 + 1) 0 == 48 + p % 10)) && are_pairs p
 
-are_pairs-at : (n p : ℕ) → are_pairs n ≡ true → p < n → ((slice_index_or PAIRS (p * 2) 0 == 48 + p / 10) && (slice_index_or PAIRS (p * 2 + 1) 0 == 48 + p % 10))
+are_pairs_at : (n p : ℕ) → are_pairs n ≡ true → p < n → ((slice_index_or PAIRS (p * 2) 0 == 48 + p / 10) && (slice_index_or PAIRS (p * 2 + 1) 0 == 48 + p % 10))
     ≡ true
-are_pairs-at zero p t h = absurd (omega arith)
-are_pairs-at (suc n) p t h =
+are_pairs_at zero p t h = absurd (omega arith)
+are_pairs_at (suc n) p t h =
     let parts = and_parts ((slice_index_or PAIRS (n * 2) 0 == 48 + n / 10) && (slice_index_or PAIRS (n * 2 + 1) 0 == 48 + n % 10)) (are_pairs n) t in
     elim (cases_lt p n) [
-      | inl below ↦ are_pairs-at n p parts.1 below
+      | inl below ↦ are_pairs_at n p parts.1 below
       | inr top ↦ let e : p ≡ n = omega arith in rw e parts.0
     ]
 
-pub PAIRS-at : (p : ℕ) → p < 100 → (slice_index_or PAIRS (p * 2) 0 ≡ 48 + p / 10) × (slice_index_or PAIRS (p * 2 + 1) 0 ≡ 48 + p % 10)
-PAIRS-at p h =
-    let parts = and_parts (slice_index_or PAIRS (p * 2) 0 == 48 + p / 10) (slice_index_or PAIRS (p * 2 + 1) 0 == 48 + p % 10) (are_pairs-at 100 p refl h) in
+pub PAIRS_at : (p : ℕ) → p < 100 → (slice_index_or PAIRS (p * 2) 0 ≡ 48 + p / 10) × (slice_index_or PAIRS (p * 2 + 1) 0 ≡ 48 + p % 10)
+PAIRS_at p h =
+    let parts = and_parts (slice_index_or PAIRS (p * 2) 0 == 48 + p / 10) (slice_index_or PAIRS (p * 2 + 1) 0 == 48 + p % 10) (are_pairs_at 100 p refl h) in
     (eqb-true (slice_index_or PAIRS (p * 2) 0) (48 + p / 10) parts.0, eqb-true (slice_index_or PAIRS (p * 2 + 1) 0) (48 + p % 10) parts.1)
 
 -- the two digits of a number below 100
@@ -39,7 +39,7 @@ written out then now front back whole e f g = f ∙ ap (λ l. l ++ back) e ∙ a
 
 -- the two digits that the table has for a number
 pub table_pair : (p : ℕ) → p < 100 → slice_index_or PAIRS (p * 2) 0 ∷ slice_index_or PAIRS (p * 2 + 1) 0 ∷ [] ≡ pair p
-table_pair p h = let e = PAIRS-at p h in rw (e.0, e.1) refl
+table_pair p h = let e = PAIRS_at p h in rw (e.0, e.1) refl
 
 -- three digits and four
 pub decimal_three : (n : ℕ) → 100 ≤ n → n < 1000 → decimal n ≡ ((48 + n / 100) ∷ []) ++ pair (n % 100)

@@ -6,9 +6,9 @@ use Rattle.tsp_base.specs.declared.plain.Plain.TheVariants.{Boot, Turn, Take}
 use Rattle.tsp_base.specs.{Words.event_in, declared.plain.Plain.Plain}
 use Rattle.tsp_script.specs.{Plains.IsTurnOrTake, Words.NoDigit, declared.event_line.EventItem.TheVariants.Event as EventOf}
 use Rattle.tsp_script.specs.Schedules.{SpellsEvent, IsEvent, IsHexOf, event_text}
-use Rattle.tsp_script.proofs.{Cuts.words_apart, Cuts.numbers_apart, Cuts.no_feed-decimal, FrontDigits.front_one}
-use Rattle.tsp_script.proofs.EventLines.{words_differ, at_of, verb_of, rest_of, no_space-verb_of, IsTrueTime-at_of}
-use Rattle.tsp_script.proofs.KindWords.{no_space-spaceless, no_mark-without}
+use Rattle.tsp_script.proofs.{Cuts.words_apart, Cuts.numbers_apart, Cuts.no_feed_decimal, FrontDigits.front_one}
+use Rattle.tsp_script.proofs.EventLines.{words_differ, at_of, verb_of, rest_of, no_space_verb_of, IsTrueTime_at_of}
+use Rattle.tsp_script.proofs.KindWords.{no_space_spaceless, no_mark_without}
 
 -- what stands behind its time
 abbrev pub behind_time : Plain → List ℕ → List ℕ
@@ -23,7 +23,7 @@ plain_parts _ back i = simp append_assoc
 verb_is : (behind rest back word : List ℕ) (plain : Plain) → ¬ Contains word 32 → behind ≡ word ++ 32 ∷ rest → behind ≡ behind_time plain back
     → (verb_of (event_in plain) ≡ word) × (rest_of (event_in plain) [] ++ back ≡ rest)
 verb_is behind rest back word plain n e l = words_apart (verb_of (event_in plain)) word (rest_of (event_in plain) [] ++
-    back) rest (no_space-verb_of (event_in plain)) n (sym l ∙ e)
+    back) rest (no_space_verb_of (event_in plain)) n (sym l ∙ e)
 
 -- where `turn` stands it is a turn, and where `take` stands a take
 pub turn_parts : (behind rest back : List ℕ) (plain : Plain) → IsTurnOrTake plain → behind ≡ codes "turn " ++ rest → behind ≡ behind_time plain back →
@@ -33,10 +33,10 @@ turn_parts behind rest back (Turn at node) i e l = (
   node,
   refl,
   sym (verb_is behind rest back (codes "turn") (Turn at node)
-      (no_space-spaceless (codes "turn") refl) e l).1,
+      (no_space_spaceless (codes "turn") refl) e l).1,
 )
 turn_parts behind rest back (Take at datagram) i e l =
-    absurd (words_differ (codes "take") (codes "turn") (verb_is behind rest back (codes "turn") (Take at datagram) (no_space-spaceless (codes "turn") refl) e
+    absurd (words_differ (codes "take") (codes "turn") (verb_is behind rest back (codes "turn") (Take at datagram) (no_space_spaceless (codes "turn") refl) e
     l).0 (omega arith))
 turn_parts behind rest back (Boot at node word) i e l = absurd i
 
@@ -47,10 +47,10 @@ take_parts behind rest back (Take at datagram) i e l = (
   datagram,
   refl,
   sym (verb_is behind rest back (codes "take") (Take at datagram)
-      (no_space-spaceless (codes "take") refl) e l).1,
+      (no_space_spaceless (codes "take") refl) e l).1,
 )
 take_parts behind rest back (Turn at node) i e l =
-    absurd (words_differ (codes "turn") (codes "take") (verb_is behind rest back (codes "take") (Turn at node) (no_space-spaceless (codes "take") refl) e l).0
+    absurd (words_differ (codes "turn") (codes "take") (verb_is behind rest back (codes "take") (Turn at node) (no_space_spaceless (codes "take") refl) e l).0
     (omega arith))
 take_parts behind rest back (Boot at node word) i e l = absurd i
 
@@ -77,25 +77,25 @@ pub plain_one : (p q : Plain) (octets r s : List ℕ) → IsTurnOrTake p → IsT
     octets ≡ event_text (event_in p) [] ++ r → octets ≡ event_text (event_in q) [] ++ s → (p ≡ q) × (r ≡ s)
 plain_one p q octets r s i j h k a b e f =
     let l = append_cancel_left (codes "at ") _ _ (sym (e ∙ plain_parts p r i) ∙ (f ∙ plain_parts q s j)) in
-    let n = numbers_apart (at_of (event_in p)) (at_of (event_in q)) (behind_time p r) (behind_time q s) (omega (arith, IsTrueTime-at_of (event_in p) h))
-    (omega (arith, IsTrueTime-at_of (event_in q) k)) l in
+    let n = numbers_apart (at_of (event_in p)) (at_of (event_in q)) (behind_time p r) (behind_time q s) (omega (arith, IsTrueTime_at_of (event_in p) h))
+    (omega (arith, IsTrueTime_at_of (event_in q) k)) l in
     same_rest p q r s i j h k a b n.0
     (words_apart (verb_of (event_in p)) (verb_of (event_in q)) (rest_of (event_in p) [] ++ r) (rest_of (event_in q) [] ++ s)
-    (no_space-verb_of (event_in p)) (no_space-verb_of (event_in q)) n.1)
+    (no_space_verb_of (event_in p)) (no_space_verb_of (event_in q)) n.1)
 
-no_mark-both : (m : ℕ) (xs ys : List ℕ) → ¬ Contains xs m → ¬ Contains ys m → ¬ Contains (xs ++ ys) m
-no_mark-both m xs ys n k c = elim (Contains-append_cases xs ys m c) [ inl a ↦ n a | inr b ↦ k b ]
+no_mark_both : (m : ℕ) (xs ys : List ℕ) → ¬ Contains xs m → ¬ Contains ys m → ¬ Contains (xs ++ ys) m
+no_mark_both m xs ys n k c = elim (Contains-append_cases xs ys m c) [ inl a ↦ n a | inr b ↦ k b ]
 
-no_feed-parts : (at n : ℕ) (verb : List ℕ) → at < 2 ^ 64 → n < 2 ^ 64 → ¬ Contains verb 10 → ¬ Contains (((codes "at " ++ decimal at) ++ verb) ++ decimal n) 10
-no_feed-parts at n verb h k v =
-    let front = no_mark-both 10 (codes "at ") (decimal at) (no_mark-without 10 (codes "at ") refl) (no_feed-decimal at h) in
-    no_mark-both 10 ((codes "at " ++ decimal at) ++ verb) (decimal n) (no_mark-both 10 (codes "at " ++ decimal at) verb front v) (no_feed-decimal n k)
+no_feed_parts : (at n : ℕ) (verb : List ℕ) → at < 2 ^ 64 → n < 2 ^ 64 → ¬ Contains verb 10 → ¬ Contains (((codes "at " ++ decimal at) ++ verb) ++ decimal n) 10
+no_feed_parts at n verb h k v =
+    let front = no_mark_both 10 (codes "at ") (decimal at) (no_mark_without 10 (codes "at ") refl) (no_feed_decimal at h) in
+    no_mark_both 10 ((codes "at " ++ decimal at) ++ verb) (decimal n) (no_mark_both 10 (codes "at " ++ decimal at) verb front v) (no_feed_decimal n k)
 
 -- no line feed stands in the line of a turn or a take
-pub no_feed-plain : (plain : Plain) → IsTurnOrTake plain → IsEvent (event_in plain) → ¬ Contains (event_text (event_in plain) []) 10
-no_feed-plain (Turn at node) i h = no_feed-parts at node (codes " turn ") (omega (arith, h.0)) (omega (arith, h.1)) (no_mark-without 10 (codes " turn ") refl)
-no_feed-plain (Take at datagram) i h = no_feed-parts at datagram (codes " take ") (omega (arith, h.0)) h.1 (no_mark-without 10 (codes " take ") refl)
-no_feed-plain (Boot at node word) i h = absurd i
+pub no_feed_plain : (plain : Plain) → IsTurnOrTake plain → IsEvent (event_in plain) → ¬ Contains (event_text (event_in plain) []) 10
+no_feed_plain (Turn at node) i h = no_feed_parts at node (codes " turn ") (omega (arith, h.0)) (omega (arith, h.1)) (no_mark_without 10 (codes " turn ") refl)
+no_feed_plain (Take at datagram) i h = no_feed_parts at datagram (codes " take ") (omega (arith, h.0)) h.1 (no_mark_without 10 (codes " take ") refl)
+no_feed_plain (Boot at node word) i h = absurd i
 
 -- a line's octets in front of others, and how many they are
 pub octets_passed : (octets line rest : List ℕ) (count : ℕ) → octets ≡ line ++ 10 ∷ rest → count + length rest ≡ length octets → (count ≡ length line + 1) ×

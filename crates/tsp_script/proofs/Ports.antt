@@ -4,8 +4,8 @@ use Rattle.std.proofs.Common.{suc, arith, decimal, Contains}
 use Rattle.std.proofs.lemmas.{Bool.eqb-true, Fmt.decimal_is_IsNumeral, Fmt.decimal_injective, List.append-nil}
 use Rattle.std.proofs.lemmas.List.Elements.{Contains-append_cases}
 use Rattle.tsp_base.specs.declared.place.Port.{Port}
-use Rattle.tsp_script.proofs.Cuts.{words_apart, mark_front, line_of_marks, before_mark-alone, after_mark-alone, no_slash-decimal, no_space-decimal}
-use Rattle.tsp_script.{proofs.Cuts.no_space-later, specs.Schedules.port_text, specs.Words.before_mark, specs.Words.after_mark}
+use Rattle.tsp_script.proofs.Cuts.{words_apart, mark_front, line_of_marks, before_mark_alone, after_mark_alone, no_slash_decimal, no_space_decimal}
+use Rattle.tsp_script.{proofs.Cuts.no_space_later, specs.Schedules.port_text, specs.Words.before_mark, specs.Words.after_mark}
 
 -- the word after a node's slash is this port's: its number, or nothing for port 0
 abbrev NamesPort : List ℕ → Port → Type 0
@@ -17,9 +17,9 @@ parts_by : (node : ℕ) (port : Port) (word : List ℕ) → node < 2 ^ 64 → (b
 parts_by node port word h true z e =
     let w : word ≡ decimal node = e ∙ append-nil (decimal node) in
     let p : port ≡ record { 0 = 0 } = ap (λ n. record { 0 = n }) (eqb-true port.0 0 z) in
-    rw w (before_mark-alone 47 (decimal node) (no_slash-decimal node h), inl (p, after_mark-alone 47 (decimal node) (no_slash-decimal node h)))
+    rw w (before_mark_alone 47 (decimal node) (no_slash_decimal node h), inl (p, after_mark_alone 47 (decimal node) (no_slash_decimal node h)))
 parts_by node port word h false z e =
-    let p = mark_front 47 word (decimal node) (decimal port.0) (no_slash-decimal node h) e in
+    let p = mark_front 47 word (decimal node) (decimal port.0) (no_slash_decimal node h) e in
     (p.0, inr p.1)
 
 -- a node's number and its port are parted by the first stroke
@@ -46,29 +46,29 @@ ports_apart m n p q h k i j e =
     let b = port_parts n q (decimal m ++ port_text p) k e in
     (decimal_injective m n h k (sym a.0 ∙ b.0), one_port p q (after_mark 47 (decimal m ++ port_text p)) i j a.1 b.1)
 
-no_space-by : (node : ℕ) (port : Port) (b : Bool) → node < 2 ^ 64 → port.0 < 2 ^ 64 → ¬ Contains (decimal node ++ (if b then [] else 47 ∷ decimal port.0)) 32
-no_space-by node port true h k c = no_space-decimal node h (rw (append-nil (decimal node)) at c)
-no_space-by node port false h k c = elim (Contains-append_cases (decimal node) (47 ∷ decimal port.0) 32 c) [
-  | inl i ↦ no_space-decimal node h i
-  | inr i ↦ no_space-later 47 (decimal port.0) (omega arith) (no_space-decimal port.0 k) i
+no_space_by : (node : ℕ) (port : Port) (b : Bool) → node < 2 ^ 64 → port.0 < 2 ^ 64 → ¬ Contains (decimal node ++ (if b then [] else 47 ∷ decimal port.0)) 32
+no_space_by node port true h k c = no_space_decimal node h (rw (append-nil (decimal node)) at c)
+no_space_by node port false h k c = elim (Contains-append_cases (decimal node) (47 ∷ decimal port.0) 32 c) [
+  | inl i ↦ no_space_decimal node h i
+  | inr i ↦ no_space_later 47 (decimal port.0) (omega arith) (no_space_decimal port.0 k) i
 ]
 
-pub no_space-port : (node : ℕ) (port : Port) → node < 2 ^ 64 → port.0 < 2 ^ 64 → ¬ Contains (decimal node ++ port_text port) 32
-no_space-port node port h k = no_space-by node port (port.0 == 0) h k
+pub no_space_port : (node : ℕ) (port : Port) → node < 2 ^ 64 → port.0 < 2 ^ 64 → ¬ Contains (decimal node ++ port_text port) 32
+no_space_port node port h k = no_space_by node port (port.0 == 0) h k
 
 -- a port other than 0 is written behind a stroke
-port_text-some : (port : Port) → 0 < port.0 → port_text port ≡ 47 ∷ decimal port.0
-port_text-some port h = grind arith
+port_text_some : (port : Port) → 0 < port.0 → port_text port ≡ 47 ∷ decimal port.0
+port_text_some port h = grind arith
 
 pub stroke_parts : (node : ℕ) (port : Port) (word : List ℕ) → node < 2 ^ 64 → 0 < port.0 → word ≡ decimal node ++ port_text port →
     (before_mark 47 word ≡ decimal node) × (after_mark 47 word ≡ decimal port.0)
-stroke_parts node port word h s e = mark_front 47 word (decimal node) (decimal port.0) (no_slash-decimal node h) (e ∙ rw (port_text-some port s) refl)
+stroke_parts node port word h s e = mark_front 47 word (decimal node) (decimal port.0) (no_slash_decimal node h) (e ∙ rw (port_text_some port s) refl)
 
 pub node_found : (word front rest : List ℕ) (node : ℕ) (port : Port) → front ≡ before_mark 47 word → rest ≡ after_mark 47 word → front ≡ decimal node → rest ≡
     decimal port.0 → 0 < port.0 → port.0 < 2 ^ 8 → word ≡ decimal node ++ port_text port
 node_found word front rest node port f r n p h k =
     let some : 0 < length (after_mark 47 word) = omega (arith, ap length r, ap length p, (decimal_is_IsNumeral port.0 (omega (arith, k))).0.0) in
-    line_of_marks 47 word some ∙ rw (sym f ∙ n, sym r ∙ p, port_text-some port h) refl
+    line_of_marks 47 word some ∙ rw (sym f ∙ n, sym r ∙ p, port_text_some port h) refl
 
 -- port 0 isn't written
 pub port_none : (line rest : List ℕ) (node : ℕ) → line ≡ decimal node ++ 32 ∷ rest → line ≡ (decimal node ++ port_text (record { 0 = 0 })) ++ 32 ∷ rest
@@ -78,7 +78,7 @@ port_none line rest node e = e ∙ ap (λ (w : List ℕ). w ++ 32 ∷ rest) (sym
 pub nodes_apart : (line : List ℕ) (m n : ℕ) (p q : Port) (r s : List ℕ) → m < 2 ^ 64 → n < 2 ^ 64 → p.0 < 2 ^ 64 → q.0 < 2 ^ 64
     → line ≡ (decimal m ++ port_text p) ++ 32 ∷ r → line ≡ (decimal n ++ port_text q) ++ 32 ∷ s → (m ≡ n) × (p ≡ q) × (r ≡ s)
 nodes_apart line m n p q r s h k i j e f =
-    let w = words_apart (decimal m ++ port_text p) (decimal n ++ port_text q) r s (no_space-port m p h i) (no_space-port n q k j) (sym e ∙ f) in
+    let w = words_apart (decimal m ++ port_text p) (decimal n ++ port_text q) r s (no_space_port m p h i) (no_space_port n q k j) (sym e ∙ f) in
     let a = ports_apart m n p q h k i j w.0 in
     (a.0, a.1, w.1)
 

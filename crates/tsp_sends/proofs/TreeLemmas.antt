@@ -8,17 +8,17 @@ use Rattle.tsp_base.specs.Words.{earlier}
 use Rattle.tsp_sends.specs.{Deadlines.is_due, Deadlines.deadline_at, Deadlines.IsFirstDueAt, Trees.HoldsEarlier}
 
 -- the earlier of two deadlines has come where one of them has
-pub is_due-earlier : (tick : ℕ) (a b : Option ℕ) → is_due tick (earlier a b) ≡ (is_due tick a || is_due tick b)
-is_due-earlier tick None b = refl
-is_due-earlier tick (Some x) None = by_test (nat_le x tick) where
+pub is_due_earlier : (tick : ℕ) (a b : Option ℕ) → is_due tick (earlier a b) ≡ (is_due tick a || is_due tick b)
+is_due_earlier tick None b = refl
+is_due_earlier tick (Some x) None = by_test (nat_le x tick) where
   by_test : (t : Bool) → t ≡ (t || false)
   by_test true = refl
   by_test false = refl
-is_due-earlier tick (Some x) (Some y) = grind (arith, nat_tests)
+is_due_earlier tick (Some x) (Some y) = grind (arith, nat_tests)
 
 -- a power of two is twice the one before
-pub pow-double : (k : ℕ) → 2 ^ (k + 1) ≡ 2 * 2 ^ k
-pow-double k = rw add-one (pow-suc 2 k ∙ omega arith)
+pub pow_double : (k : ℕ) → 2 ^ (k + 1) ≡ 2 * 2 ^ k
+pow_double k = rw add-one (pow-suc 2 k ∙ omega arith)
 
 both_late : (a b c : Bool) → a ≡ (b || c) → a ≡ false → (b ≡ false) × (c ≡ false)
 both_late true b c e f = let bad : ⊥ = cc in absurd bad
@@ -34,7 +34,7 @@ due_by_children : (nodes : List (Option ℕ)) (i tick : ℕ) → HoldsEarlier 0 
     is_due tick (deadline_at nodes i) ≡ (is_due tick (deadline_at nodes (2 * i)) || is_due tick (deadline_at nodes (2 * i + 1)))
 due_by_children nodes i tick h some inside =
     let ne : i ≢ 0 = omega arith in
-    ap (is_due tick) (h.parents i some ne inside) ∙ is_due-earlier tick (deadline_at nodes (2 * i)) (deadline_at nodes (2 * i + 1))
+    ap (is_due tick) (h.parents i some ne inside) ∙ is_due_earlier tick (deadline_at nodes (2 * i)) (deadline_at nodes (2 * i + 1))
 
 has_children : (n i w : ℕ) → 0 < w → (i + 1) * (2 * w) ≤ n → 2 * i + 1 < n
 has_children n i w some h = let wide : 2 * (i + 1) ≤ 2 * (i + 1) * w = le-mul_of_pos_right (2 * (i + 1)) some in omega arith
@@ -64,30 +64,30 @@ pub record NoneDueBefore (leaf tick : ℕ) (nodes : List (Option ℕ)) (node hei
   pub late : (j : ℕ) → leaf ≤ j → j < node * 2 ^ height → is_due tick (deadline_at nodes j) ≡ false
 
 -- at the leaf itself
-pub NoneDueBefore-start : (leaf tick : ℕ) (nodes : List (Option ℕ)) → NoneDueBefore leaf tick nodes leaf 0
-NoneDueBefore-start leaf tick nodes = record { order = omega arith; late = λ j l h. absurd (omega arith) }
+pub NoneDueBefore_start : (leaf tick : ℕ) (nodes : List (Option ℕ)) → NoneDueBefore leaf tick nodes leaf 0
+NoneDueBefore_start leaf tick nodes = record { order = omega arith; late = λ j l h. absurd (omega arith) }
 
 same_start : (n q h k : ℕ) → n ≡ 2 * q → h ≡ k + 1 → q * 2 ^ h ≡ n * 2 ^ k
-same_start n q h k e f = rw (f, e, pow-double k) (omega arith)
+same_start n q h k e f = rw (f, e, pow_double k) (omega arith)
 
 along : (leaf tick : ℕ) (nodes : List (Option ℕ)) (node height m k : ℕ) → m * 2 ^ k ≡ node * 2 ^ height → NoneDueBefore leaf tick nodes node height →
     NoneDueBefore leaf tick nodes m k
 along leaf tick nodes node height m k e h = record { order = rw e h.order; late = λ j l b. h.late j l (rw (← e) b) }
 
 -- a node has the same first leaf as its left child
-pub NoneDueBefore-parent : (leaf tick : ℕ) (nodes : List (Option ℕ)) (node q h k : ℕ) → node ≡ 2 * q → h ≡ k + 1 → NoneDueBefore leaf tick nodes node k →
+pub NoneDueBefore_parent : (leaf tick : ℕ) (nodes : List (Option ℕ)) (node q h k : ℕ) → node ≡ 2 * q → h ≡ k + 1 → NoneDueBefore leaf tick nodes node k →
     NoneDueBefore leaf tick nodes q h
-NoneDueBefore-parent leaf tick nodes node q h k e f b = along leaf tick nodes node k q h (same_start node q h k e f) b
+NoneDueBefore_parent leaf tick nodes node q h k e f b = along leaf tick nodes node k q h (same_start node q h k e f) b
 
-pub NoneDueBefore-child : (leaf tick : ℕ) (nodes : List (Option ℕ)) (node q h k : ℕ) → node ≡ 2 * q → h ≡ k + 1 → NoneDueBefore leaf tick nodes q h →
+pub NoneDueBefore_child : (leaf tick : ℕ) (nodes : List (Option ℕ)) (node q h k : ℕ) → node ≡ 2 * q → h ≡ k + 1 → NoneDueBefore leaf tick nodes q h →
     NoneDueBefore leaf tick nodes node k
-NoneDueBefore-child leaf tick nodes node q h k e f b = along leaf tick nodes q h node k (sym (same_start node q h k e f)) b
+NoneDueBefore_child leaf tick nodes node q h k e f b = along leaf tick nodes q h node k (sym (same_start node q h k e f)) b
 
 -- a node that isn't due is passed
-pub NoneDueBefore-next : (leaf tick : ℕ) (nodes : List (Option ℕ)) (node h : ℕ) → HoldsEarlier 0 nodes → 0 < node → (node + 1) * 2 ^ h ≤ length nodes →
+pub NoneDueBefore_next : (leaf tick : ℕ) (nodes : List (Option ℕ)) (node h : ℕ) → HoldsEarlier 0 nodes → 0 < node → (node + 1) * 2 ^ h ≤ length nodes →
     is_due tick (deadline_at nodes node) ≡ false
     → NoneDueBefore leaf tick nodes node h → NoneDueBefore leaf tick nodes (node + 1) h
-NoneDueBefore-next leaf tick nodes node h holds some inside late b = record {
+NoneDueBefore_next leaf tick nodes node h holds some inside late b = record {
   order = omega (arith, b.order);
   late = λ j l m. elim (cases_lt j (node * 2 ^ h)) [
     | inl before ↦ b.late j l before
@@ -110,7 +110,7 @@ pub right_is_due : (nodes : List (Option ℕ)) (i tick h k : ℕ) → HoldsEarli
     is_due tick (deadline_at nodes i) ≡ true
     → is_due tick (deadline_at nodes (2 * i)) ≡ false → is_due tick (deadline_at nodes (2 * i + 1)) ≡ true
 right_is_due nodes i tick h k holds some e inside due late =
-    let within : (i + 1) * (2 * 2 ^ k) ≤ length nodes = rw (← pow-double k, ← e) inside in
+    let within : (i + 1) * (2 * 2 ^ k) ≤ length nodes = rw (← pow_double k, ← e) inside in
     right_due _ _ _ (due_by_children nodes i tick holds some (has_children (length nodes) i (2 ^ k) (pow_pos k) within)) due late
 
 -- some leaf below a node that is due is due
@@ -137,7 +137,7 @@ some_due_below (suc h) nodes i tick holds some inside due =
 
 -- a node above the leaves has children
 pub children_inside : (n i h k : ℕ) → h ≡ k + 1 → (i + 1) * 2 ^ h ≤ n → 2 * i + 1 < n
-children_inside n i h k e inside = let within : (i + 1) * (2 * 2 ^ k) ≤ n = rw (← pow-double k, ← e) inside in has_children n i (2 ^ k) (pow_pos k) within
+children_inside n i h k e inside = let within : (i + 1) * (2 * 2 ^ k) ≤ n = rw (← pow_double k, ← e) inside in has_children n i (2 ^ k) (pow_pos k) within
 
 -- the search has come to a node that is due, and no leaf before those below it is
 pub record IsDueNode (leaf tick : ℕ) (nodes : List (Option ℕ)) (node height : ℕ) : Type 0 where
@@ -146,24 +146,24 @@ pub record IsDueNode (leaf tick : ℕ) (nodes : List (Option ℕ)) (node height 
   pub due : is_due tick (deadline_at nodes node) ≡ true
   pub before : NoneDueBefore leaf tick nodes node height
 
-pub IsDueNode-left : (leaf tick : ℕ) (nodes : List (Option ℕ)) (node h k m : ℕ) → HoldsEarlier 0 nodes → h ≡ k + 1 → m ≡ 2 * node →
+pub IsDueNode_left : (leaf tick : ℕ) (nodes : List (Option ℕ)) (node h k m : ℕ) → HoldsEarlier 0 nodes → h ≡ k + 1 → m ≡ 2 * node →
     IsDueNode leaf tick nodes node h → is_due tick (deadline_at nodes m) ≡ true
     → IsDueNode leaf tick nodes m k
-IsDueNode-left leaf tick nodes node h k m holds e f d due =
-    let within : (node + 1) * (2 * 2 ^ k) ≤ length nodes = rw (← pow-double k, ← e) d.inside in
+IsDueNode_left leaf tick nodes node h k m holds e f d due =
+    let within : (node + 1) * (2 * 2 ^ k) ≤ length nodes = rw (← pow_double k, ← e) d.inside in
     let same : m * 2 ^ k ≡ 2 * node * 2 ^ k = ap (λ n. n * 2 ^ k) f in
     record {
       some = omega (arith, d.some);
       inside = omega arith;
       due = due;
-      before = NoneDueBefore-child leaf tick nodes m node h k f e d.before;
+      before = NoneDueBefore_child leaf tick nodes m node h k f e d.before;
     }
 
-pub IsDueNode-right : (leaf tick : ℕ) (nodes : List (Option ℕ)) (node h k m : ℕ) → HoldsEarlier 0 nodes → h ≡ k + 1 → m ≡ 2 * node →
+pub IsDueNode_right : (leaf tick : ℕ) (nodes : List (Option ℕ)) (node h k m : ℕ) → HoldsEarlier 0 nodes → h ≡ k + 1 → m ≡ 2 * node →
     IsDueNode leaf tick nodes node h → is_due tick (deadline_at nodes m) ≡ false
     → IsDueNode leaf tick nodes (m + 1) k
-IsDueNode-right leaf tick nodes node h k m holds e f d late =
-    let within : (node + 1) * (2 * 2 ^ k) ≤ length nodes = rw (← pow-double k, ← e) d.inside in
+IsDueNode_right leaf tick nodes node h k m holds e f d late =
+    let within : (node + 1) * (2 * 2 ^ k) ≤ length nodes = rw (← pow_double k, ← e) d.inside in
     let same : m * 2 ^ k ≡ 2 * node * 2 ^ k = ap (λ n. n * 2 ^ k) f in
     let some : 0 < node = d.some in
     let left : is_due tick (deadline_at nodes (2 * node)) ≡ false = rw (← f) late in
@@ -172,12 +172,12 @@ IsDueNode-right leaf tick nodes node h k m holds e f d late =
       some = omega arith;
       inside = omega arith;
       due = rw f right;
-      before = NoneDueBefore-next leaf tick nodes m k holds (omega arith) (omega arith) late (NoneDueBefore-child leaf tick nodes m node h k f e d.before);
+      before = NoneDueBefore_next leaf tick nodes m k holds (omega arith) (omega arith) late (NoneDueBefore_child leaf tick nodes m node h k f e d.before);
     }
 
-pub IsDueNode-start : (node h tick : ℕ) (nodes : List (Option ℕ)) → 0 < node → (node + 1) * 2 ^ h ≤ length nodes → is_due tick (deadline_at nodes node) ≡ true →
+pub IsDueNode_start : (node h tick : ℕ) (nodes : List (Option ℕ)) → 0 < node → (node + 1) * 2 ^ h ≤ length nodes → is_due tick (deadline_at nodes node) ≡ true →
     IsDueNode (node * 2 ^ h) tick nodes node h
-IsDueNode-start node h tick nodes some inside due = record {
+IsDueNode_start node h tick nodes some inside due = record {
   some = some;
   inside = inside;
   due = due;
@@ -185,8 +185,8 @@ IsDueNode-start node h tick nodes some inside due = record {
 }
 
 -- at a leaf the search has found the first one that is due
-pub IsDueNode-found : (leaf tick : ℕ) (nodes : List (Option ℕ)) (node h : ℕ) → h ≡ 0 → IsDueNode leaf tick nodes node h → IsFirstDueAt leaf tick nodes node
-IsDueNode-found leaf tick nodes node h e d =
+pub IsDueNode_found : (leaf tick : ℕ) (nodes : List (Option ℕ)) (node h : ℕ) → h ≡ 0 → IsDueNode leaf tick nodes node h → IsFirstDueAt leaf tick nodes node
+IsDueNode_found leaf tick nodes node h e d =
     let start : node * 2 ^ h ≡ node = rw e (omega arith) in
     let next : (node + 1) * 2 ^ h ≡ node + 1 = rw e (omega arith) in
     record {
@@ -197,9 +197,9 @@ IsDueNode-found leaf tick nodes node h e d =
     }
 
 -- a node that has changed leaves its parent alone to be mended
-pub HoldsEarlier-set : (nodes : List (Option ℕ)) (n : ℕ) (at : Option ℕ) → HoldsEarlier n nodes → n < length nodes
+pub HoldsEarlier_set : (nodes : List (Option ℕ)) (n : ℕ) (at : Option ℕ) → HoldsEarlier n nodes → n < length nodes
     → (0 < n → 2 * n + 1 < length nodes → at ≡ earlier (deadline_at nodes (2 * n)) (deadline_at nodes (2 * n + 1))) → HoldsEarlier (n / 2) (set nodes n at)
-HoldsEarlier-set nodes n at holds within value = record {
+HoldsEarlier_set nodes n at holds within value = record {
   parents = λ i some other inside.
       let fits : 2 * i + 1 < length nodes = omega (arith, length-set nodes n at) in
       let left : 2 * i ≢ n = λ e. other (omega arith) in
@@ -220,29 +220,29 @@ HoldsEarlier-set nodes n at holds within value = record {
 }
 
 -- the tree is whole, so any node may be taken for the one to be mended
-pub HoldsEarlier-any : (nodes : List (Option ℕ)) (n : ℕ) → HoldsEarlier 0 nodes → HoldsEarlier n nodes
-HoldsEarlier-any nodes n holds = record { parents = λ i some other inside. holds.parents i some (λ e. absurd (omega arith)) inside }
+pub HoldsEarlier_any : (nodes : List (Option ℕ)) (n : ℕ) → HoldsEarlier 0 nodes → HoldsEarlier n nodes
+HoldsEarlier_any nodes n holds = record { parents = λ i some other inside. holds.parents i some (λ e. absurd (omega arith)) inside }
 
-pub pow-small : (levels : ℕ) → levels ≤ 60 → 2 ^ levels ≤ 2 ^ 60
-pow-small levels h = pow-le-pow_right {n = 2} (omega arith) h
+pub pow_small : (levels : ℕ) → levels ≤ 60 → 2 ^ levels ≤ 2 ^ 60
+pow_small levels h = pow-le-pow_right {n = 2} (omega arith) h
 
 -- the search upwards: the node, and those below it, are in the tree
 pub record IsClimbing (leaf tick : ℕ) (nodes : List (Option ℕ)) (levels node height : ℕ) : Type 0 where
   pub inside : node * 2 ^ height ≤ 2 * 2 ^ levels
   pub before : NoneDueBefore leaf tick nodes node height
 
-pub IsClimbing-up : (leaf tick : ℕ) (nodes : List (Option ℕ)) (levels node h q : ℕ) → node ≡ 2 * q → IsClimbing leaf tick nodes levels node h →
+pub IsClimbing_up : (leaf tick : ℕ) (nodes : List (Option ℕ)) (levels node h q : ℕ) → node ≡ 2 * q → IsClimbing leaf tick nodes levels node h →
     IsClimbing leaf tick nodes levels q (h + 1)
-IsClimbing-up leaf tick nodes levels node h q e b =
+IsClimbing_up leaf tick nodes levels node h q e b =
     let same : q * 2 ^ (h + 1) ≡ node * 2 ^ h = same_start node q (h + 1) h e refl in
-    record { inside = omega (arith, same, b.inside); before = NoneDueBefore-parent leaf tick nodes node q (h + 1) h e refl b.before }
+    record { inside = omega (arith, same, b.inside); before = NoneDueBefore_parent leaf tick nodes node q (h + 1) h e refl b.before }
 
-pub IsClimbing-next : (leaf tick : ℕ) (nodes : List (Option ℕ)) (levels node h : ℕ) → HoldsEarlier 0 nodes → length nodes ≡ 2 * 2 ^ levels → node % 2 ≡ 1 →
+pub IsClimbing_next : (leaf tick : ℕ) (nodes : List (Option ℕ)) (levels node h : ℕ) → HoldsEarlier 0 nodes → length nodes ≡ 2 * 2 ^ levels → node % 2 ≡ 1 →
     h ≤ levels → is_due tick (deadline_at nodes node) ≡ false
     → IsClimbing leaf tick nodes levels node h → IsClimbing leaf tick nodes levels (node + 1) h
-IsClimbing-next leaf tick nodes levels node h holds size odd low late b =
+IsClimbing_next leaf tick nodes levels node h holds size odd low late b =
     let inside : (node + 1) * 2 ^ h ≤ 2 * 2 ^ levels = odd_inside node h levels odd b.inside low in
-    record { inside = inside; before = NoneDueBefore-next leaf tick nodes node h holds (omega arith) (omega arith) late b.before }
+    record { inside = inside; before = NoneDueBefore_next leaf tick nodes node h holds (omega arith) (omega arith) late b.before }
 
 pub climbing_bounds : (leaf tick : ℕ) (nodes : List (Option ℕ)) (levels node h : ℕ) → length nodes ≡ 2 * 2 ^ levels → node % 2 ≡ 1 → h ≤ levels →
     IsClimbing leaf tick nodes levels node h
@@ -253,21 +253,21 @@ climbing_bounds leaf tick nodes levels node h size odd low b =
     (omega arith, omega arith)
 
 -- above the root no leaf is left
-pub IsClimbing-over : (leaf tick : ℕ) (nodes : List (Option ℕ)) (levels node h : ℕ) → length nodes ≡ 2 * 2 ^ levels → 0 < leaf → h ≡ levels + 1 →
+pub IsClimbing_over : (leaf tick : ℕ) (nodes : List (Option ℕ)) (levels node h : ℕ) → length nodes ≡ 2 * 2 ^ levels → 0 < leaf → h ≡ levels + 1 →
     IsClimbing leaf tick nodes levels node h
     → (j : ℕ) → leaf ≤ j → is_due tick (deadline_at nodes j) ≡ false
-IsClimbing-over leaf tick nodes levels zero h size some e b j l = let order : leaf ≤ 0 * 2 ^ h = b.before.order in absurd (omega arith)
-IsClimbing-over leaf tick nodes levels (suc n) h size some e b j l =
-    let end : 2 ^ h ≡ 2 * 2 ^ levels = rw (e, pow-double levels) refl in
+IsClimbing_over leaf tick nodes levels zero h size some e b j l = let order : leaf ≤ 0 * 2 ^ h = b.before.order in absurd (omega arith)
+IsClimbing_over leaf tick nodes levels (suc n) h size some e b j l =
+    let end : 2 ^ h ≡ 2 * 2 ^ levels = rw (e, pow_double levels) refl in
     elim (cases_lt j (length nodes)) [
       | inl inside ↦ b.before.late j l (omega arith)
       | inr past ↦ rw (get_or_past nodes j None past) refl
     ]
 
 -- the leaf that was found below a node is the first one of all
-pub IsFirstDueAt-below : (leaf tick : ℕ) (nodes : List (Option ℕ)) (node h i : ℕ) → NoneDueBefore leaf tick nodes node h →
+pub IsFirstDueAt_below : (leaf tick : ℕ) (nodes : List (Option ℕ)) (node h i : ℕ) → NoneDueBefore leaf tick nodes node h →
     IsFirstDueAt (node * 2 ^ h) tick nodes i → IsFirstDueAt leaf tick nodes i
-IsFirstDueAt-below leaf tick nodes node h i b f = record {
+IsFirstDueAt_below leaf tick nodes node h i b f = record {
   after = omega (arith, b.order, f.after);
   inside = f.inside;
   due = f.due;
@@ -282,7 +282,7 @@ leaves_kept nodes old levels n at h e = drop-set-lt (2 ^ levels) nodes n at h �
 pub half_below : (node h n : ℕ) → node * 2 ^ h < n → node / 2 * 2 ^ (h + 1) < n
 half_below node h n b =
     let half : 2 * (node / 2) * 2 ^ h ≤ node * 2 ^ h = mul-le-mul_right (2 ^ h) (omega arith) in
-    rw (pow-double h) (omega arith)
+    rw (pow_double h) (omega arith)
 
 -- at the height of the root no parent is left
 pub at_root : (node h levels : ℕ) → h ≡ levels → node * 2 ^ h < 2 * 2 ^ levels → node / 2 ≡ 0

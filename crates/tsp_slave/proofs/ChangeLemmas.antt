@@ -13,14 +13,14 @@ acts_at number (By amount) = takes_amount number amount
 acts_at number (To value) = takes_value number value
 
 -- the next correction changes the clock, and any other may be a repeat
-pub correction_of-is : (p : PeerId) (number : ℕ) (change : Change) →
+pub correction_of_is : (p : PeerId) (number : ℕ) (change : Change) →
     correction_of p number change ≡ either_by (acts_at number change) (changes_clock change followed_by confirms p number) (acks_repeat p number)
 unfolding correction_of changes_clock adjtime_of settime_of
-correction_of-is p number (By amount) = refl
-correction_of-is p number (To value) = refl
+correction_of_is p number (By amount) = refl
+correction_of_is p number (To value) = refl
 
 -- as the port and the clock have it
-pub acts_at-is : (number : ℕ) (change : Change) (x : ℕ) (past : Past) (last : LastValue) (clock : ClockValue) → Remembers past last → ClockStands past clock →
+pub acts_at_is : (number : ℕ) (change : Change) (x : ℕ) (past : Past) (last : LastValue) (clock : ClockValue) → Remembers past last → ClockStands past clock →
     acts_at number change x past ≡ (((number == clock.ticket) && is_past last.tick GAP x) && fits clock x change)
-acts_at-is number (By amount) x past last clock r c = rw (c.ticket_is, c.offset_is, r.tick_is) refl
-acts_at-is number (To value) x past last clock r c = rw (c.ticket_is, r.tick_is) refl
+acts_at_is number (By amount) x past last clock r c = rw (c.ticket_is, c.offset_is, r.tick_is) refl
+acts_at_is number (To value) x past last clock r c = rw (c.ticket_is, r.tick_is) refl

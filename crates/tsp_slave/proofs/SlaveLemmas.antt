@@ -9,7 +9,7 @@ use Rattle.tsp_rules.specs.{CommonRows.arms_elect, SendRows.acknowledges, Guards
 use Rattle.tsp_base.specs.Words.{Past, Performs, Keeps, Received, said, name_in, Row, grown, puts, ◌followed_by◌, posts, Correcting, correcting_of}
 use Rattle.tsp_base.proofs.PerformsLemmas.{Keeps_then, Keeps_either}
 use Rattle.tsp_acks.specs.{Stands.StationStands, Stands.StandsActing, declared.station.Station.Station}
-use Rattle.tsp_acks.proofs.{ActingLemmas.taken-acts, StandsLemmas.Stands_idle}
+use Rattle.tsp_acks.proofs.{ActingLemmas.taken_acts, StandsLemmas.Stands_idle}
 use Rattle.tsp_clock.specs.{ClockStands.ClockStands, Clocks.ClockValue}
 use Rattle.tsp_slave.specs.declared.change.Change.{Change, TheVariants.By, TheVariants.To}
 use Rattle.tsp_slave.specs.{ClockChanges.changes_clock, Lasts.LastValue, SlaveStands.AlsoStands, SlaveStands.SlaveStands}
@@ -56,7 +56,7 @@ pub Performs_since_taken : {row : Row} {x : ℕ} {port : Port} {before after : S
       took = took;
     }) old new
 Performs_since_taken {row = row} {x = x} {before = before} last clock took r e k d = Performs_part d
-    (λ past h. record { stands = h.station; acted = taken-acts past.seen r (h.took ∙ e) })
+    (λ past h. record { stands = h.station; acted = taken_acts past.seen r (h.took ∙ e) })
     (λ past h s. let also = k x past (record { last = last; clock = clock; took = took }) (record { last = h.last; clock = h.clock; took = h.took }) in
     record { station = s.stands; last = also.last; clock = also.clock; took = also.took })
 

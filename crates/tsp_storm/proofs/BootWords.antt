@@ -26,15 +26,15 @@ abbrev none_again : ℕ → Bool
 none_again zero = true
 none_again (suc x) = never 64 x x && none_again x
 
-none-again : none_again 128 ≡ true
-none-again = refl
+none_again_holds : none_again 128 ≡ true
+none_again_holds = refl
 
-one-never : (n x : ℕ) → x < n → none_again n ≡ true → never 64 x x ≡ true
-one-never zero x lt e = absurd (omega (arith, lt))
-one-never (suc n) x lt e =
+one_never : (n x : ℕ) → x < n → none_again n ≡ true → never 64 x x ≡ true
+one_never zero x lt e = absurd (omega (arith, lt))
+one_never (suc n) x lt e =
     let parts = and_parts (never 64 n n) (none_again n) e in
     elim (cases_lt x n) [
-      | inl less ↦ one-never n x less parts.1
+      | inl less ↦ one_never n x less parts.1
       | inr last ↦ (let same : n ≡ x = omega (arith, lt, last) in subst (λ k. never 64 k k ≡ true) same parts.0)
     ]
 
@@ -48,12 +48,12 @@ differs (suc n) x y (suc k) e lt same =
     differs n x (next_low y) k parts.1 (omega (arith, lt)) same
 
 -- a state doesn't come again within 64 moves
-not-again : (k x : ℕ) → x < 128 → k < 64 → low_after (suc k) x ≢ x
-not-again k x small few = differs 64 x x k (one-never 128 x small none-again) few
+not_again : (k x : ℕ) → x < 128 → k < 64 → low_after (suc k) x ≢ x
+not_again k x small few = differs 64 x x k (one_never 128 x small none_again_holds) few
 
 -- a move goes on modulo 128
-pub moved-low : (v : StormValue) → (moved v).state % 128 ≡ next_low (v.state % 128)
-moved-low v = omega arith
+pub moved_low : (v : StormValue) → (moved v).state % 128 ≡ next_low (v.state % 128)
+moved_low v = omega arith
 
 -- boots whose words are successive states, of which the last is this one modulo 128
 abbrev pub Follow : ℕ → List Event → Type 0
@@ -62,13 +62,13 @@ Follow x (BootAt at node word ∷ before) = (y : ℕ) × (word % 128 ≡ x) × (
 Follow x (_ ∷ before) = ⊥
 
 -- a word that comes soon after them is none of theirs
-pub boot-otherwise : (k x word : ℕ) (events : List Event) → word % 128 ≡ low_after (suc k) x → k + length events ≤ 64 → Follow x events →
+pub boot_otherwise : (k x word : ℕ) (events : List Event) → word % 128 ≡ low_after (suc k) x → k + length events ≤ 64 → Follow x events →
     AllBootOtherwise word events
-boot-otherwise k x word [] is few f = tt
-boot-otherwise k x word (BootAt at node w ∷ before) is few f = (
-  (λ (e : w ≡ word). not-again k x (subst (λ z. z < 128) f.1 (mod_below w 128 (omega arith))) (omega (arith, few)) (sym is ∙ ap (λ z. z % 128) (sym e) ∙ f.1)),
-  boot-otherwise (suc k) f.0 word before (is ∙ ap (λ z. low_after (suc k) z) f.2) (omega (arith, few)) f.3,
+boot_otherwise k x word [] is few f = tt
+boot_otherwise k x word (BootAt at node w ∷ before) is few f = (
+  (λ (e : w ≡ word). not_again k x (subst (λ z. z < 128) f.1 (mod_below w 128 (omega arith))) (omega (arith, few)) (sym is ∙ ap (λ z. z % 128) (sym e) ∙ f.1)),
+  boot_otherwise (suc k) f.0 word before (is ∙ ap (λ z. low_after (suc k) z) f.2) (omega (arith, few)) f.3,
 )
-boot-otherwise k x word (Turn at node ∷ before) is few f = absurd f
-boot-otherwise k x word (Take at n ∷ before) is few f = absurd f
-boot-otherwise k x word (Bytes at node port from octets ∷ before) is few f = absurd f
+boot_otherwise k x word (Turn at node ∷ before) is few f = absurd f
+boot_otherwise k x word (Take at n ∷ before) is few f = absurd f
+boot_otherwise k x word (Bytes at node port from octets ∷ before) is few f = absurd f

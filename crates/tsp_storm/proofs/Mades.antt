@@ -7,13 +7,13 @@ use Rattle.tsp_base.specs.Words.{HeaderValue, has_member, is_whole, of, dids, fi
 use Rattle.tsp_base.specs.declared.event.EventFault.{EventFault, TheVariants.Limit}
 use Rattle.tsp_script.specs.Storms.{StormValue, storm_line}
 use Rattle.tsp_storm.specs.Schedules.{after_lines, storm_lines, header_of, generator_of, posted_count, next_event, made, storm_events}
-use Rattle.tsp_storm.proofs.{Draws.IsNext, Draws.Moves, Draws.next_moves, Ups.up-later, Ups.up-booted}
+use Rattle.tsp_storm.proofs.{Draws.IsNext, Draws.Moves, Draws.next_moves, Ups.up_later, Ups.up_booted}
 use Rattle.tsp_args.specs.{Storms.IsStorm, declared.storm.StormWords.StormWords}
 use Rattle.tsp_run.specs.{Networks.networks, Networks.networks_among, Networks.ports_on, declared.address.Address.Address}
 use Rattle.tsp_run.specs.Refusals.{Scene, scene, refusal, time_back, unknown, lacks_port, no_node, no_datagram, not_up, down, node_in, room_at, is_crowded}
 use Rattle.tsp_run.specs.Refusals.{actor, most_events}
 use Rattle.tsp_run.specs.Run.{event_at, last_at, goes_to, posts, run}
-use Rattle.tsp_run.{proofs.NetworkLemmas.goes_there, proofs.RefusalLemmas.goes_to-post, specs.declared.posted.Posted.Posted}
+use Rattle.tsp_run.{proofs.NetworkLemmas.goes_there, proofs.RefusalLemmas.goes_to_post, specs.declared.posted.Posted.Posted}
 use Rattle.tsp_networks.proofs.MemberLemmas.{member_alone, some_port}
 
 -- a generator that has given the lines of so many nodes
@@ -35,9 +35,9 @@ after_is (suc n) v = let a = after_is n v in record {
 }
 
 -- there is a line for each node
-pub length-storm_lines : (n : ℕ) (v : StormValue) → length (storm_lines n v) ≡ n
-length-storm_lines zero v = refl
-length-storm_lines (suc n) v = let e = length-storm_lines n v in omega (arith, length-append (storm_lines n v) (storm_line (after_lines n v) ∷ []), e)
+pub length_storm_lines : (n : ℕ) (v : StormValue) → length (storm_lines n v) ≡ n
+length_storm_lines zero v = refl
+length_storm_lines (suc n) v = let e = length_storm_lines n v in omega (arith, length-append (storm_lines n v) (storm_line (after_lines n v) ∷ []), e)
 
 -- a generator, and the events that it has given, the newest first
 pub record IsMade (header : HeaderValue) (events : List Event) (v : StormValue) : Type 0 where
@@ -51,9 +51,9 @@ pub record IsMade (header : HeaderValue) (events : List Event) (v : StormValue) 
   pub start : v.given ≤ v.nodes → v.at ≡ 0
   pub up : (i : ℕ) → i < v.nodes → i < v.given → up (dids (of i (run header events))) ≡ true
 
-IsMade-begins : (s : StormWords) → IsStorm s → IsMade (header_of s) [] (made s 0).generator
-IsMade-begins s is = let a = after_is s.nodes (generator_of s) in record {
-  nodes = a.nodes ∙ sym (length-storm_lines s.nodes (generator_of s));
+IsMade_begins : (s : StormWords) → IsStorm s → IsMade (header_of s) [] (made s 0).generator
+IsMade_begins s is = let a = after_is s.nodes (generator_of s) in record {
+  nodes = a.nodes ∙ sym (length_storm_lines s.nodes (generator_of s));
   one_net = refl;
   some = (let e = a.nodes in let some = is.some in omega (arith, e, some));
   named = (let e = a.named in let f = a.nodes in omega (arith, e, f));
@@ -65,13 +65,13 @@ IsMade-begins s is = let a = after_is s.nodes (generator_of s) in record {
 }
 
 -- before all nodes are up the next event is the boot of the next
-pub next-boots : (posted : ℕ) (v : StormValue) (e : Event) → IsNext posted v e → v.given < v.nodes → (word : ℕ) × (e ≡ BootAt 0 v.given word)
-next-boots posted v (BootAt at node word) n lt = (word, let same : at ≡ 0 = n.0 in let node_is : node ≡ v.given = n.1 in cc)
-next-boots posted v _ n lt = absurd (let ge = n.0 in omega (arith, ge, lt))
+pub next_boots : (posted : ℕ) (v : StormValue) (e : Event) → IsNext posted v e → v.given < v.nodes → (word : ℕ) × (e ≡ BootAt 0 v.given word)
+next_boots posted v (BootAt at node word) n lt = (word, let same : at ≡ 0 = n.0 in let node_is : node ≡ v.given = n.1 in cc)
+next_boots posted v _ n lt = absurd (let ge = n.0 in omega (arith, ge, lt))
 
-IsMade-next : (header : HeaderValue) (events : List Event) (v : StormValue) → IsMade header events v →
+IsMade_next : (header : HeaderValue) (events : List Event) (v : StormValue) → IsMade header events v →
     IsMade header ((next_event header events v).0 ∷ events) (next_event header events v).1
-IsMade-next header events v i =
+IsMade_next header events v i =
     let e = (next_event header events v).0 in
     let w = (next_event header events v).1 in
     let m : Moves (posted_count header events) v e w = next_moves header events v i.some in
@@ -83,22 +83,22 @@ IsMade-next header events v i =
       quiet = m.asked;
       count = (let a = m.given in let b = i.count in omega (arith, a, b));
       last = sym m.at;
-      start = λ le. m.at ∙ ap (λ x. event_at x) (next-boots (posted_count header events) v e m.next (let a = m.given in let b = m.nodes in
+      start = λ le. m.at ∙ ap (λ x. event_at x) (next_boots (posted_count header events) v e m.next (let a = m.given in let b = m.nodes in
           omega (arith, a, b, le))).1;
       up = λ k few here. elim (cases_lt k v.given) [
-        | inl before ↦ up-later header events e k (i.up k (subst (λ n. k < n) m.nodes few) before)
+        | inl before ↦ up_later header events e k (i.up k (subst (λ n. k < n) m.nodes few) before)
         | inr after ↦ (
             let same : v.given ≡ k = (let a = m.given in omega (arith, a, here, after)) in
-            let boot = next-boots (posted_count header events) v e m.next (let b = m.nodes in omega (arith, b, same, few)) in
+            let boot = next_boots (posted_count header events) v e m.next (let b = m.nodes in omega (arith, b, same, few)) in
             let is : e ≡ BootAt 0 k boot.0 = boot.1 ∙ ap (λ n. BootAt 0 n boot.0) same in
-            subst (λ x. up (dids (of k (run header (x ∷ events)))) ≡ true) (sym is) (up-booted header events 0 k boot.0))
+            subst (λ x. up (dids (of k (run header (x ∷ events)))) ≡ true) (sym is) (up_booted header events 0 k boot.0))
       ];
     }
 
 -- each beginning of a schedule is such a one
 pub made_is : (s : StormWords) → IsStorm s → (n : ℕ) → IsMade (header_of s) (storm_events s n) (made s n).generator
-made_is s is zero = IsMade-begins s is
-made_is s is (suc n) = IsMade-next (header_of s) (storm_events s n) (made s n).generator (made_is s is n)
+made_is s is zero = IsMade_begins s is
+made_is s is (suc n) = IsMade_next (header_of s) (storm_events s n) (made s n).generator (made_is s is n)
 
 -- the only cause of a refusal is a limit, after so many events
 abbrev pub OnlyLimit : ℕ → Option EventFault → Type 0
@@ -153,7 +153,7 @@ all_up header events v k i booted few = rw (i.up k few (omega (arith, booted, fe
 -- who is reached on the network of all nodes is a node
 reached : (header : HeaderValue) (o : Option Posted) (a : Address) → header.nets ≡ [] → goes_to (networks header) o ≡ Some a → a.node < length header.nodes
 reached header o a none is =
-    let post = goes_to-post (networks header) o a is in
+    let post = goes_to_post (networks header) o a is in
     let there = goes_there (networks header) post.0.from post.0.port post.0.to a post.2 in
     member_alone (length header.nodes) a.node there.k (subst (λ nets. has_member a.node (slice_index_or (networks_among (length header.nodes) nets) there.k [])
     ≡ true) none there.member)

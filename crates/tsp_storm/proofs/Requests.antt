@@ -34,13 +34,13 @@ are_zeros zero = are_none
 are_zeros (suc n) = are_more 0 (replicate n 0) (omega arith) (are_zeros n)
 
 -- each is below 256
-pub request-octets : (word i : ℕ) → octet_at (request_octets word) i < 256
-request-octets word =
+pub request_octets_holds : (word i : ℕ) → octet_at (request_octets word) i < 256
+request_octets_holds word =
     let front : AreOctets (128 ∷ 1 ∷ 0 ∷ 0 ∷ []) = are_more 128 _ (omega arith) (are_more 1 _ (omega arith)
     (are_more 0 _ (omega arith) (are_more 0 _ (omega arith) are_none))) in
     (are_both _ (replicate 8 0) (are_both _ (to_be_bytes w64 0) (are_both (128 ∷ 1 ∷ 0 ∷ 0 ∷ []) (to_be_bytes w64 word) front (are_number word)) (are_number 0))
     (are_zeros 8)).each
 
 -- and what is read from them is the request
-pub request-read : (word : ℕ) → word < 2 ^ 64 → taken_of (request_octets word) ≡ Good (Stamp (Request word 0))
-request-read word small = taken_of_canon (Stamp (Request word 0)) (small, omega arith)
+pub request_read : (word : ℕ) → word < 2 ^ 64 → taken_of (request_octets word) ≡ Good (Stamp (Request word 0))
+request_read word small = taken_of_canon (Stamp (Request word 0)) (small, omega arith)

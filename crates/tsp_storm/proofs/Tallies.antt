@@ -6,7 +6,7 @@ use Rattle.tsp_storm.specs.{Answers.SumsUp, Answers.HaltsStorm, Makings.MakingSt
 use Rattle.tsp_storm.specs.{Schedules.header_of, Schedules.storm_events, Schedules.posted_count, declared.making.Making.Making}
 use Rattle.tsp_rules.specs.{RoundRows.is_correct, Values.Act}
 use Rattle.tsp_storm.specs.Summaries.{acts_like, is_arrival, is_mastership, CountsLines, summary_text}
-use Rattle.tsp_storm.proofs.{Steps.made_now, StormKeeps.storm-kept}
+use Rattle.tsp_storm.proofs.{Steps.made_now, StormKeeps.storm_kept}
 use Rattle.tsp_args.specs.declared.storm.StormWords.{StormWords}
 use Rattle.tsp_run.specs.{Refusals.Valid, Run.told, Run.gained, declared.line.Line.Line}
 
@@ -41,7 +41,7 @@ pub sums_up : (s : StormWords) (m : Making) (posted : ℕ) (counts : Counts) →
     SumsUp s (record { events = s.events; posted = posted; counts = counts })
 sums_up s m posted counts st all sent c = (
   subst (λ n. Valid (header_of s) (storm_events s n)) all st.world.valid,
-  storm-kept s st.words s.events (subst (λ n. Valid (header_of s) (storm_events s n)) all st.world.valid),
+  storm_kept s st.words s.events (subst (λ n. Valid (header_of s) (storm_events s n)) all st.world.valid),
   summary_same s.events (length (storm_events s s.events)) posted (posted_count (header_of s) (storm_events s s.events)) counts.took _ counts.corrects _
       counts.masters _
       (sym all ∙ (made_now s m st).count ∙ ap (λ n. length (storm_events s n)) all)

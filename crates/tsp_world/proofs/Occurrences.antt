@@ -4,14 +4,14 @@ use Rattle.std.specs.declared.result.Result.{Result, TheVariants.Ok, TheVariants
 use Rattle.tsp_rules.specs.Values.{Event}
 use Rattle.tsp_base.specs.{Words.HeaderValue, declared.event.EventFault.EventFault, declared.event.EventFault.TheVariants.OutOfMemory}
 use Rattle.tsp_run.specs.Refusals.{Allowed, actor, scene, refusal}
-use Rattle.tsp_run.{proofs.RefusalLemmas.allowed, proofs.RefusalLemmas.refusal-alike, specs.Run.event_at}
+use Rattle.tsp_run.{proofs.RefusalLemmas.allowed, proofs.RefusalLemmas.refusal_alike, specs.Run.event_at}
 use Rattle.tsp_world.specs.WorldStands.{CanStep, Declines, HappensInWorld, Occurs, Stays, WorldStands, scene_of}
-use Rattle.tsp_world.{proofs.WorldLemmas.Alike-stands, specs.declared.world.World.World}
+use Rattle.tsp_world.{proofs.WorldLemmas.Alike_stands, specs.declared.world.World.World}
 
 -- what the world refuses, its schedule refuses
 pub refuses : (header : HeaderValue) (events : List Event) (world : World) (e : Event) → WorldStands header events world → refusal (scene_of world) e ≡
     refusal (scene header events) e
-refuses header events world e w = refusal-alike (scene_of world) (scene header events) (Alike-stands header events world (search rules) w) e
+refuses header events world e w = refusal_alike (scene_of world) (scene header events) (Alike_stands header events world (search rules) w) e
 
 -- where nothing refuses an event its facts hold, also when room was made for it
 pub may : (e : Event) (old ready : World) (cause : Option EventFault) → cause ≡ refusal (scene_of old) e → cause ≡ None → scene_of ready ≡ scene_of old →
@@ -47,7 +47,7 @@ occurred e old ready new cause refused is stays happens header events w =
 abbrev Comes : Event → World → World → Result (Unit {0}) EventFault → Type 0
 Comes e old new r = MatchResult r (λ _. Occurs e old new) (Declines e old new)
 
-pub comes-so : (e : Event) (old new : World) (r : Result (Unit {0}) EventFault) (P : Type 0) → Comes e old new r →
+pub comes_so : (e : Event) (old new : World) (r : Result (Unit {0}) EventFault) (P : Type 0) → Comes e old new r →
     (header : HeaderValue) (events : List Event) → WorldStands header events old → (WorldStands header (e ∷ events) new → P) → OnOk r P
-comes-so e old new (Ok u) P is header events w f = f (is header events w).1
-comes-so e old new (Err x) P is header events w f = tt
+comes_so e old new (Ok u) P is header events w f = f (is header events w).1
+comes_so e old new (Err x) P is header events w f = tt

@@ -11,19 +11,19 @@ use Rattle.tsp_gateway.{specs.declared.gateway.Gateway.Gateway, specs.GatewaySta
 use Rattle.tsp_world.specs.declared.world.World.{World}
 use Rattle.tsp_run.proofs.RunLemmas.{stepped_own, stepped_other, posts_stepped, up_joined}
 use Rattle.tsp_run.specs.{Run.run, Run.joins, Run.happening, Run.steps, Run.step_tick, Run.event_at, Ranges.Accepted, Ranges.IsInRange}
-use Rattle.tsp_run.proofs.{RefusalLemmas.Alike, RefusalLemmas.refusal-none, RefusalLemmas.up-down, NetworkLemmas.some_same}
+use Rattle.tsp_run.proofs.{RefusalLemmas.Alike, RefusalLemmas.refusal_none, RefusalLemmas.up_down, NetworkLemmas.some_same}
 use Rattle.tsp_run.specs.{Setup.node_line, Setup.past_of, Setup.rests, Refusals.scene, Refusals.refusal, Networks.networks}
 use Rattle.tsp_networks.specs.Posts.{PostsValue}
 use Rattle.tsp_world.specs.WorldStands.{WorldStands, PlaceStands, UpBegun, UpStands, HappensInWorld, Idles, Notes, Passes, up_at, is_node, scene_of}
 
 -- what the place of a node stands for after a step by this row
-pub PlaceStands-acted : (header : HeaderValue) (history : List Line) (row : NodeRow) (step : Step) (node : Gateway) →
+pub PlaceStands_acted : (header : HeaderValue) (history : List Line) (row : NodeRow) (step : Step) (node : Gateway) →
     let x = step_tick header step in
     let past = in_node_step step x (past_of header step history) in
     GatewayStands (spread x past (row x past)) node → up (dids (spread x past (row x past)).lines) ≡ true →
     PlaceStands header (joins (Some (steps header history row step)) history) step.node (Some node)
 unfolding steps
-PlaceStands-acted header history row step node h u =
+PlaceStands_acted header history row step node h u =
     let x = step_tick header step in
     let past = in_node_step step x (past_of header step history) in
     let now : List Line = joins (Some (steps header history row step)) history in
@@ -34,10 +34,10 @@ PlaceStands-acted header history row step node h u =
     )
 
 -- and what that of another node does
-pub PlaceStands-other : (header : HeaderValue) (history : List Line) (row : NodeRow) (step : Step) (n : ℕ) (place : Option Gateway) → n ≢ step.node →
+pub PlaceStands_other : (header : HeaderValue) (history : List Line) (row : NodeRow) (step : Step) (n : ℕ) (place : Option Gateway) → n ≢ step.node →
     PlaceStands header history n place → PlaceStands header (joins (Some (steps header history row step)) history) n place
 unfolding steps
-PlaceStands-other header history row step n place other h =
+PlaceStands_other header history row step n place other h =
     let x = step_tick header step in
     let acts = row x (in_node_step step x (past_of header step history)) in
     let same : of n (joins (Some (steps header history row step)) history) ≡ of n history =
@@ -60,10 +60,10 @@ by_node header history row step nodes n place is own other true e =
     (own place (subst (λ k. slice_get nodes k ≡ Some place) same is))
 by_node header history row step nodes n place is own other false e =
     let not_own : n ≢ step.node = λ q. true≢false (sym (eq-eqb n step.node q) ∙ e) in
-    PlaceStands-other header history row step n place not_own (other not_own)
+    PlaceStands_other header history row step n place not_own (other not_own)
 
 -- a world whose node has acted and that has noted it stands for the event too
-pub WorldStands-acted : (header : HeaderValue) (events : List Event) (e : Event) (row : NodeRow) (step : Step) (old new : World) (nodes : List (Option Gateway))
+pub WorldStands_acted : (header : HeaderValue) (events : List Event) (e : Event) (row : NodeRow) (step : Step) (old new : World) (nodes : List (Option Gateway))
     (acts : List Placed) →
     WorldStands header events old → IsInRange e → refusal (scene header events) e ≡ None → happening header (run header events) e ≡
     Some (steps header (run header events) row step) →
@@ -75,7 +75,7 @@ pub WorldStands-acted : (header : HeaderValue) (events : List Event) (e : Event)
     ((n : ℕ) (place : Option Gateway) → n ≢ step.node → slice_get nodes n ≡ Some place → slice_get old.nodes.items n ≡ Some place) →
     WorldStands header (e ∷ events) new
 unfolding steps
-WorldStands-acted header events e row step old new nodes acts w range none happens at inside same_length acts_are noted own others =
+WorldStands_acted header events e row step old new nodes acts w range none happens at inside same_length acts_are noted own others =
     let x : ℕ = step_tick header step in
     let done : List Placed = row x (in_node_step step x (past_of header step (run header events))) in
     record {
@@ -104,23 +104,23 @@ up_place places n (Some None) e up = absurd (true≢false (sym up))
 up_place places n (Some (Some node)) e up = (node, e)
 
 -- a node that is up begins a step
-UpBegun-from : (header : HeaderValue) (history : List Line) (step : Step) (x : ℕ) (place : Option Gateway) (node : Gateway) → place ≡ Some node →
+UpBegun_from : (header : HeaderValue) (history : List Line) (step : Step) (x : ℕ) (place : Option Gateway) (node : Gateway) → place ≡ Some node →
     GatewayStands (past_of header (rests step.node) history) node → UpBegun (in_node_step step x (past_of header step history)) place
-UpBegun-from header history step x place node is h =
+UpBegun_from header history step x place node is h =
     subst (λ p. UpBegun (in_node_step step x (past_of header step history)) p) (sym is) (GatewayBegun_in_step step x (past_of header step history) node
     (GatewayStands_step step (past_of header (rests step.node) history) node h))
 
 -- and ends it
-PlaceStands-ended : (header : HeaderValue) (history : List Line) (row : NodeRow) (step : Step) (place : Option Gateway) →
+PlaceStands_ended : (header : HeaderValue) (history : List Line) (row : NodeRow) (step : Step) (place : Option Gateway) →
     let x = step_tick header step in
     let past = in_node_step step x (past_of header step history) in
     UpStands (spread x past (row x past)) place → up (dids (spread x past (row x past)).lines) ≡ true →
     PlaceStands header (joins (Some (steps header history row step)) history) step.node place
-PlaceStands-ended header history row step None h u = absurd h
-PlaceStands-ended header history row step (Some node) h u = PlaceStands-acted header history row step node h u
+PlaceStands_ended header history row step None h u = absurd h
+PlaceStands_ended header history row step (Some node) h u = PlaceStands_acted header history row step node h u
 
 -- a world whose node, which is up, has acted by a row
-pub WorldStands-handed : (header : HeaderValue) (events : List Event) (e : Event) (row : NodeRow) (step : Step) (old new : World)
+pub WorldStands_handed : (header : HeaderValue) (events : List Event) (e : Event) (row : NodeRow) (step : Step) (old new : World)
     (before after : Option Gateway) (put acts : List Placed) →
     WorldStands header events old → IsInRange e → refusal (scene header events) e ≡ None → happening header (run header events) e ≡
     Some (steps header (run header events) row step) →
@@ -129,41 +129,41 @@ pub WorldStands-handed : (header : HeaderValue) (events : List Event) (e : Event
     PerformsAll UpBegun UpStands row (step_tick header step) before after put acts →
     Notes step.at step.node (step_tick header step) old.header (set old.nodes.items step.node after) old.events old.sent.items acts new →
     WorldStands header (e ∷ events) new
-WorldStands-handed header events e row step old new before after put acts w range none happens at inside idle is_up there did noted =
+WorldStands_handed header events e row step old new before after put acts w range none happens at inside idle is_up there did noted =
     let x : ℕ = step_tick header step in
     let past : NodePast = in_node_step step x (past_of header step (run header events)) in
     let found = up_place old.nodes.items step.node (slice_get old.nodes.items step.node) refl is_up in
     let stood : PlaceStands header (run header events) step.node (Some found.0) = w.nodes step.node (Some found.0) found.1 in
-    let begun : UpBegun past before = UpBegun-from header (run header events) step x before found.0 (some_same (sym there ∙ found.1)) stood.1 in
+    let begun : UpBegun past before = UpBegun_from header (run header events) step x before found.0 (some_same (sym there ∙ found.1)) stood.1 in
     let now : UpStands (spread x past (row x past)) after = did.stands past begun in
     let acts_are : acts ≡ row x past = did.acts past begun ∙ ap (λ ps. ps ++ row x past) idle in
     let is_up_now : up (dids (spread x past (row x past)).lines) ≡ true = up_joined step x (row x past) past.lines stood.0 in
-    WorldStands-acted header events e row step old new (set old.nodes.items step.node after) acts w range none happens at inside
+    WorldStands_acted header events e row step old new (set old.nodes.items step.node after) acts w range none happens at inside
     (length-set old.nodes.items step.node after) acts_are noted
     (λ place is. elim (set_cases old.nodes.items step.node step.node after place is) [
       | inl h ↦ subst (λ p. PlaceStands header (joins (Some (steps header (run header events) row step)) (run header events)) step.node p) h.1
-          (PlaceStands-ended header (run header events) row step after now is_up_now)
+          (PlaceStands_ended header (run header events) row step after now is_up_now)
       | inr h ↦ absurd (h.0 refl)
     ])
     (λ n place other is. elim (set_cases old.nodes.items step.node n after place is) [ inl h ↦ absurd (other (sym h.0)) | inr h ↦ h.1 ])
 
-up_at-stands : (header : HeaderValue) (history : List Line) (n : ℕ) (o : Option (Option Gateway)) →
+up_at_stands : (header : HeaderValue) (history : List Line) (n : ℕ) (o : Option (Option Gateway)) →
     ((place : Option Gateway) → o ≡ Some place → PlaceStands header history n place) → (o ≡ None → up (dids (of n history)) ≡ false) → is_node o ≡
     up (dids (of n history))
-up_at-stands header history n None there none = sym (none refl)
-up_at-stands header history n (Some None) there none = sym (there None refl)
-up_at-stands header history n (Some (Some node)) there none = sym (there (Some node) refl).0
+up_at_stands header history n None there none = sym (none refl)
+up_at_stands header history n (Some None) there none = sym (there None refl)
+up_at_stands header history n (Some (Some node)) there none = sym (there (Some node) refl).0
 
 -- a world refuses what its schedule refuses
-pub Alike-stands : (header : HeaderValue) (events : List Event) (world : World) → vec_len world.nodes ≡ length world.nodes.items →
+pub Alike_stands : (header : HeaderValue) (events : List Event) (world : World) → vec_len world.nodes ≡ length world.nodes.items →
     WorldStands header events world → Alike (scene_of world) (scene header events)
-Alike-stands header events world len w = record {
+Alike_stands header events world len w = record {
   nodes = len ∙ w.places;
   networks = ap networks w.header_is;
   last = w.last;
   events = w.count;
   posts = w.sent;
-  up = λ n. up_at-stands header (run header events) n (slice_get world.nodes.items n) (λ place is. w.nodes n place is) (λ is. w.nobody n (past_end n is));
+  up = λ n. up_at_stands header (run header events) n (slice_get world.nodes.items n) (λ place is. w.nodes n place is) (λ is. w.nobody n (past_end n is));
 } where
   past_end : (n : ℕ) → slice_get world.nodes.items n ≡ None → length header.nodes ≤ n
   past_end n is = elim (cases_lt n (length header.nodes)) [
@@ -182,17 +182,17 @@ pub accepted : (header : HeaderValue) (events : List Event) (world : World) → 
 accepted header events world w = record { header_is = subst (λ h. IsHeader h) w.header_is world.ready.header_is; ranges = w.ranges; valid = w.valid }
 
 -- a node whose deadline hasn't come has looked at its timers, and has done nothing
-pub WorldStands-rested : (at n : ℕ) (world new : World) → vec_len world.nodes ≡ length world.nodes.items → n < vec_len world.nodes → Idles at n world →
+pub WorldStands_rested : (at n : ℕ) (world new : World) → vec_len world.nodes ≡ length world.nodes.items → n < vec_len world.nodes → Idles at n world →
     Passes at world new → HappensInWorld (Turn at n) world new
-WorldStands-rested at n world new len inside idles passes header events w none =
-    let found = up_place world.nodes.items n (slice_get world.nodes.items n) refl ((Alike-stands header events world len w).up n ∙
-    up-down (scene header events) n (refusal-none (scene header events) (Turn at n) none).up) in
+WorldStands_rested at n world new len inside idles passes header events w none =
+    let found = up_place world.nodes.items n (slice_get world.nodes.items n) refl ((Alike_stands header events world len w).up n ∙
+    up_down (scene header events) n (refusal_none (scene header events) (Turn at n) none).up) in
     let node = found.0 in
     let there : slice_get world.nodes.items n ≡ Some (Some node) = found.1 in
     let step : Step = record { at = at; node = n; cause = Turned } in
     let waits = turn_rests node idles.0 (step_tick header step) (idles.1 node there) (subst (λ (h : HeaderValue). tick_at (node_line h n).rate at < idles.0)
     w.header_is idles.2) in
-    WorldStands-handed header events (Turn at n) (answers_all NodeTurn) step world new (Some node) (Some node) [] []
+    WorldStands_handed header events (Turn at n) (answers_all NodeTurn) step world new (Some node) (Some node) [] []
     w tt none refl refl (in_header header events world len w n inside) refl (ap is_node there) there
     (record { acts = λ past begun. waits.acts past begun; stands = λ past begun. waits.stands past begun })
     (record {

@@ -1,7 +1,8 @@
 -- The alarms of a port that is Loose or follows, and Resolve, keep what is known of it.
 use Rattle.std.proofs.Common.{sym, subst, inl, inr, arith, ◌∙◌, true≢false, ◌≡◌, ◌≤◌, ℕ, ◌+◌, Bool, true, false, refl, Option, None, []}
 use Rattle.std.proofs.lemmas.Bool.{and_parts}
-use Rattle.tsp_promises.proofs.{leads.Known.Sleeps, leads.Known.Free, leads.Known.Open, leads.Known.Untaken, leads.Leaves.none-some, leads.TakenLeads.master_awake}
+use Rattle.tsp_promises.proofs.{leads.Known.Sleeps, leads.Known.Free, leads.Known.Open, leads.Known.Untaken, leads.Leaves.none-some}
+use Rattle.tsp_promises.proofs.{leads.TakenLeads.master_awake}
 use Rattle.tsp_promises.proofs.leads.Changes.{FreeIn, become_loose, late, open_of, rested_of, ring}
 use Rattle.tsp_promises.proofs.leads.CommonLeads.{arms_elect_during, searches_during, begins_quit, candidature_leads}
 use Rattle.tsp_rules.specs.Values.{Become, Ring, Late, Alarm, Quiet, Elect, Search, ResolveAlarm, QuitKind, Starting, Loose, Master, QUIET}

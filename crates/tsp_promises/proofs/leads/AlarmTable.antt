@@ -30,15 +30,15 @@ pub sound_rings : (own wait : Bool) (a : Alarm) → Soundly (rings own wait a)
 sound_rings own wait a = sound_built (built_rings own wait a)
 
 -- one alarm after the other
-sound-each : (alarms : List Alarm) → Soundly (rings_each alarms)
+sound_each : (alarms : List Alarm) → Soundly (rings_each alarms)
 unfolding rings_alone
-sound-each [] = Leads_nothing
-sound-each (a ∷ []) = sound_rings true false a
-sound-each (a ∷ next ∷ rest) = Leads_then (rings_alone a) (rings_each (next ∷ rest)) (sound_rings true false a) (sound-each (next ∷ rest))
+sound_each [] = Leads_nothing
+sound_each (a ∷ []) = sound_rings true false a
+sound_each (a ∷ next ∷ rest) = Leads_then (rings_alone a) (rings_each (next ∷ rest)) (sound_rings true false a) (sound_each (next ∷ rest))
 
 pub sound_alarms : Soundly due_alarms
 unfolding due_alarms
-sound_alarms = sound-each ALL
+sound_alarms = sound_each ALL
 
 pub around_open : (b : Bool) (x : ℕ) (past : Past) → Around b x past → Open x past
 around_open true x past h = h.open_port
@@ -61,16 +61,16 @@ before_turn probed a rest e = by_need (moves_by a) probed (and_parts (not (moves
 pub after_turn : (probed : Bool) (a : Alarm) (rest : List Alarm) → are_probed probed (a ∷ rest) ≡ true → are_probed (is_probe a) rest ≡ true
 after_turn probed a rest e = (and_parts (not (moves_by a) || probed) (are_probed (is_probe a) rest) e).1
 
-each-lead : (probed : Bool) (alarms : List Alarm) → are_probed probed alarms ≡ true → Leads (Around probed) (rings_each alarms) Open
+each_lead : (probed : Bool) (alarms : List Alarm) → are_probed probed alarms ≡ true → Leads (Around probed) (rings_each alarms) Open
 unfolding rings_alone
-each-lead probed [] e = Leads_from (around_open probed) Leads_nothing
-each-lead probed (a ∷ []) e = Leads_from (before_turn probed a [] e) (Leads_to (around_open (is_probe a)) (alarm_leads true false a))
-each-lead probed (a ∷ next ∷ rest) e =
+each_lead probed [] e = Leads_from (around_open probed) Leads_nothing
+each_lead probed (a ∷ []) e = Leads_from (before_turn probed a [] e) (Leads_to (around_open (is_probe a)) (alarm_leads true false a))
+each_lead probed (a ∷ next ∷ rest) e =
     Leads_from (before_turn probed a (next ∷ rest) e)
-    (Leads_then (rings_alone a) (rings_each (next ∷ rest)) (alarm_leads true false a) (each-lead (is_probe a) (next ∷
+    (Leads_then (rings_alone a) (rings_each (next ∷ rest)) (alarm_leads true false a) (each_lead (is_probe a) (next ∷
     rest) (after_turn probed a (next ∷ rest) e)))
 
 -- every due alarm
 pub due_alarms_lead : Leads Open due_alarms Open
 unfolding due_alarms
-due_alarms_lead = each-lead false ALL refl
+due_alarms_lead = each_lead false ALL refl

@@ -7,10 +7,12 @@ use Rattle.tsp_promises.specs.{AckFits.Answers, DeedFits.asks_name, DeedFits.is_
 use Rattle.tsp_promises.proofs.leads.SlaveLeads.{quit_follower, idle_heard}
 use Rattle.tsp_promises.proofs.leads.Changes.{Is, JustTook, take, open_of}
 use Rattle.tsp_promises.proofs.leads.DateLeads.{date_upsets, date_request_upsets, date_acked_leads}
-use Rattle.tsp_promises.proofs.{leads.Leaves.none-among, leads.Leaves.none-some, leads.Leaves.some-same, leads.Leaves.sample, leads.AlarmTable.due_alarms_lead}
-use Rattle.tsp_promises.proofs.{leads.RoleLeads.slave_leads, leads.RoleLeads.candidate_leads, leads.RoleLeads.master_leads, leads.CorrectionLeads.due_sends_lead}
+use Rattle.tsp_promises.proofs.{leads.Leaves.none_among, leads.Leaves.none-some, leads.Leaves.some_same, leads.Leaves.sample, leads.AlarmTable.due_alarms_lead}
+use Rattle.tsp_promises.proofs.{leads.RoleLeads.slave_leads, leads.RoleLeads.candidate_leads, leads.RoleLeads.master_leads}
+use Rattle.tsp_promises.proofs.{leads.CorrectionLeads.due_sends_lead}
 use Rattle.tsp_promises.proofs.leads.Elsewheres.{Upsets, upsets_of, upsets_from, upsets_either, upsetting_lead}
-use Rattle.tsp_promises.proofs.leads.TakenLeads.{Heard, HeardIn, Unanswered, rests_of, took_awake, names_master_leads, says_master_leads, traces_leads, tests_leads}
+use Rattle.tsp_promises.proofs.leads.TakenLeads.{Heard, HeardIn, Unanswered, rests_of, took_awake, names_master_leads, says_master_leads, traces_leads}
+use Rattle.tsp_promises.proofs.leads.TakenLeads.{tests_leads}
 use Rattle.tsp_promises.proofs.leads.TakenLeads.{replies_lead, quits_lead}
 use Rattle.tsp_rules.specs.Values.{Took, Message, Stamp, Taken, Good, Bad, Kind, Date, DateAck, DateReq, LoopKind, Msite, MsiteReq, SetDate, SetDateReq, Test}
 use Rattle.tsp_rules.specs.Values.{TraceOff, TraceOn, PeerId, Place, Peer, Stranger, Role, Starting, Loose, Follow, Candidate, Master, Request, Reply}
@@ -35,11 +37,11 @@ pub record Placed (p : PeerId) (counter : ℕ) (seen : List Seen) (q : OpenReque
   pub word_is : q.word ≡ word_asked (s ∷ older)
   pub target_is : q.target ≡ target_there (s ∷ older)
 
-placed-cases : (p : PeerId) (counter : ℕ) (seen : List Seen) (q : OpenRequest) (place : List Seen) → exchange p counter seen ≡ place → request_at_place place ≡
+placed_cases : (p : PeerId) (counter : ℕ) (seen : List Seen) (q : OpenRequest) (place : List Seen) → exchange p counter seen ≡ place → request_at_place place ≡
     Some q → Placed p counter seen q
-placed-cases p counter seen q [] is e = none-some q e
-placed-cases p counter seen q (s ∷ older) is e =
-    let same : record { word = word_asked (s ∷ older); target = target_there (s ∷ older) } ≡ q = some-same _ q e in
+placed_cases p counter seen q [] is e = none-some q e
+placed_cases p counter seen q (s ∷ older) is e =
+    let same : record { word = word_asked (s ∷ older); target = target_there (s ∷ older) } ≡ q = some_same _ q e in
     record { s = s; older = older; is = is; word_is = sym (ap (λ (r : OpenRequest). r.word) same); target_is = sym (ap (λ (r : OpenRequest). r.target) same) }
 
 module _ {p : PeerId} {r : ReplyValue} where
@@ -48,7 +50,7 @@ module _ {p : PeerId} {r : ReplyValue} where
       SampleFits (now x past (sample_of p r q.target d)) past.seen p r.counter (sample_diff q.target r.reading d) (sample_err q.target d) r.ticket
   sample_fits x past q d h found same now_is =
       let free = h.just.free in
-      let placed = placed-cases p r.counter past.seen q (exchange p r.counter past.seen) refl found in
+      let placed = placed_cases p r.counter past.seen q (exchange p r.counter past.seen) refl found in
       let asked = free.knows.round.exchanges p r.counter placed.s placed.older placed.is in
       let going = free.knows.round.closes refl asked.at asked.goes in
       let there : q.target ≡ target (plain placed.older) asked.post.tick = placed.target_is ∙ ap (λ z. target_there (z ∷ placed.older)) asked.is in
@@ -91,7 +93,7 @@ module _ {p : PeerId} {m : MessageValue} where
   unfolding says_in slave_takes candidate_takes master_takes
   says_leads Starting = idle_heard (λ x past h. h.0)
   says_leads Loose = slave_leads Loose (λ e. let bad : ⊥ = cc in absurd bad)
-      (quits_lead Loose [] (λ q i. let bad : ⊥ = cc in absurd bad) refl (λ q i. none-among q refl i)) m.kind refl
+      (quits_lead Loose [] (λ q i. let bad : ⊥ = cc in absurd bad) refl (λ q i. none_among q refl i)) m.kind refl
   says_leads (Follow q) = slave_leads (Follow q) (λ e. let bad : ⊥ = cc in absurd bad) (quit_follower q) m.kind refl
   says_leads Candidate = candidate_leads m.kind refl
   says_leads Master = master_leads m.kind refl
@@ -189,7 +191,7 @@ takes_upsets steer charge from t =
     record { run = λ x past h. k.run x (grown x past (Took from t ∷ [])) (take from t h) }
 
 pub open_rests : {T : Option Received → Option Received → Type 0} (x : ℕ) (past : Past) → OpenIn false T x past → Rests x past
-open_rests x past h = record { fits = h.fits; knows = h.knows; backs = h.backs; follows = λ p e. none-among p h.owed e; paid = h.paid }
+open_rests x past h = record { fits = h.fits; knows = h.knows; backs = h.backs; follows = λ p e. none_among p h.owed e; paid = h.paid }
 
 pub input_leads : (g : Given) → Leads Open (input_row g) Rests
 unfolding input_row

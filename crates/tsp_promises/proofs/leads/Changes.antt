@@ -6,7 +6,7 @@ use Rattle.tsp_rules.specs.Values.{ELECT_MIN, QUIET, Act, Ring, Late, Quiet, Win
 use Rattle.tsp_rules.proofs.{Asides.now, CalmAlarms.moves_by}
 use Rattle.tsp_base.specs.Words.{Did, Acts, Seen, Here, Past, plain, MessageValue, boot_tick, Received, Said, role, held, armed, acting, said, taken, grown}
 use Rattle.tsp_base.specs.Words.{heard}
-use Rattle.tsp_promises.proofs.leads.Leaves.{made, nil-cons, none-some, now_rested, then_seen, with_quiet, with_round, with_times, with_vote}
+use Rattle.tsp_promises.proofs.leads.Leaves.{made, nil_cons, none-some, now_rested, then_seen, with_quiet, with_round, with_times, with_vote}
 use Rattle.tsp_promises.proofs.leads.Known.{TimesOf, VotesOf, RoundsOf, KnowsOf, During, Open, Sleeps, OpenIn, Untaken, Free}
 use Rattle.tsp_promises.specs.StepFacts.{acked_by, is_ack, is_answered, is_unbacked, owes, owes_after, unacknowledged}
 use Rattle.tsp_promises.specs.{HoldFits.BackFits, HoldFits.LeadFits, HoldFits.YieldFits, DeedFits.MessageFits, DeedFits.ActFits}
@@ -54,11 +54,11 @@ forget h = record {
 }
 
 -- an alarm that is off owes nothing
-no-window : (x : ℕ) (past : Past) → VotesOf x past.own past.seen → VotesOf x past.own (then_seen x past (Ring Window))
-no-window x past v = record { stands = v.stands; windows = λ n e. none-some n e; votes = v.votes }
+no_window : (x : ℕ) (past : Past) → VotesOf x past.own past.seen → VotesOf x past.own (then_seen x past (Ring Window))
+no_window x past v = record { stands = v.stands; windows = λ n e. none-some n e; votes = v.votes }
 
-no-round : (x : ℕ) (past : Past) → TimesOf x past.seen → TimesOf x (then_seen x past (Ring Round))
-no-round x past k = record { boot_le = k.boot_le; last_le = k.last_le; boot_is = k.boot_is; start_le = k.start_le; next = λ n e. none-some n e }
+no_round : (x : ℕ) (past : Past) → TimesOf x past.seen → TimesOf x (then_seen x past (Ring Round))
+no_round x past k = record { boot_le = k.boot_le; last_le = k.last_le; boot_is = k.boot_is; start_le = k.start_le; next = λ n e. none-some n e }
 
 unled : (x : ℕ) (past : Past) → RoundsOf false past.seen → RoundsOf false (then_seen x past (Ring Round))
 unled x past k = record { rounds = λ n e. none-some n e; probing = k.probing; closes = k.closes; exchanges = k.exchanges }
@@ -76,8 +76,8 @@ module _ {x : ℕ} {past : Past} where
   ring Search e r h = rang (Ring Search) tt (with_quiet h.knows (now_rested r h.knows.quiet)) r h.backs h.owed h.paid refl h.took h
   ring Elect e r h = rang (Ring Elect) tt (with_quiet h.knows (now_rested r h.knows.quiet)) r h.backs h.owed h.paid refl h.took h
   ring ResolveAlarm e r h = rang (Ring ResolveAlarm) tt (with_quiet h.knows (now_rested r h.knows.quiet)) r h.backs h.owed h.paid refl h.took h
-  ring Window e r h = rang (Ring Window) tt (with_vote h.knows (no-window x past h.knows.vote)) r h.backs h.owed h.paid refl h.took h
-  ring Round e r h = rang (Ring Round) tt (with_round (with_times h.knows (no-round x past h.knows.times))
+  ring Window e r h = rang (Ring Window) tt (with_vote h.knows (no_window x past h.knows.vote)) r h.backs h.owed h.paid refl h.took h
+  ring Round e r h = rang (Ring Round) tt (with_round (with_times h.knows (no_round x past h.knows.times))
       (unled x past h.knows.round)) r h.backs h.owed h.paid refl h.took h
   ring Probe e r h =
       let k = h.knows.round in
@@ -91,8 +91,8 @@ module _ {x : ℕ} {past : Past} where
   late Search e r h = rang (Late Search) tt (with_quiet h.knows (now_rested r h.knows.quiet)) r h.backs h.owed h.paid refl h.took h
   late Elect e r h = rang (Late Elect) tt (with_quiet h.knows (now_rested r h.knows.quiet)) r h.backs h.owed h.paid refl h.took h
   late ResolveAlarm e r h = rang (Late ResolveAlarm) tt (with_quiet h.knows (now_rested r h.knows.quiet)) r h.backs h.owed h.paid refl h.took h
-  late Window e r h = rang (Late Window) tt (with_vote h.knows (no-window x past h.knows.vote)) r h.backs h.owed h.paid refl h.took h
-  late Round e r h = rang (Late Round) tt (with_round (with_times h.knows (no-round x past h.knows.times))
+  late Window e r h = rang (Late Window) tt (with_vote h.knows (no_window x past h.knows.vote)) r h.backs h.owed h.paid refl h.took h
+  late Round e r h = rang (Late Round) tt (with_round (with_times h.knows (no_round x past h.knows.times))
       (unled x past h.knows.round)) r h.backs h.owed h.paid refl h.took h
   late Probe e r h =
       let k = h.knows.round in
@@ -109,7 +109,7 @@ module _ {x : ℕ} {past : Past} where
       rounds = k.round.rounds;
       probing = λ n e. none-some n (sym unprobed ∙ e);
       closes = λ calm n e. none-some n e;
-      exchanges = λ p i s older e. nil-cons s older e;
+      exchanges = λ p i s older e. nil_cons s older e;
     };
   }) r h.backs h.owed h.paid refl h.took h
 
@@ -122,7 +122,7 @@ module _ {x : ℕ} {past : Past} where
       rounds = k.round.rounds;
       probing = λ n e. none-some n (sym unprobed ∙ e);
       closes = λ calm n e. none-some n e;
-      exchanges = λ p i s older e. nil-cons s older e;
+      exchanges = λ p i s older e. nil_cons s older e;
     };
   }) r h.backs h.owed h.paid refl h.took h
 
@@ -138,7 +138,7 @@ knows_become x past r times rested stands = record {
     rounds = λ n e. none-some n e;
     probing = λ n e. none-some n e;
     closes = λ calm n e. none-some n e;
-    exchanges = λ p i s older e. nil-cons s older e;
+    exchanges = λ p i s older e. nil_cons s older e;
   };
 }
 
@@ -200,9 +200,9 @@ pub record FreeIn (follow : List PeerId) (T : Option Received → Option Receive
   pub role_is : role past.seen ≡ r
 
 -- an ACK of its number ends it
-acked-here : (p : PeerId) (m ack : MessageValue) → is_ack ack.kind ≡ true → ack.number ≡ m.number → acked_by p ack (Some (record { from = p; message = m })) ≡
+acked_here : (p : PeerId) (m ack : MessageValue) → is_ack ack.kind ≡ true → ack.number ≡ m.number → acked_by p ack (Some (record { from = p; message = m })) ≡
     None
-acked-here p m ack kind number =
+acked_here p m ack kind number =
     let same : (p.0 == p.0) ≡ true = eq-eqb p.0 p.0 refl in
     let count : (ack.number == m.number) ≡ true = eq-eqb ack.number m.number number in
     rw (same, kind, count) refl
@@ -247,7 +247,7 @@ module _ {follow : List PeerId} {T : Option Received → Option Received → Typ
     rested = h.rested;
     backs = h.backs;
     owed = h.owed;
-    paid = ap (acked_by p ack) h.paid ∙ acked-here p m ack kind number;
+    paid = ap (acked_by p ack) h.paid ∙ acked_here p m ack kind number;
     acting_is = h.acting_is;
     took = h.took;
   }

@@ -14,12 +14,13 @@ use Rattle.tsp_base.specs.Words.{Did, Seen, Here, Past, plain, Leads, boot_tick,
 use Rattle.tsp_base.specs.Words.{for_each, heard, Step, Acts, MessageValue, Sampled, best, Estimate, estimate_of, nothing, timed, posts_time, time_in}
 use Rattle.tsp_base.proofs.LeadsLemmas.{Leads_then, Leads_either, Leads_reading, Leads_nothing, Leads_puts, Leads_to, Leads_from}
 use Rattle.tsp_promises.specs.{CorrectFits.ByRound, CorrectFits.is_stepped, RoundFits.CloseFits, RoundFits.measured_peers}
-use Rattle.tsp_promises.proofs.{shared.Printed.adjusts_prints, shared.Printed.sets_target, leads.Changes.open_of, leads.Changes.ring_close, leads.Changes.late_close}
+use Rattle.tsp_promises.proofs.{shared.Printed.adjusts_prints, shared.Printed.sets_target, leads.Changes.open_of, leads.Changes.ring_close}
+use Rattle.tsp_promises.proofs.{leads.Changes.late_close}
 use Rattle.tsp_promises.{specs.StepFacts.closed, specs.StepFacts.closed_after, proofs.leads.Known.Free, proofs.leads.Known.Open, proofs.leads.Known.Untaken}
 use Rattle.tsp_promises.specs.{PortFits.setup_in, CorrectionFits.FollowedBy, CorrectionFits.CorrectionFits, CorrectionFits.SetsTarget}
 use Rattle.tsp_promises.proofs.{leads.CorrectionLeads.may_fits, leads.RoundLeads.Probed}
 use Rattle.tsp_promises.proofs.{leads.PostLeaves.Leads_posts_time, leads.PostLeaves.post_message, leads.AlarmLeads.rings_lead, leads.AlarmLeads.master_rested}
-use Rattle.tsp_promises.proofs.leads.Leaves.{some-same, correct, abandon, close_act as close_leaf, leave, then_seen}
+use Rattle.tsp_promises.proofs.leads.Leaves.{some_same, correct, abandon, close_act as close_leaf, leave, then_seen}
 use Rattle.tsp_group.specs.{Groups.group_of, Groups.mean_of, declared.group.Group.Group}
 
 -- how a Close corrects the measured peers, and what stays known of the port
@@ -276,7 +277,7 @@ unprobed : (x : ℕ) (past : Past) (at : ℕ) → Probed x past → (armed past.
 unprobed x past at h goes over None is = is
 unprobed x past at h goes over (Some next) is =
     let probing = h.open_port.knows.round.probing next is in
-    let until_is = some-same probing.until at (sym probing.goes ∙ goes) in
+    let until_is = some_same probing.until at (sym probing.goes ∙ goes) in
     let bad : ⊥ = omega (arith, until_is, h.later next is, probing.soon, probing.few, over) in
     absurd bad
 

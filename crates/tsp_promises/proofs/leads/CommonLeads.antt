@@ -10,7 +10,8 @@ use Rattle.tsp_base.specs.Words.{Did, Past, plain, Leads, boot_tick, ticket, Mes
 use Rattle.tsp_base.specs.Words.{◌followed_by◌, for_each, arms, bare, post_of, posts, posts_to_others}
 use Rattle.tsp_base.proofs.LeadsLemmas.{Leads_then, Leads_reading, Leads_puts, Leads_each, Leads_from, Leads_to}
 use Rattle.tsp_promises.specs.{DeedFits.NumberedFits, HoldFits.BackFits}
-use Rattle.tsp_promises.proofs.{leads.Known.Candidature, leads.Known.During, leads.Known.Free, leads.Leaves.arm_search, leads.Leaves.arm_elect, leads.Leaves.arm_window}
+use Rattle.tsp_promises.proofs.{leads.Known.Candidature, leads.Known.During, leads.Known.Free, leads.Leaves.arm_search, leads.Leaves.arm_elect}
+use Rattle.tsp_promises.proofs.{leads.Leaves.arm_window}
 use Rattle.tsp_promises.proofs.leads.PostLeaves.{Leads_arms, Leads_posts, Leads_others, post_message, post_election}
 use Rattle.tsp_promises.proofs.leads.Changes.{Quitting, FreeIn, become_follow, become_candidate, back_own}
 

@@ -2,11 +2,11 @@
 use Rattle.std.proofs.Common.{sym, subst, inl, inr, ap, arith, true≢false, eqb-true, leb-false, ltb-false, ◌∙◌, ◌≡◌, ◌⊎◌, ◌≤◌, ◌<◌, ℕ, ◌+◌, ◌%◌, ◌==◌, ◌&&◌}
 use Rattle.std.proofs.Common.{nat_lt, nat_le, cond, Bool, true, false, if◌then◌else◌, List, [], ◌∷◌, Option, None, Some, refl}
 use Rattle.std.proofs.lemmas.Bool.{and_parts, or_cases, or_parts}
-use Rattle.tsp_promises.{proofs.promised.SendProof.if-nil, specs.PortFits.PortFits, specs.PortFits.setup_in, proofs.leads.PostLeaves.post_again}
+use Rattle.tsp_promises.{proofs.promised.SendProof.if_nil, specs.PortFits.PortFits, specs.PortFits.setup_in, proofs.leads.PostLeaves.post_again}
 use Rattle.tsp_promises.specs.{CorrectionFits.RepeatFits, CorrectionFits.Rests, CorrectionFits.Follows, StepFacts.is_unbacked}
 use Rattle.tsp_promises.{specs.DeedFits.MessageFits, specs.DeedFits.DeedFits, proofs.leads.Known.During, proofs.leads.Known.Fresh, proofs.leads.Known.Untaken}
 use Rattle.tsp_promises.proofs.leads.Changes.{wake, forget}
-use Rattle.tsp_promises.proofs.leads.Leaves.{none-some, gave, leave, nil-cons, some-same}
+use Rattle.tsp_promises.proofs.leads.Leaves.{none-some, gave, leave, nil_cons, some_same}
 use Rattle.tsp_rules.specs.Values.{Boot, Post, Become, Acked, Gave, Leave, Message, Kind, AdjTime, Conflict, Election, QuitKind, SetDateReq, SetTime, PeerId}
 use Rattle.tsp_rules.specs.Values.{Peer, LAST, REUSE, TRIES}
 use Rattle.tsp_rules.specs.SendRows.{may_correct, open_at, leaves_after, gives_up, repeats, repeats_send, due_send, peers_at, due_sends, is_send_due, is_spent}
@@ -31,13 +31,13 @@ pub record Began (setup : Setup) (p : PeerId) (seen : List Seen) : Type 0 where
   pub role_is : role seen ≡ role older
 
 -- a place that an if gives
-if-keep : (b : Bool) (was : List Seen) (s : Seen) (older : List Seen) → cond b [] was ≡ s ∷ older → cond b [] was ≡ was
-if-keep true was s older e = nil-cons s older e
-if-keep false was s older e = refl
+if_keep : (b : Bool) (was : List Seen) (s : Seen) (older : List Seen) → cond b [] was ≡ s ∷ older → cond b [] was ≡ was
+if_keep true was s older e = nil_cons s older e
+if_keep false was s older e = refl
 
-began-more : (setup : Setup) (p : PeerId) (seen more : List Seen) → open_to p more ≡ open_to p seen → role more ≡ role seen → Began setup p seen →
+began_more : (setup : Setup) (p : PeerId) (seen more : List Seen) → open_to p more ≡ open_to p seen → role more ≡ role seen → Began setup p seen →
     Began setup p more
-began-more setup p seen more o r b = record {
+began_more setup p seen more o r b = record {
   first = b.first;
   older = b.older;
   is = o ∙ b.is;
@@ -48,11 +48,11 @@ began-more setup p seen more o r b = record {
   role_is = r ∙ b.role_is;
 }
 
-began-post : (setup : Setup) (p q : PeerId) (m : MessageValue) (d : Did) (before : List Seen) (s : Seen) (older : List Seen) →
+began_post : (setup : Setup) (p q : PeerId) (m : MessageValue) (d : Did) (before : List Seen) (s : Seen) (older : List Seen) →
     Acts (Post (Peer q) (Message m)) ≡ d.deed → DeedFits setup d.deed d before → (open_to p before ≡ s ∷ older → Began setup p before) →
     (b : Bool) → ((q.0 == p.0) && (is_numbered m.kind && acting before)) ≡ b → cond b (Here d ∷ before) (open_to p before) ≡ s ∷ older →
     open_to p (Here d ∷ before) ≡ cond b (Here d ∷ before) (open_to p before) → role (Here d ∷ before) ≡ role before → Began setup p (Here d ∷ before)
-began-post setup p q m d before s older is f k true test e place r =
+began_post setup p q m d before s older is f k true test e place r =
     let one = and_parts (q.0 == p.0) (is_numbered m.kind && acting before) test in
     let two = and_parts (is_numbered m.kind) (acting before) one.1 in
     let same : q ≡ p = same_peer q p one.0 in
@@ -67,30 +67,30 @@ began-post setup p q m d before s older is f k true test e place r =
       fits = (subst (λ t. DeedFits setup t d before) deed f).fits;
       role_is = r;
     }
-began-post setup p q m d before s older is f k false test e place r = began-more setup p before (Here d ∷ before) place r (k e)
+began_post setup p q m d before s older is f k false test e place r = began_more setup p before (Here d ∷ before) place r (k e)
 
 -- what an act of a port makes of the beginning
 record Steps (p : PeerId) (d : Did) (before : List Seen) (deed : Deed) : Type 0 where
   pub opens : open_to p (Here d ∷ before) ≡ open_to_after p deed (acting before) (Here d ∷ before) (open_to p before)
   pub roles : role (Here d ∷ before) ≡ role_after deed (role before)
 
-began-deed : (setup : Setup) (p : PeerId) (d : Did) (before : List Seen) (s : Seen) (older : List Seen) → DeedFits setup d.deed d before →
+began_deed : (setup : Setup) (p : PeerId) (d : Did) (before : List Seen) (s : Seen) (older : List Seen) → DeedFits setup d.deed d before →
     (open_to p before ≡ s ∷ older → Began setup p before) → (deed : Deed) → deed ≡ d.deed → Steps p d before deed →
     open_to_after p deed (acting before) (Here d ∷ before) (open_to p before) ≡ s ∷ older → Began setup p (Here d ∷ before)
-began-deed setup p d before s older f k (Acts Boot) is t e = nil-cons s older e
-began-deed setup p d before s older f k (Acts (Become r)) is t e = nil-cons s older e
-began-deed setup p d before s older f k (Acts (Post (Peer q) (Message m))) is t e = began-post setup p q m d before s older is f k _ refl e t.opens t.roles
-began-deed setup p d before s older f k (Acts (Acked q)) is t e = began-more setup p before (Here d ∷ before) (t.opens ∙
-    if-keep (q.0 == p.0) (open_to p before) s older e) t.roles (k (if-nil (q.0 == p.0) (open_to p before) s older e))
-began-deed setup p d before s older f k (Acts (Gave q)) is t e = began-more setup p before (Here d ∷ before) (t.opens ∙
-    if-keep (q.0 == p.0) (open_to p before) s older e) t.roles (k (if-nil (q.0 == p.0) (open_to p before) s older e))
-began-deed setup p d before s older f k _ is t e = began-more setup p before (Here d ∷ before) t.opens t.roles (k e)
+began_deed setup p d before s older f k (Acts Boot) is t e = nil_cons s older e
+began_deed setup p d before s older f k (Acts (Become r)) is t e = nil_cons s older e
+began_deed setup p d before s older f k (Acts (Post (Peer q) (Message m))) is t e = began_post setup p q m d before s older is f k _ refl e t.opens t.roles
+began_deed setup p d before s older f k (Acts (Acked q)) is t e = began_more setup p before (Here d ∷ before) (t.opens ∙
+    if_keep (q.0 == p.0) (open_to p before) s older e) t.roles (k (if_nil (q.0 == p.0) (open_to p before) s older e))
+began_deed setup p d before s older f k (Acts (Gave q)) is t e = began_more setup p before (Here d ∷ before) (t.opens ∙
+    if_keep (q.0 == p.0) (open_to p before) s older e) t.roles (k (if_nil (q.0 == p.0) (open_to p before) s older e))
+began_deed setup p d before s older f k _ is t e = began_more setup p before (Here d ∷ before) t.opens t.roles (k e)
 
 pub began : (setup : Setup) (p : PeerId) (seen : List Seen) → PortFits setup seen → (s : Seen) (older : List Seen) → open_to p seen ≡ s ∷ older →
     Began setup p seen
-began setup p [] f s older e = nil-cons s older e
-began setup p (Elsewhere d ∷ before) f s older e = began-more setup p before (Elsewhere d ∷ before) refl refl (began setup p before f s older e)
-began setup p (Here d ∷ before) f s older e = began-deed setup p d before s older f.0 (began setup p before f.1 s older) d.deed refl (record {
+began setup p [] f s older e = nil_cons s older e
+began setup p (Elsewhere d ∷ before) f s older e = began_more setup p before (Elsewhere d ∷ before) refl refl (began setup p before f s older e)
+began setup p (Here d ∷ before) f s older e = began_deed setup p d before s older f.0 (began setup p before f.1 s older) d.deed refl (record {
   opens = refl;
   roles = refl;
 }) e
@@ -102,13 +102,13 @@ pub record OpenIs (setup : Setup) (p : PeerId) (seen : List Seen) (s : Sending) 
   pub tick_is : s.began ≡ began.first.tick
   pub posts_is : s.posts ≡ posts_of p seen
 
-open-place : (setup : Setup) (p : PeerId) (seen : List Seen) (s : Sending) (b : Began setup p seen) → open_send p seen ≡ Some s → OpenIs setup p seen s
-open-place setup p seen s b e =
+open_place : (setup : Setup) (p : PeerId) (seen : List Seen) (s : Sending) (b : Began setup p seen) → open_send p seen ≡ Some s → OpenIs setup p seen s
+open_place setup p seen s b e =
     let there : sending_at (Here b.first ∷ b.older) (posts_of p seen) ≡ Some s = subst (λ place. sending_at place (posts_of p seen) ≡ Some s) b.is e in
     let slot : sending_of (message_of b.first.deed) b.first.tick (posts_of p seen) ≡ Some s = there in
     let known : Some (record { began = b.first.tick; posts = posts_of p seen; message = b.message }) ≡ Some s =
     subst (λ t. sending_of (message_of t) b.first.tick (posts_of p seen) ≡ Some s) b.deed slot in
-    let same : record { began = b.first.tick; posts = posts_of p seen; message = b.message } ≡ s = some-same _ s known in
+    let same : record { began = b.first.tick; posts = posts_of p seen; message = b.message } ≡ s = some_same _ s known in
     record {
       began = b;
       message_is = sym (ap (λ (t : Sending). t.message) same);
@@ -116,13 +116,13 @@ open-place setup p seen s b e =
       posts_is = sym (ap (λ (t : Sending). t.posts) same);
     }
 
-open-cases : (setup : Setup) (p : PeerId) (seen : List Seen) (s : Sending) → PortFits setup seen → open_send p seen ≡ Some s → (place : List Seen) →
+open_cases : (setup : Setup) (p : PeerId) (seen : List Seen) (s : Sending) → PortFits setup seen → open_send p seen ≡ Some s → (place : List Seen) →
     open_to p seen ≡ place → OpenIs setup p seen s
-open-cases setup p seen s f e [] is = none-some s (sym (subst (λ place. sending_at place (posts_of p seen) ≡ None) (sym is) refl) ∙ e)
-open-cases setup p seen s f e (t ∷ older) is = open-place setup p seen s (began setup p seen f t older is) e
+open_cases setup p seen s f e [] is = none-some s (sym (subst (λ place. sending_at place (posts_of p seen) ≡ None) (sym is) refl) ∙ e)
+open_cases setup p seen s f e (t ∷ older) is = open_place setup p seen s (began setup p seen f t older is) e
 
 pub open_is : (setup : Setup) (p : PeerId) (seen : List Seen) (s : Sending) → PortFits setup seen → open_send p seen ≡ Some s → OpenIs setup p seen s
-open_is setup p seen s f e = open-cases setup p seen s f e (open_to p seen) refl
+open_is setup p seen s f e = open_cases setup p seen s f e (open_to p seen) refl
 
 -- the place where the last correction to p begins
 pub record LastIs (p : PeerId) (seen : List Seen) : Type 0 where
@@ -132,77 +132,77 @@ pub record LastIs (p : PeerId) (seen : List Seen) : Type 0 where
   pub message : MessageValue
   pub deed : last.deed ≡ Acts (Post (Peer p) (Message message))
 
-last-more : (p : PeerId) (seen more : List Seen) → last_to p more ≡ last_to p seen → LastIs p seen → LastIs p more
-last-more p seen more e l = record { last = l.last; older = l.older; is = e ∙ l.is; message = l.message; deed = l.deed }
+last_more : (p : PeerId) (seen more : List Seen) → last_to p more ≡ last_to p seen → LastIs p seen → LastIs p more
+last_more p seen more e l = record { last = l.last; older = l.older; is = e ∙ l.is; message = l.message; deed = l.deed }
 
-last-post : (p q : PeerId) (m : MessageValue) (d : Did) (before : List Seen) → Acts (Post (Peer q) (Message m)) ≡ d.deed → (b : Bool) →
+last_post_holds : (p q : PeerId) (m : MessageValue) (d : Did) (before : List Seen) → Acts (Post (Peer q) (Message m)) ≡ d.deed → (b : Bool) →
     ((q.0 == p.0) && (is_correction m.kind && acting before)) ≡ b → (b ≡ false → LastIs p before) →
     last_to p (Here d ∷ before) ≡ cond b (Here d ∷ before) (last_to p before) → LastIs p (Here d ∷ before)
-last-post p q m d before is true test l e =
+last_post_holds p q m d before is true test l e =
     let one = and_parts (q.0 == p.0) (is_correction m.kind && acting before) test in
     record { last = d; older = before; is = e; message = m; deed = subst (λ t. d.deed ≡ Acts (Post (Peer t) (Message m))) (same_peer q p one.0) (sym is) }
-last-post p q m d before is false test l e = last-more p before (Here d ∷ before) e (l refl)
+last_post_holds p q m d before is false test l e = last_more p before (Here d ∷ before) e (l refl)
 
-if-true : (b : Bool) (was : List Seen) → corrects_by (message_at (cond b [] was)) ≡ true → corrects_by (message_at was) ≡ true
-if-true true was e = absurd (true≢false (sym e))
-if-true false was e = e
+if_true : (b : Bool) (was : List Seen) → corrects_by (message_at (cond b [] was)) ≡ true → corrects_by (message_at was) ≡ true
+if_true true was e = absurd (true≢false (sym e))
+if_true false was e = e
 
 -- an open correction is the last one
-here-or-last : (p q : PeerId) (m : MessageValue) (d : Did) (before : List Seen) → Acts (Post (Peer q) (Message m)) ≡ d.deed →
+here_or_last : (p q : PeerId) (m : MessageValue) (d : Did) (before : List Seen) → Acts (Post (Peer q) (Message m)) ≡ d.deed →
     (corrects_by (message_at (open_to p before)) ≡ true → LastIs p before) →
     (a : Bool) → ((q.0 == p.0) && (is_numbered m.kind && acting before)) ≡ a → corrects_by (message_at (cond a (Here d ∷ before) (open_to p before))) ≡ true →
     (b : Bool) → ((q.0 == p.0) && (is_correction m.kind && acting before)) ≡ b → last_to p (Here d ∷ before) ≡ cond b (Here d ∷ before) (last_to p before) →
     LastIs p (Here d ∷ before)
-here-or-last p q m d before is k true one e b two place = last-post p q m d before is b two (λ none.
+here_or_last p q m d before is k true one e b two place = last_post_holds p q m d before is b two (λ none.
     let first = and_parts (q.0 == p.0) (is_numbered m.kind && acting before) one in
     let second = and_parts (is_numbered m.kind) (acting before) first.1 in
     let corrects : is_correction m.kind ≡ true = subst (λ t. corrects_by (message_of t) ≡ true) (sym is) e in
     absurd (true≢false (sym (subst (λ b. (b && (is_correction m.kind && acting before)) ≡ true) (sym first.0) (subst (λ b. (b && acting before) ≡
     true) (sym corrects) second.1)) ∙ (two ∙ none)))) place
-here-or-last p q m d before is k false one e b two place = last-post p q m d before is b two (λ none. k e) place
+here_or_last p q m d before is k false one e b two place = last_post_holds p q m d before is b two (λ none. k e) place
 
-open-last-deed : (p : PeerId) (d : Did) (before : List Seen) → (corrects_by (message_at (open_to p before)) ≡ true → LastIs p before) → (deed : Deed) → deed ≡
+open_last_deed : (p : PeerId) (d : Did) (before : List Seen) → (corrects_by (message_at (open_to p before)) ≡ true → LastIs p before) → (deed : Deed) → deed ≡
     d.deed →
     last_to p (Here d ∷ before) ≡ last_to_after p deed (acting before) (Here d ∷ before) (last_to p before) →
     corrects_by (message_at (open_to_after p deed (acting before) (Here d ∷ before) (open_to p before))) ≡ true → LastIs p (Here d ∷ before)
-open-last-deed p d before k (Acts Boot) is t e = absurd (true≢false (sym e))
-open-last-deed p d before k (Acts (Become r)) is t e = absurd (true≢false (sym e))
-open-last-deed p d before k (Acts (Post (Peer q) (Message m))) is t e = here-or-last p q m d before is k _ refl e _ refl t
-open-last-deed p d before k (Acts (Acked q)) is t e = last-more p before (Here d ∷ before) t (k (if-true (q.0 == p.0) (open_to p before) e))
-open-last-deed p d before k (Acts (Gave q)) is t e = last-more p before (Here d ∷ before) t (k (if-true (q.0 == p.0) (open_to p before) e))
-open-last-deed p d before k _ is t e = last-more p before (Here d ∷ before) t (k e)
+open_last_deed p d before k (Acts Boot) is t e = absurd (true≢false (sym e))
+open_last_deed p d before k (Acts (Become r)) is t e = absurd (true≢false (sym e))
+open_last_deed p d before k (Acts (Post (Peer q) (Message m))) is t e = here_or_last p q m d before is k _ refl e _ refl t
+open_last_deed p d before k (Acts (Acked q)) is t e = last_more p before (Here d ∷ before) t (k (if_true (q.0 == p.0) (open_to p before) e))
+open_last_deed p d before k (Acts (Gave q)) is t e = last_more p before (Here d ∷ before) t (k (if_true (q.0 == p.0) (open_to p before) e))
+open_last_deed p d before k _ is t e = last_more p before (Here d ∷ before) t (k e)
 
-open-last : (p : PeerId) (seen : List Seen) → corrects_by (message_at (open_to p seen)) ≡ true → LastIs p seen
-open-last p [] e = absurd (true≢false (sym e))
-open-last p (Elsewhere d ∷ before) e = last-more p before (Elsewhere d ∷ before) refl (open-last p before e)
-open-last p (Here d ∷ before) e = open-last-deed p d before (open-last p before) d.deed refl refl e
+open_last : (p : PeerId) (seen : List Seen) → corrects_by (message_at (open_to p seen)) ≡ true → LastIs p seen
+open_last p [] e = absurd (true≢false (sym e))
+open_last p (Elsewhere d ∷ before) e = last_more p before (Elsewhere d ∷ before) refl (open_last p before e)
+open_last p (Here d ∷ before) e = open_last_deed p d before (open_last p before) d.deed refl refl e
 
-acked-last : (p q : PeerId) (d : Did) (before : List Seen) → (is_acknowledged p before ≡ true → LastIs p before) → last_to p (Here d ∷ before) ≡
+acked_last : (p q : PeerId) (d : Did) (before : List Seen) → (is_acknowledged p before ≡ true → LastIs p before) → last_to p (Here d ∷ before) ≡
     last_to p before → (b : Bool) → ((q.0 == p.0) && corrects_by (message_at (open_to p before))) ≡ b →
     cond b true (is_acknowledged p before) ≡ true → LastIs p (Here d ∷ before)
-acked-last p q d before k t true test e =
+acked_last p q d before k t true test e =
     let one = and_parts (q.0 == p.0) (corrects_by (message_at (open_to p before))) test in
-    last-more p before (Here d ∷ before) t (open-last p before one.1)
-acked-last p q d before k t false test e = last-more p before (Here d ∷ before) t (k e)
+    last_more p before (Here d ∷ before) t (open_last p before one.1)
+acked_last p q d before k t false test e = last_more p before (Here d ∷ before) t (k e)
 
-if-false : (b was : Bool) → cond b false was ≡ true → was ≡ true
-if-false true was e = absurd (true≢false (sym e))
-if-false false was e = e
+if_false : (b was : Bool) → cond b false was ≡ true → was ≡ true
+if_false true was e = absurd (true≢false (sym e))
+if_false false was e = e
 
-acknowledged-deed : (p : PeerId) (d : Did) (before : List Seen) → (is_acknowledged p before ≡ true → LastIs p before) → (deed : Deed) → deed ≡ d.deed →
+acknowledged_deed : (p : PeerId) (d : Did) (before : List Seen) → (is_acknowledged p before ≡ true → LastIs p before) → (deed : Deed) → deed ≡ d.deed →
     last_to p (Here d ∷ before) ≡ last_to_after p deed (acting before) (Here d ∷ before) (last_to p before) →
     is_acknowledged_after p deed (acting before) (corrects_by (message_at (open_to p before))) (is_acknowledged p before) ≡ true → LastIs p (Here d ∷ before)
-acknowledged-deed p d before k (Acts Boot) is t e = absurd (true≢false (sym e))
-acknowledged-deed p d before k (Acts (Post (Peer q) (Message m))) is t e = last-post p q m d before is _ refl
-    (λ none. k (if-false ((q.0 == p.0) && (is_correction m.kind && acting before)) (is_acknowledged p before) e)) t
-acknowledged-deed p d before k (Acts (Acked q)) is t e = acked-last p q d before k t _ refl e
-acknowledged-deed p d before k _ is t e = last-more p before (Here d ∷ before) t (k e)
+acknowledged_deed p d before k (Acts Boot) is t e = absurd (true≢false (sym e))
+acknowledged_deed p d before k (Acts (Post (Peer q) (Message m))) is t e = last_post_holds p q m d before is _ refl
+    (λ none. k (if_false ((q.0 == p.0) && (is_correction m.kind && acting before)) (is_acknowledged p before) e)) t
+acknowledged_deed p d before k (Acts (Acked q)) is t e = acked_last p q d before k t _ refl e
+acknowledged_deed p d before k _ is t e = last_more p before (Here d ∷ before) t (k e)
 
 -- an acknowledged correction has its beginning
 pub acknowledged_last : (p : PeerId) (seen : List Seen) → is_acknowledged p seen ≡ true → LastIs p seen
 acknowledged_last p [] e = absurd (true≢false (sym e))
-acknowledged_last p (Elsewhere d ∷ before) e = last-more p before (Elsewhere d ∷ before) refl (acknowledged_last p before e)
-acknowledged_last p (Here d ∷ before) e = acknowledged-deed p d before (acknowledged_last p before) d.deed refl refl e
+acknowledged_last p (Elsewhere d ∷ before) e = last_more p before (Elsewhere d ∷ before) refl (acknowledged_last p before e)
+acknowledged_last p (Here d ∷ before) e = acknowledged_deed p d before (acknowledged_last p before) d.deed refl refl e
 
 -- a correction that may begin rests or follows the last one
 pub may_fits : (p : PeerId) (number x : ℕ) (past : Past) (d : Did) (m : MessageValue) → d.tick ≡ x → m.number ≡ number → may_correct p number x past ≡ true →

@@ -15,8 +15,10 @@ use Rattle.tsp_base.proofs.LeadsLemmas.{Leads_then, Leads_either, Leads_reading,
 use Rattle.tsp_promises.specs.{AckFits.AckedFits, AckFits.Answers, StepFacts.is_answered, DeedFits.PostFits, DeedFits.asks_name}
 use Rattle.tsp_promises.proofs.{leads.CommonLeads.own_number, shared.StrangerFacts.own_named, leads.Changes.Is, leads.Changes.JustTook}
 use Rattle.tsp_promises.specs.{CorrectFits.ByDate, PortFits.setup_in, DateFits.DateAckFits}
-use Rattle.tsp_promises.proofs.{leads.SlaveLeads.idle_heard, leads.SlaveLeads.gap_of, shared.Printed.date_sets, shared.Printed.flag_of, shared.Printed.sets_prints}
-use Rattle.tsp_promises.proofs.{leads.Known.Free, leads.Known.Rests, leads.Known.RestsIn, leads.Known.Stirred, leads.Leaves.leave, leads.Leaves.acked, leads.Leaves.correct_stirring}
+use Rattle.tsp_promises.proofs.{leads.SlaveLeads.idle_heard, leads.SlaveLeads.gap_of, shared.Printed.date_sets, shared.Printed.flag_of}
+use Rattle.tsp_promises.proofs.{shared.Printed.sets_prints}
+use Rattle.tsp_promises.proofs.{leads.Known.Free, leads.Known.Rests, leads.Known.RestsIn, leads.Known.Stirred, leads.Leaves.leave, leads.Leaves.acked}
+use Rattle.tsp_promises.proofs.{leads.Leaves.correct_stirring}
 use Rattle.tsp_promises.proofs.leads.PostLeaves.{post_message, post_back, Leads_posts, Leads_posts_back, Leads_posts_time, Leads_others}
 use Rattle.tsp_promises.proofs.leads.TakenLeads.{Heard, HeardIn, Unanswered, rests_of, wake_role, took_awake, ack_fits, open_known}
 use Rattle.tsp_promises.proofs.leads.Elsewheres.{Upsets, upsets_of, upsets_from, upsets_either, upsets_reading}
@@ -101,9 +103,9 @@ record Dated (from : Place) (m : MessageValue) (x : ℕ) (past : Past) : Type 0 
       past.seen
 
 -- the date of a peer is its last one once it is set
-dated-is : (p : PeerId) (m : MessageValue) (x : ℕ) (was : Option Dating) (o : Option Received) → o ≡ Some (record { from = Peer p; taken = Good (Message m) }) →
+dated_is : (p : PeerId) (m : MessageValue) (x : ℕ) (was : Option Dating) (o : Option Received) → o ≡ Some (record { from = Peer p; taken = Good (Message m) }) →
     is_date_request m.kind ≡ true → dating_of p x (said o) was ≡ Some (record { at = x; number = m.number })
-dated-is p m x was o took request =
+dated_is p m x was o took request =
     let same : (p.0 == p.0) ≡ true = eq-eqb p.0 p.0 refl in
     ap (λ r. dating_of p x (said r) was) took ∙ ap (λ b. if b && is_date_request m.kind then Some (record { at = x; number = m.number }) else was) same ∙
     ap (λ b. if b then Some (record { at = x; number = m.number }) else was) request
@@ -173,7 +175,7 @@ module _ {from : Place} {m : MessageValue} where
           prints = sets_prints x past (time_in m.body);
         }) free;
         answers = ack_post (setup_in past) from m past.name here later.seen (date_ack from m here x (now x past a) past.seen refl who free.took (λ p is request.
-            dated-is p m x (last_date p past.seen) (taken past.seen) (free.took ∙ ap (λ f. Some (record { from = f; taken = Good (Message m) })) is) request))
+            dated_is p m x (last_date p past.seen) (taken past.seen) (free.took ∙ ap (λ f. Some (record { from = f; taken = Good (Message m) })) is) request))
             h.just.unanswered refl free.took h.date;
       }
 
@@ -229,8 +231,8 @@ module _ {from : Place} {m : MessageValue} where
   date_upsets false client = upsets_of (Leads_from (λ x past h. rests_of h.free) Leads_nothing)
 
 -- a date that isn't the last one of its peer, or was set long ago
-is_last-not : (number x : ℕ) (o : Option Dating) (d : Dating) → is_last number x o ≡ false → o ≡ Some d → d.number ≡ number → d.at + DATEHOLD ≤ x
-is_last-not number x o d e is same =
+is_last_not : (number x : ℕ) (o : Option Dating) (d : Dating) → is_last number x o ≡ false → o ≡ Some d → d.number ≡ number → d.at + DATEHOLD ≤ x
+is_last_not number x o d e is same =
     let found : ((d.number == number) && nat_lt x (d.at + DATEHOLD)) ≡ false = subst (λ z. is_last number x z ≡ false) is e in
     let equal : (d.number == number) ≡ true = eq-eqb d.number number same in
     ltb-false x (d.at + DATEHOLD) (subst (λ b. (b && nat_lt x (d.at + DATEHOLD)) ≡ false) equal found)
@@ -242,9 +244,9 @@ record LastDate (number x : ℕ) (o : Option Dating) : Type 0 where
   pub same : last.number ≡ number
   pub fresh : x < last.at + DATEHOLD
 
-is_last-is : (number x : ℕ) (o : Option Dating) → is_last number x o ≡ true → LastDate number x o
-is_last-is number x None e = absurd (true≢false (sym e))
-is_last-is number x (Some d) e =
+is_last_is : (number x : ℕ) (o : Option Dating) → is_last number x o ≡ true → LastDate number x o
+is_last_is number x None e = absurd (true≢false (sym e))
+is_last_is number x (Some d) e =
     let both = and_parts (d.number == number) (nat_lt x (d.at + DATEHOLD)) e in
     record { last = d; is = refl; same = eqb-true d.number number both.0; fresh = ltb-true x (d.at + DATEHOLD) both.1 }
 
@@ -252,7 +254,7 @@ module _ {p : PeerId} {m : MessageValue} where
   dates_again : is_date_request m.kind ≡ true → Leads (λ x past. HeardIn p m Master x past × (is_dated p m.number x past ≡ true)) (posts p DateAck m.number)
       Rests
   dates_again request = Leads_posts p DateAck m.number (λ x past h.
-      let l = is_last-is m.number x (last_date p past.seen) h.1 in
+      let l = is_last_is m.number x (last_date p past.seen) h.1 in
       rests_of (post_message p (bare DateAck m.number past.name) refl (inr (record {
         message = m;
         took = h.0.0.just.free.took;
@@ -273,7 +275,7 @@ module _ {p : PeerId} {m : MessageValue} where
     date = request_sets m.kind request;
     again = λ q d is asks last same.
         let peer : p ≡ q = cc in
-        is_last-not m.number x (last_date p past.seen) d h.1 (ap (λ r. last_date r past.seen) peer ∙ last) same;
+        is_last_not m.number x (last_date p past.seen) d h.1 (ap (λ r. last_date r past.seen) peer ∙ last) same;
   }) (sets_date_upsets (ByPeer p refl request))
   sets_in_charge_upsets false request = upsets_of (Leads_from (λ x past h. rests_of h.0.0.just.free) Leads_nothing)
 

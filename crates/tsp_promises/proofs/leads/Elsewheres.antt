@@ -26,14 +26,14 @@ pub stirring : (x : ℕ) (past : Past) → {stirred : Bool} → KnowsOf stirred 
 stirring x past k = with_round k (stir_round k.round)
 
 -- a correction elsewhere stirs it
-knows-moved : (x : ℕ) (past : Past) (a : Act) → is_correct a ≡ true → KnowsOf true x past.own past.seen → KnowsOf true x past.own (aside x past a).seen
-knows-moved x past (Correct amount stepped shown) e k = record {
+knows_moved : (x : ℕ) (past : Past) (a : Act) → is_correct a ≡ true → KnowsOf true x past.own past.seen → KnowsOf true x past.own (aside x past a).seen
+knows_moved x past (Correct amount stepped shown) e k = record {
   times = record { boot_le = k.times.boot_le; last_le = omega arith; boot_is = k.times.boot_is; start_le = k.times.start_le; next = k.times.next };
   quiet = k.quiet;
   vote = k.vote;
   round = stir_round k.round;
 }
-knows-moved x past _ e k = absurd (true≢false (sym e))
+knows_moved x past _ e k = absurd (true≢false (sym e))
 
 -- how a port stands, stirred or not, which other ports' acts keep
 pub record Family (S : Bool → ℕ → Past → Type 0) : Type 0 where
@@ -43,15 +43,15 @@ pub record Family (S : Bool → ℕ → Past → Type 0) : Type 0 where
   pub abandons : {stirred : Bool} (x : ℕ) (past : Past) → S stirred x past → S false x (grown x past (Abandon ∷ []))
   pub shut : {stirred : Bool} (x : ℕ) (past : Past) → (armed past.seen).close ≡ None → S stirred x past → S false x past
 
-still-apart : (a : Act) → is_still a ≡ true → is_apart a ≡ true
-still-apart (Took from t) e = refl
-still-apart _ e = e
+still_apart : (a : Act) → is_still a ≡ true → is_apart a ≡ true
+still_apart (Took from t) e = refl
+still_apart _ e = e
 
-fresh-aside : {stirred : Bool} (x : ℕ) (past : Past) (a : Act) → is_still a ≡ true → FreshIn stirred x past → FreshIn stirred x (aside x past a)
-fresh-aside x past Boot e h = absurd (true≢false (sym e))
-fresh-aside x past (Took from t) e h = absurd (true≢false (sym e))
-fresh-aside x past (Correct amount stepped shown) e h = absurd (true≢false (sym e))
-fresh-aside x past _ e h = record {
+fresh_aside : {stirred : Bool} (x : ℕ) (past : Past) (a : Act) → is_still a ≡ true → FreshIn stirred x past → FreshIn stirred x (aside x past a)
+fresh_aside x past Boot e h = absurd (true≢false (sym e))
+fresh_aside x past (Took from t) e h = absurd (true≢false (sym e))
+fresh_aside x past (Correct amount stepped shown) e h = absurd (true≢false (sym e))
+fresh_aside x past _ e h = record {
   own = h.own;
   fits = h.fits;
   knows = h.knows;
@@ -63,11 +63,11 @@ fresh-aside x past _ e h = record {
   took = h.took;
 }
 
-fresh-moved : (x : ℕ) (past : Past) (a : Act) → is_correct a ≡ true → FreshIn true x past → FreshIn true x (aside x past a)
-fresh-moved x past (Correct amount stepped shown) e h = record {
+fresh_moved : (x : ℕ) (past : Past) (a : Act) → is_correct a ≡ true → FreshIn true x past → FreshIn true x (aside x past a)
+fresh_moved x past (Correct amount stepped shown) e h = record {
   own = h.own;
   fits = h.fits;
-  knows = knows-moved x past (Correct amount stepped shown) e h.knows;
+  knows = knows_moved x past (Correct amount stepped shown) e h.knows;
   rested = h.rested;
   backs = h.backs;
   owed = h.owed;
@@ -75,13 +75,13 @@ fresh-moved x past (Correct amount stepped shown) e h = record {
   acting_is = h.acting_is;
   took = h.took;
 }
-fresh-moved x past _ e h = absurd (true≢false (sym e))
+fresh_moved x past _ e h = absurd (true≢false (sym e))
 
 -- before its turn
 pub fresh_family : Family FreshIn
 fresh_family = record {
-  still = fresh-aside;
-  moved = fresh-moved;
+  still = fresh_aside;
+  moved = fresh_moved;
   weaken = λ x past h. record {
     own = h.own;
     fits = h.fits;
@@ -107,31 +107,31 @@ fresh_family = record {
   };
 }
 
-open-aside : {stirred : Bool} {T : Option Received → Option Received → Type 0} (x : ℕ) (past : Past) (a : Act) → is_still a ≡ true → OpenIn stirred T x past →
+open_aside : {stirred : Bool} {T : Option Received → Option Received → Type 0} (x : ℕ) (past : Past) (a : Act) → is_still a ≡ true → OpenIn stirred T x past →
     OpenIn stirred T x (aside x past a)
-open-aside x past Boot e h = absurd (true≢false (sym e))
-open-aside x past (Took from t) e h = absurd (true≢false (sym e))
-open-aside x past (Correct amount stepped shown) e h = absurd (true≢false (sym e))
-open-aside x past _ e h = record { own = h.own; fits = h.fits; knows = h.knows; backs = h.backs; owed = h.owed; paid = h.paid; took = h.took }
+open_aside x past Boot e h = absurd (true≢false (sym e))
+open_aside x past (Took from t) e h = absurd (true≢false (sym e))
+open_aside x past (Correct amount stepped shown) e h = absurd (true≢false (sym e))
+open_aside x past _ e h = record { own = h.own; fits = h.fits; knows = h.knows; backs = h.backs; owed = h.owed; paid = h.paid; took = h.took }
 
-open-moved : {T : Option Received → Option Received → Type 0} (x : ℕ) (past : Past) (a : Act) → is_correct a ≡ true → OpenIn true T x past →
+open_moved : {T : Option Received → Option Received → Type 0} (x : ℕ) (past : Past) (a : Act) → is_correct a ≡ true → OpenIn true T x past →
     OpenIn true T x (aside x past a)
-open-moved x past (Correct amount stepped shown) e h = record {
+open_moved x past (Correct amount stepped shown) e h = record {
   own = h.own;
   fits = h.fits;
-  knows = knows-moved x past (Correct amount stepped shown) e h.knows;
+  knows = knows_moved x past (Correct amount stepped shown) e h.knows;
   backs = h.backs;
   owed = h.owed;
   paid = h.paid;
   took = h.took;
 }
-open-moved x past _ e h = absurd (true≢false (sym e))
+open_moved x past _ e h = absurd (true≢false (sym e))
 
 -- after its turn
 pub open_family : {T : Option Received → Option Received → Type 0} → Family (λ stirred. OpenIn stirred T)
 open_family = record {
-  still = open-aside;
-  moved = open-moved;
+  still = open_aside;
+  moved = open_moved;
   weaken = λ x past h. record { own = h.own; fits = h.fits; knows = stirring x past h.knows; backs = h.backs; owed = h.owed; paid = h.paid; took = h.took };
   abandons = λ x past h. record {
     own = h.own;
@@ -158,36 +158,36 @@ rests_aside x past Boot e h = absurd (true≢false (sym e))
 rests_aside x past (Correct amount stepped shown) e h = absurd (true≢false (sym e))
 rests_aside x past _ e h = record { fits = h.fits; knows = h.knows; backs = h.backs; follows = h.follows; paid = h.paid }
 
-rests-moved : (x : ℕ) (past : Past) (a : Act) → is_correct a ≡ true → RestsIn true x past → RestsIn true x (aside x past a)
-rests-moved x past (Correct amount stepped shown) e h = record {
+rests_moved : (x : ℕ) (past : Past) (a : Act) → is_correct a ≡ true → RestsIn true x past → RestsIn true x (aside x past a)
+rests_moved x past (Correct amount stepped shown) e h = record {
   fits = h.fits;
-  knows = knows-moved x past (Correct amount stepped shown) e h.knows;
+  knows = knows_moved x past (Correct amount stepped shown) e h.knows;
   backs = h.backs;
   follows = h.follows;
   paid = h.paid;
 }
-rests-moved x past _ e h = absurd (true≢false (sym e))
+rests_moved x past _ e h = absurd (true≢false (sym e))
 
 -- at the end of the step; a taking elsewhere changes nothing then
 pub rests_family : Family RestsIn
 rests_family = record {
-  still = λ x past a e h. rests_aside x past a (still-apart a e) h;
-  moved = rests-moved;
+  still = λ x past a e h. rests_aside x past a (still_apart a e) h;
+  moved = rests_moved;
   weaken = λ x past h. record { fits = h.fits; knows = stirring x past h.knows; backs = h.backs; follows = h.follows; paid = h.paid };
   abandons = λ x past h. record { fits = (tt, h.fits); knows = abandoned x past h.knows; backs = h.backs; follows = h.follows; paid = h.paid };
   shut = λ x past e h. record { fits = h.fits; knows = calmed x past.own past.seen e h.knows; backs = h.backs; follows = h.follows; paid = h.paid };
 }
 
 -- calm acts
-calm-apart : (strange moving : Bool) (a : Act) → is_calm_act strange moving a ≡ true → is_correct a ≡ false → is_still a ≡ true
-calm-apart strange moving Boot e n = e
-calm-apart strange moving (Took from t) e n = e
-calm-apart strange moving (Correct amount stepped shown) e n = absurd (true≢false n)
-calm-apart strange moving _ e n = refl
+calm_apart : (strange moving : Bool) (a : Act) → is_calm_act strange moving a ≡ true → is_correct a ≡ false → is_still a ≡ true
+calm_apart strange moving Boot e n = e
+calm_apart strange moving (Took from t) e n = e
+calm_apart strange moving (Correct amount stepped shown) e n = absurd (true≢false n)
+calm_apart strange moving _ e n = refl
 
-pub calm-correct : (strange : Bool) (a : Act) → is_calm_act strange false a ≡ true → is_correct a ≡ false
-calm-correct strange (Correct amount stepped shown) e = absurd (true≢false (sym e))
-calm-correct strange _ e = refl
+pub calm_correct : (strange : Bool) (a : Act) → is_calm_act strange false a ≡ true → is_correct a ≡ false
+calm_correct strange (Correct amount stepped shown) e = absurd (true≢false (sym e))
+calm_correct strange _ e = refl
 
 pub calm_bootless : (strange moving : Bool) (acts : List Act) → is_calm strange moving acts ≡ true → Bootless acts
 calm_bootless strange moving [] e = tt
@@ -195,19 +195,19 @@ calm_bootless strange moving (a ∷ rest) e = let both = and_parts (is_calm_act 
     (λ is. true≢false (sym (subst (λ b. is_calm_act strange moving b ≡ true) is both.0)), calm_bootless strange moving rest both.1)
 
 -- calm acts without a correction are calm where the clock may not be moved
-still-calm : (strange : Bool) (a : Act) → is_calm_act strange true a ≡ true → is_correct a ≡ false → is_calm_act strange false a ≡ true
-still-calm strange (Correct amount stepped shown) e n = absurd (true≢false n)
-still-calm strange Boot e n = e
-still-calm strange (Took from t) e n = e
-still-calm strange (Post Stranger datagram) e n = e
-still-calm strange _ e n = refl
+still_calm : (strange : Bool) (a : Act) → is_calm_act strange true a ≡ true → is_correct a ≡ false → is_calm_act strange false a ≡ true
+still_calm strange (Correct amount stepped shown) e n = absurd (true≢false n)
+still_calm strange Boot e n = e
+still_calm strange (Took from t) e n = e
+still_calm strange (Post Stranger datagram) e n = e
+still_calm strange _ e n = refl
 
 pub calm_still : (strange : Bool) (acts : List Act) → is_calm strange true acts ≡ true → corrects acts ≡ false → is_calm strange false acts ≡ true
 calm_still strange [] e n = refl
 calm_still strange (a ∷ rest) e n =
     let both = and_parts (is_calm_act strange true a) (is_calm strange true rest) e in
     let none = or_parts (is_correct a) (corrects rest) n in
-    rw (still-calm strange a both.0 none.0) (calm_still strange rest both.1 none.1)
+    rw (still_calm strange a both.0 none.0) (calm_still strange rest both.1 none.1)
 
 module _ {S : Bool → ℕ → Past → Type 0} (family : Family S) where
   -- calm acts elsewhere that don't move the clock
@@ -216,12 +216,12 @@ module _ {S : Bool → ℕ → Past → Type 0} (family : Family S) where
   kept_aside strange x past [] e h = h
   kept_aside strange x past (a ∷ rest) e h =
       let both = and_parts (is_calm_act strange false a) (is_calm strange false rest) e in
-      kept_aside strange x (aside x past a) rest both.1 (family.still x past a (calm-apart strange false a both.0 (calm-correct strange a both.0)) h)
+      kept_aside strange x (aside x past a) rest both.1 (family.still x past a (calm_apart strange false a both.0 (calm_correct strange a both.0)) h)
 
-  step-moved : (strange : Bool) (x : ℕ) (past : Past) (a : Act) → is_calm_act strange true a ≡ true → (b : Bool) → is_correct a ≡ b → S true x past →
+  step_moved : (strange : Bool) (x : ℕ) (past : Past) (a : Act) → is_calm_act strange true a ≡ true → (b : Bool) → is_correct a ≡ b → S true x past →
       S true x (aside x past a)
-  step-moved strange x past a e true c h = family.moved x past a c h
-  step-moved strange x past a e false c h = family.still x past a (calm-apart strange true a e c) h
+  step_moved strange x past a e true c h = family.moved x past a c h
+  step_moved strange x past a e false c h = family.still x past a (calm_apart strange true a e c) h
 
   -- calm acts elsewhere, of which some may move it
   pub moved_aside : (strange : Bool) (x : ℕ) (past : Past) (acts : List Act) → is_calm strange true acts ≡ true → S true x past →
@@ -229,7 +229,7 @@ module _ {S : Bool → ℕ → Past → Type 0} (family : Family S) where
   moved_aside strange x past [] e h = h
   moved_aside strange x past (a ∷ rest) e h =
       let both = and_parts (is_calm_act strange true a) (is_calm strange true rest) e in
-      moved_aside strange x (aside x past a) rest both.1 (step-moved strange x past a both.0 (is_correct a) refl h)
+      moved_aside strange x (aside x past a) rest both.1 (step_moved strange x past a both.0 (is_correct a) refl h)
 
 -- rows after which a port rests, or is stirred since they corrected the clock
 

@@ -2,7 +2,7 @@
 use Rattle.std.proofs.Common.{sym, subst, append-nil, ◌≡◌, ◌<◌, ℕ, ◌==◌, ◌||◌, Bool, true, false, if◌then◌else◌, List, [], ◌∷◌, ◌++◌, length, None, refl}
 use Rattle.std.proofs.Common.{true≢false, eq-eqb, ◌∙◌}
 use Rattle.tsp_base.specs.Words.{Past, view, Leads, armed, is_going, Row, grown, placed}
-use Rattle.tsp_base.proofs.ViewPlaces.{port-same}
+use Rattle.tsp_base.proofs.ViewPlaces.{port_same}
 use Rattle.tsp_rules.specs.NodeRows.{NodePast, on_port, spread, nothing_at_all, on, ◌and_then◌, for_ports, abandons_on, stirring, NodeRow, reading_all}
 use Rattle.tsp_rules.{specs.RoundRows.corrects, proofs.FewActs.is_calm, specs.Values.Abandon, specs.Values.Port, specs.Values.Act}
 use Rattle.tsp_rules.proofs.{Asides.all_aside, Asides.on_other, NodeRowLemmas.Bootless, NodeRowLemmas.spread_append, NodeRowLemmas.on_own}
@@ -44,7 +44,7 @@ pub placed_all : (q : Port) (x : ℕ) (past : NodePast) (acts : List Act) (S R :
     AllPorts R x (spread x past (placed q acts))
 placed_all q x past acts S R bootless own others all r has = by_case (q.0 == r.0) refl where
   by_case : (b : Bool) → (q.0 == r.0) ≡ b → R r x (on_port r (spread x past (placed q acts)))
-  by_case true e = subst (λ p. R p x (on_port p (spread x past (placed q acts)))) (port-same q r e) (subst (λ z. R q x z) (sym (on_own q x past acts)) own)
+  by_case true e = subst (λ p. R p x (on_port p (spread x past (placed q acts)))) (port_same q r e) (subst (λ z. R q x z) (sym (on_own q x past acts)) own)
   by_case false e = subst (λ z. R r x z) (sym (on_other q r x past acts e bootless)) (others r e has (all r has))
 
 -- one of two, by a test
@@ -98,11 +98,11 @@ module _ (F : Port → Bool → ℕ → Past → Type 0) (family : (r : Port) �
   }
 
   -- port by port a round is given up, of those that are stirred
-  abandons-one : (q : Port) (rest : List Port) (x : ℕ) (past : NodePast) → q.0 < length past.ports →
+  abandons_one : (q : Port) (rest : List Port) (x : ℕ) (past : NodePast) → q.0 < length past.ports →
       AllPorts (λ r. Pick (listed r (q ∷ rest)) (F r true) (F r false)) x past →
       AllPorts (λ r. Pick (listed r rest) (F r true) (F r false)) x (spread x past (abandons_on q x past))
   unfolding abandons_on
-  abandons-one q rest x past has all = by_case (is_going (view q past.lines)) refl where
+  abandons_one q rest x past has all = by_case (is_going (view q past.lines)) refl where
     stirred : F q true x (on_port q past)
     stirred = let same = same_port q in (all q has).yes (rw same refl)
 
@@ -112,7 +112,7 @@ module _ (F : Port → Bool → ℕ → Past → Type 0) (family : (r : Port) �
 
     shut : (armed (on_port q past).seen).close ≡ None → (r : Port) (h : r.0 < length past.ports) → (b : Bool) → (q.0 == r.0) ≡ b → listed r rest ≡ false →
         F r false x (on_port r past)
-    shut none r h true e n = subst (λ p. F p false x (on_port p past)) (port-same q r e) ((family q).shut x (on_port q past) none stirred)
+    shut none r h true e n = subst (λ p. F p false x (on_port p past)) (port_same q r e) ((family q).shut x (on_port q past) none stirred)
     shut none r h false e n = (all r h).no (rw e n)
 
     by_case : (b : Bool) → is_going (view q past.lines) ≡ b → AllPorts (λ r. Pick (listed r rest) (F r true) (F r false)) x
@@ -140,7 +140,7 @@ module _ (F : Port → Bool → ℕ → Past → Type 0) (family : (r : Port) �
   abandons_all (q ∷ rest) x past ranged all =
       let first = abandons_on q x past in
       subst (λ z. AllPorts (λ r. F r false) x z) (sym (spread_append x past first (for_ports abandons_on rest x (spread x past first))))
-      (abandons_all rest x (spread x past first) ranged.1 (abandons-one q rest x past ranged.0 all))
+      (abandons_all rest x (spread x past first) ranged.1 (abandons_one q rest x past ranged.0 all))
 
   -- a row of port q, and what it stirs
   pub stirring_all : (q : Port) (ports : List Port) (row : Row) (x : ℕ) (past : NodePast) (S : Port → ℕ → Past → Type 0) → Bootless (row x (on_port q past)) →
@@ -154,17 +154,17 @@ module _ (F : Port → Bool → ℕ → Past → Type 0) (family : (r : Port) �
       ((r : Port) → (q.0 == r.0) ≡ false → r.0 < length past.ports → listed r ports ≡ true) →
       AllPorts (λ r. F r false) x (spread x past (stirring q ports row x past))
   unfolding stirring on
-  stirring_all q ports row x past S bootless ranged all own-still own-moved still moved others = by_case (corrects (row x (on_port q past))) refl where
+  stirring_all q ports row x past S bootless ranged all own_still own_moved still moved others = by_case (corrects (row x (on_port q past))) refl where
     by_case : (b : Bool) → corrects (row x (on_port q past)) ≡ b →
         AllPorts (λ r. F r false) x (spread x past (placed q (row x (on_port q past)) ++
         (if b then for_ports abandons_on ports x (spread x past (placed q (row x (on_port q past)))) else [])))
     by_case false e =
         let acts = row x (on_port q past) in
         subst (λ z. AllPorts (λ r. F r false) x (spread x past z)) (sym (append-nil (placed q acts)))
-        (placed_all q x past acts S (λ r. F r false) bootless (own-still e) (λ r n has s. still e r n has s) all)
+        (placed_all q x past acts S (λ r. F r false) bootless (own_still e) (λ r n has s. still e r n has s) all)
     by_case true e =
         let acts = row x (on_port q past) in
         subst (λ z. AllPorts (λ r. F r false) x z) (sym (spread_append x past (placed q acts) (for_ports abandons_on ports x (spread x past (placed q acts)))))
         (abandons_all ports x (spread x past (placed q acts)) ranged
-        (placed_all q x past acts S (λ r. Pick (listed r ports) (F r true) (F r false)) bootless (own-moved e)
+        (placed_all q x past acts S (λ r. Pick (listed r ports) (F r true) (F r false)) bootless (own_moved e)
         (λ r n has s. picks (others r n has) (moved r n has s)) all))

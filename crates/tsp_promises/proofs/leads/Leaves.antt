@@ -18,31 +18,31 @@ then_seen x past a = Here (now x past a) ∷ past.seen
 pub none-some : {A : Type 0} {B : Type 0} (a : A) → None ≡ Some a → B
 none-some a e = let bad : ⊥ = cc in absurd bad
 
-pub none-among : {B : Type 0} {ps : List PeerId} (p : PeerId) → ps ≡ [] → is_among p ps ≡ true → B
-none-among p e i = absurd (true≢false (sym i ∙ ap (is_among p) e))
+pub none_among : {B : Type 0} {ps : List PeerId} (p : PeerId) → ps ≡ [] → is_among p ps ≡ true → B
+none_among p e i = absurd (true≢false (sym i ∙ ap (is_among p) e))
 
-pub nil-cons : {B : Type 0} (s : Seen) (older : List Seen) → [] ≡ s ∷ older → B
-nil-cons s older e = let bad : ⊥ = cc in absurd bad
+pub nil_cons : {B : Type 0} (s : Seen) (older : List Seen) → [] ≡ s ∷ older → B
+nil_cons s older e = let bad : ⊥ = cc in absurd bad
 
-pub some-same : {A : Type 0} (a b : A) → Some a ≡ Some b → a ≡ b
-some-same a b e = cc
+pub some_same : {A : Type 0} (a b : A) → Some a ≡ Some b → a ≡ b
+some_same a b e = cc
 
 -- an exchange that is open after a sample was open before
-kept-asked : {B : Type 0} (b : Bool) (was : List Seen) (s : Seen) (older : List Seen) → (was ≡ s ∷ older → B) → (if b then [] else was) ≡ s ∷ older → B
-kept-asked true was s older old e = nil-cons s older e
-kept-asked false was s older old e = old e
+kept_asked : {B : Type 0} (b : Bool) (was : List Seen) (s : Seen) (older : List Seen) → (was ≡ s ∷ older → B) → (if b then [] else was) ≡ s ∷ older → B
+kept_asked true was s older old e = nil_cons s older e
+kept_asked false was s older old e = old e
 
 -- a vote that is asked for after a send has ended was asked for before
-kept-vote : {B : Type 0} (b : Bool) (was : List Seen) → (asks_vote (message_at was) ≡ true → B) → asks_vote (message_at (cond b [] was)) ≡ true → B
-kept-vote true was old e = absurd (true≢false (sym e))
-kept-vote false was old e = old e
+kept_vote : {B : Type 0} (b : Bool) (was : List Seen) → (asks_vote (message_at was) ≡ true → B) → asks_vote (message_at (cond b [] was)) ≡ true → B
+kept_vote true was old e = absurd (true≢false (sym e))
+kept_vote false was old e = old e
 
 -- a peer that is asked isn't the new backer, whose send has ended
-new-backer : (p q : PeerId) (was : List Seen) (bs : List PeerId) → (q ≡ p → was ≡ []) → asks_vote (message_at was) ≡ true → is_among q bs ≡ false → (b : Bool) →
+new_backer : (p q : PeerId) (was : List Seen) (bs : List PeerId) → (q ≡ p → was ≡ []) → asks_vote (message_at was) ≡ true → is_among q bs ≡ false → (b : Bool) →
     (p.0 == q.0) ≡ b → (b || is_among q bs) ≡ false
-new-backer p q was bs ended e old true same = absurd (true≢false (sym (subst (λ place. asks_vote (message_at place) ≡ true) (ended (sym (same_peer p q same)))
+new_backer p q was bs ended e old true same = absurd (true≢false (sym (subst (λ place. asks_vote (message_at place) ≡ true) (ended (sym (same_peer p q same)))
     e)))
-new-backer p q was bs ended e old false same = old
+new_backer p q was bs ended e old false same = old
 
 -- an exchange of a port that is stirred now, and its round
 pub stir : {stirred : Bool} {close : Option ℕ} {nc nl nd nm w : ℕ} {s : Seen} {older : List Seen} → Asked stirred close nc nl w s older →
@@ -124,15 +124,15 @@ abandoned x past k = with_round k (record {
   rounds = k.round.rounds;
   probing = λ at e. none-some at e;
   closes = λ calm at e. none-some at e;
-  exchanges = λ p i s older e. nil-cons s older e;
+  exchanges = λ p i s older e. nil_cons s older e;
 })
 
 -- a round that has just begun isn't later than now, and is so long before the next
-begins-now : {x : ℕ} (d start : Did) (rest idle : List Seen) → Here d ∷ rest ≡ Here start ∷ idle → d.tick ≤ x → start.tick ≤ x
-begins-now {x = x} d start rest idle e h = let same : d ≡ start = cc in subst (λ (z : Did). z.tick ≤ x) same h
+begins_now : {x : ℕ} (d start : Did) (rest idle : List Seen) → Here d ∷ rest ≡ Here start ∷ idle → d.tick ≤ x → start.tick ≤ x
+begins_now {x = x} d start rest idle e h = let same : d ≡ start = cc in subst (λ (z : Did). z.tick ≤ x) same h
 
-begins-then : (d start : Did) (rest idle : List Seen) (n : ℕ) → Here d ∷ rest ≡ Here start ∷ idle → d.tick + ROUND ≡ n → start.tick + ROUND ≤ n
-begins-then d start rest idle n e h = let same : d ≡ start = cc in subst (λ (z : Did). z.tick + ROUND ≤ n) same (omega (arith, h))
+begins_then : (d start : Did) (rest idle : List Seen) (n : ℕ) → Here d ∷ rest ≡ Here start ∷ idle → d.tick + ROUND ≡ n → start.tick + ROUND ≤ n
+begins_then d start rest idle n e h = let same : d ≡ start = cc in subst (λ (z : Did). z.tick + ROUND ≤ n) same (omega (arith, h))
 
 -- acts that change nothing that is known
 module _ {stirred awake owing acts : Bool} {follow : List PeerId} {T : Option Received → Option Received → Type 0} {x : ℕ} {past : Past} where
@@ -170,14 +170,14 @@ module _ {stirred owing acts : Bool} {follow : List PeerId} {T : Option Received
   pub gave : (p : PeerId) → During stirred true owing follow acts T x past → During stirred true owing follow acts T x (grown x past (Gave p ∷ []))
   gave p h =
       let k = h.knows in
-      let vote = with_votes k.vote (λ q e. kept-vote (p.0 == q.0) (open_to q past.seen) (k.vote.votes q) e) in
+      let vote = with_votes k.vote (λ q e. kept_vote (p.0 == q.0) (open_to q past.seen) (k.vote.votes q) e) in
       made (Gave p) h.own tt h.fits (with_quiet (with_vote k vote) (now_rested (h.rested refl) k.quiet)) h.rested h.backs h.owed h.paid h.acting_is h.took
 
   pub acked : (p : PeerId) → AckedFits past.seen p → During stirred true owing follow acts T x past →
       During stirred true owing follow acts T x (grown x past (Acked p ∷ []))
   acked p f h =
       let k = h.knows in
-      let vote = with_votes k.vote (λ q e. kept-vote (p.0 == q.0) (open_to q past.seen) (k.vote.votes q) e) in
+      let vote = with_votes k.vote (λ q e. kept_vote (p.0 == q.0) (open_to q past.seen) (k.vote.votes q) e) in
       made (Acked p) h.own f h.fits (with_quiet (with_vote k vote) (now_rested (h.rested refl) k.quiet)) h.rested h.backs h.owed h.paid h.acting_is h.took
 
   pub backer : (p : PeerId) → BackerFits (setup_in past) (now x past (Backer p)) past.seen p → open_to p past.seen ≡ [] →
@@ -186,7 +186,7 @@ module _ {stirred owing acts : Bool} {follow : List PeerId} {T : Option Received
       let k = h.knows in
       made (Backer p) h.own f h.fits
       (with_vote k (with_votes k.vote (λ q e.
-      new-backer p q (open_to q past.seen) (backers past.seen) (λ s. subst (λ r. open_to r past.seen ≡ []) (sym s) ended) e (k.vote.votes q e)
+      new_backer p q (open_to q past.seen) (backers past.seen) (λ s. subst (λ r. open_to r past.seen ≡ []) (sym s) ended) e (k.vote.votes q e)
       (p.0 == q.0) refl)))
       h.rested h.backs h.owed h.paid h.acting_is h.took
 
@@ -198,7 +198,7 @@ module _ {stirred awake owing acts : Bool} {follow : List PeerId} {T : Option Re
       made (Arm Window at) h.own tt h.fits
       (with_vote k (record {
         stands = k.vote.stands;
-        windows = λ n e. subst (λ i. Candidature past.own i (role past.seen) (held past.seen).back (stood past.seen)) (some-same at n e) c;
+        windows = λ n e. subst (λ i. Candidature past.own i (role past.seen) (held past.seen).back (stood past.seen)) (some_same at n e) c;
         votes = k.vote.votes;
       }))
       h.rested h.backs h.owed h.paid h.acting_is h.took
@@ -213,7 +213,7 @@ module _ {stirred awake owing acts : Bool} {follow : List PeerId} {T : Option Re
         last_le = k.times.last_le;
         boot_is = k.times.boot_is;
         start_le = k.times.start_le;
-        next = λ n e start idle is. subst (λ i. start.tick + ROUND ≤ i) (some-same at n e) (spaced start idle is);
+        next = λ n e start idle is. subst (λ i. start.tick + ROUND ≤ i) (some_same at n e) (spaced start idle is);
       })) (record { rounds = λ n e. r; probing = k.round.probing; closes = k.round.closes; exchanges = k.round.exchanges }))
       h.rested h.backs h.owed h.paid h.acting_is h.took
 
@@ -224,7 +224,7 @@ module _ {stirred awake owing acts : Bool} {follow : List PeerId} {T : Option Re
       made (Arm Probe at) h.own tt h.fits
       (with_round k (record {
         rounds = k.round.rounds;
-        probing = λ n e. subst (λ i. Probing i (armed past.seen).close (probes past.seen)) (some-same at n e) p;
+        probing = λ n e. subst (λ i. Probing i (armed past.seen).close (probes past.seen)) (some_same at n e) p;
         closes = k.round.closes;
         exchanges = k.round.exchanges;
       }))
@@ -243,15 +243,15 @@ module _ {stirred awake owing acts : Bool} {follow : List PeerId} {T : Option Re
             boot_le = k.times.boot_le;
             last_le = k.times.last_le;
             boot_is = k.times.boot_is;
-            start_le = λ start idle e. begins-now (now x past (Arm CloseAlarm (x + CLOSE))) start _ idle e (omega arith);
-            next = λ n e start idle is. begins-then (now x past (Arm CloseAlarm (x + CLOSE))) start _ idle n is (some-same (x + ROUND) n (sym put_off ∙ e));
+            start_le = λ start idle e. begins_now (now x past (Arm CloseAlarm (x + CLOSE))) start _ idle e (omega arith);
+            next = λ n e start idle is. begins_then (now x past (Arm CloseAlarm (x + CLOSE))) start _ idle n is (some_same (x + ROUND) n (sym put_off ∙ e));
           };
           quiet = k.quiet;
           vote = k.vote;
           round = record {
             rounds = k.round.rounds;
-            probing = λ n e. let is = some-same (x + PROBE) n e in record { until = x + CLOSE; goes = refl; soon = omega (arith, is); few = omega arith };
-            closes = λ calm n e. let is = some-same (x + CLOSE) n e in record {
+            probing = λ n e. let is = some_same (x + PROBE) n e in record { until = x + CLOSE; goes = refl; soon = omega (arith, is); few = omega arith };
+            closes = λ calm n e. let is = some_same (x + CLOSE) n e in record {
               leads = leads;
               start = now x past (Arm CloseAlarm (x + CLOSE));
               idle = then_seen x past (Arm Probe (x + PROBE));
@@ -261,7 +261,7 @@ module _ {stirred awake owing acts : Bool} {follow : List PeerId} {T : Option Re
               corrects = refl;
               life = refl;
             };
-            exchanges = λ p i s older e. nil-cons s older e;
+            exchanges = λ p i s older e. nil_cons s older e;
           };
         };
         rested = h.rested;
@@ -307,6 +307,6 @@ module _ {stirred awake owing acts : Bool} {follow : List PeerId} {T : Option Re
         rounds = k.round.rounds;
         probing = k.round.probing;
         closes = k.round.closes;
-        exchanges = λ q i s older e. kept-asked ((p.0 == q.0) && (counter == i)) (exchange q i past.seen) s older (k.round.exchanges q i s older) e;
+        exchanges = λ q i s older e. kept_asked ((p.0 == q.0) && (counter == i)) (exchange q i past.seen) s older (k.round.exchanges q i s older) e;
       }))
       h.rested h.backs h.owed h.paid h.acting_is h.took

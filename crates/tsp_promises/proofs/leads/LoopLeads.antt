@@ -5,10 +5,12 @@ use Rattle.std.proofs.lemmas.Bool.{and_parts, not-true}
 use Rattle.tsp_promises.proofs.leads.GateSteps.{AtPort, own_of, on_run, AllPorts, LeadsAll, Pick, picks, passes, placed_all, same_port}
 use Rattle.tsp_promises.proofs.leads.HeedLeads.{EndsIn, ends_family, untaken_heeds, unquit_heeds, took_quit}
 use Rattle.tsp_promises.proofs.leads.Changes.{open_of, wake, JustTook, Is, become_loose, take}
-use Rattle.tsp_promises.proofs.{shared.PortLists.Ranged, shared.PortLists.Others, shared.PortLists.other_ranged, shared.PortLists.other_others, leads.PostLeaves.post_message}
+use Rattle.tsp_promises.proofs.{shared.PortLists.Ranged, shared.PortLists.Others, shared.PortLists.other_ranged, shared.PortLists.other_others}
+use Rattle.tsp_promises.proofs.{leads.PostLeaves.post_message}
 use Rattle.tsp_promises.proofs.{leads.Elsewheres.open_family, leads.Elsewheres.kept_aside, leads.Elsewheres.calm_bootless, leads.CommonLeads.arms_elect_during}
 use Rattle.tsp_promises.proofs.{leads.TakenLeads.rests_of, leads.TakenLeads.wake_role, leads.TakenLeads.master_awake, leads.AlarmLeads.master_rested}
-use Rattle.tsp_promises.proofs.{leads.Known.Open, leads.Known.OpenIn, leads.Known.Free, leads.Known.During, leads.Known.Ended, leads.AnswerLeads.open_rests, leads.RoundLeads.Probed}
+use Rattle.tsp_promises.proofs.{leads.Known.Open, leads.Known.OpenIn, leads.Known.Free, leads.Known.During, leads.Known.Ended, leads.AnswerLeads.open_rests}
+use Rattle.tsp_promises.proofs.{leads.RoundLeads.Probed}
 use Rattle.tsp_promises.specs.{DeedFits.MessageFits, StepFacts.is_quit, LoopFits.LoopFits, PortFits.setup_in}
 use Rattle.tsp_rules.specs.Values.{Took, Post, Become, Message, Taken, Good, LoopKind, Body, Hops, PeerId, Place, Peer, Stranger, Port, Starting, Loose, Probe}
 use Rattle.tsp_rules.specs.Values.{CloseAlarm}
@@ -46,8 +48,8 @@ record Looping (q : Port) (x : ℕ) (past : Past) : Type 0 where
   pub until : ℕ
   pub goes : (armed past.seen).close ≡ Some until
 
-loops-one : (q : Port) (x : ℕ) (past : Past) (p : PeerId) → Looping q x past → Looping q x (grown x past (loop_to q past.name p ∷ []))
-loops-one q x past p h =
+loops_one : (q : Port) (x : ℕ) (past : Past) (p : PeerId) → Looping q x past → Looping q x (grown x past (loop_to q past.name p ∷ []))
+loops_one q x past p h =
     let port = h.probed.open_port in
     let rested = master_rested x past port (port.knows.round.closes refl h.until h.goes).leads in
     record {
@@ -61,21 +63,21 @@ loops-one q x past p h =
       goes = h.goes;
     }
 
-loops-list : (q : Port) (ps : List PeerId) (x : ℕ) (past : Past) → Looping q x past → Looping q x (grown x past (map (loop_to q past.name) ps))
-loops-list q [] x past h = h
-loops-list q (p ∷ ps) x past h = loops-list q ps x (grown x past (loop_to q past.name p ∷ [])) (loops-one q x past p h)
+loops_list : (q : Port) (ps : List PeerId) (x : ℕ) (past : Past) → Looping q x past → Looping q x (grown x past (map (loop_to q past.name) ps))
+loops_list q [] x past h = h
+loops_list q (p ∷ ps) x past h = loops_list q ps x (grown x past (loop_to q past.name p ∷ [])) (loops_one q x past p h)
 
-some-is : (o : Option ℕ) → is_some o ≡ true → (at : ℕ) × (o ≡ Some at)
-some-is None e = absurd (true≢false (sym e))
-some-is (Some at) e = (at, refl)
+some_is : (o : Option ℕ) → is_some o ≡ true → (at : ℕ) × (o ≡ Some at)
+some_is None e = absurd (true≢false (sym e))
+some_is (Some at) e = (at, refl)
 
 -- a LOOP sets out to each other peer
 pub loops_kept : (q : Port) (x : ℕ) (past : Past) → past.port ≡ q → is_last_probe past ≡ true → Probed x past → Probed x (grown x past (sends_loops q x past))
 unfolding sends_loops
 loops_kept q x past port last h =
     let both = and_parts (is_some (deadline (armed past.seen) CloseAlarm)) (not (is_some (deadline (armed past.seen) Probe))) last in
-    let goes = some-is (armed past.seen).close both.0 in
-    (loops-list q (others past.own past.peers) x past (record { probed = h; port_is = port; until = goes.0; goes = goes.1 })).probed
+    let goes = some_is (armed past.seen).close both.0 in
+    (loops_list q (others past.own past.peers) x past (record { probed = h; port_is = port; until = goes.0; goes = goes.1 })).probed
 
 -- the step has taken this datagram, on another port
 abbrev pub IsHeard : Place → Taken → Option Received → Option Received → Type 0
@@ -87,21 +89,21 @@ loop_ends : {stirred awake : Bool} {x : ℕ} {past : Past} (from : Place) (m : M
 loop_ends {past = past} from m kind h = (rests_of h, unquit_heeds past.peers past.seen (ap took_quit h.took ∙ ap is_quit kind))
 
 -- names
-name-same : (a b : List ℕ) → same_name a b ≡ true → a ≡ b
-name-same [] [] e = refl
-name-same (a ∷ mine) (b ∷ theirs) e =
+name_same : (a b : List ℕ) → same_name a b ≡ true → a ≡ b
+name_same [] [] e = refl
+name_same (a ∷ mine) (b ∷ theirs) e =
     let both = and_parts (a == b) (same_name mine theirs) e in
-    ap (λ k. k ∷ mine) (eqb-true a b both.0) ∙ ap (λ rest. b ∷ rest) (name-same mine theirs both.1)
-name-same _ _ e = absurd (true≢false (sym e))
+    ap (λ k. k ∷ mine) (eqb-true a b both.0) ∙ ap (λ rest. b ∷ rest) (name_same mine theirs both.1)
+name_same _ _ e = absurd (true≢false (sym e))
 
-name-own : (a : List ℕ) → same_name a a ≡ true
-name-own [] = refl
-name-own (a ∷ rest) = let same : (a == a) ≡ true = eq-eqb a a refl in rw same (name-own rest)
+name_own : (a : List ℕ) → same_name a a ≡ true
+name_own [] = refl
+name_own (a ∷ rest) = let same : (a == a) ≡ true = eq-eqb a a refl in rw same (name_own rest)
 
 -- hops
-hops-are : (b : Body) → nat_le 1 (hops_in b) ≡ true → b ≡ Hops ((hops_in b - 1) + 1)
-hops-are (Hops n) e = let some = leb-true 1 n e in ap Hops (omega (arith, some))
-hops-are _ e = absurd (true≢false (sym e))
+hops_are : (b : Body) → nat_le 1 (hops_in b) ≡ true → b ≡ Hops ((hops_in b - 1) + 1)
+hops_are (Hops n) e = let some = leb-true 1 n e in ap Hops (omega (arith, some))
+hops_are _ e = absurd (true≢false (sym e))
 
 -- a master gives up for its own LOOP that came back
 record GivesUp (p : PeerId) (m : MessageValue) (x : ℕ) (past : Past) : Type 0 where
@@ -109,9 +111,9 @@ record GivesUp (p : PeerId) (m : MessageValue) (x : ℕ) (past : Past) : Type 0 
   pub name : m.name ≡ past.name
   pub number : m.number < past.port.0
 
-gives-up-leads : (p : PeerId) (m : MessageValue) → m.kind ≡ LoopKind → Leads (GivesUp p m) loosens_master Ended
+gives_up_leads : (p : PeerId) (m : MessageValue) → m.kind ≡ LoopKind → Leads (GivesUp p m) loosens_master Ended
 unfolding loosens_master yields
-gives-up-leads p m kind = Leads_either is_master_at (puts (Become Loose) followed_by arms_elect) nothing
+gives_up_leads p m kind = Leads_either is_master_at (puts (Become Loose) followed_by arms_elect) nothing
     (Leads_then {Q = Free (Is (Peer p) (Good (Message m)))} (puts (Become Loose)) arms_elect
     (Leads_puts (Become Loose) (λ x past h. become_loose (λ e. record {
       from = p;
@@ -138,9 +140,9 @@ record Passing (p : PeerId) (m : MessageValue) (x : ℕ) (past : Past) : Type 0 
   pub awake : role past.seen ≢ Starting
   pub known : Known_loop m past.name
 
-loop-message : (p q : PeerId) (m : MessageValue) (x : ℕ) (past : Past) → Passing p m x past →
+loop_message : (p q : PeerId) (m : MessageValue) (x : ℕ) (past : Past) → Passing p m x past →
     MessageFits (setup_in past) (one_hop_less m).kind (now x past (Post (Peer q) (Message (one_hop_less m)))) past.seen q (one_hop_less m)
-loop-message p q m x past h =
+loop_message p q m x past h =
     let k = h.known in
     let some = leb-true 1 (hops_in m.body) k.some in
     let few = k.few in
@@ -153,46 +155,46 @@ loop-message p q m x past h =
       number = refl;
       other = k.other;
       left = hops_in m.body - 1;
-      came = hops-are m.body k.some;
+      came = hops_are m.body k.some;
       goes = refl;
       few = omega (arith, some, few);
     }) in
     subst (λ k. MessageFits (setup_in past) k (now x past (Post (Peer q) (Message (one_hop_less m)))) past.seen q (one_hop_less m)) (sym k.kind) fits
 
-passing-one : (p q : PeerId) (m : MessageValue) (x : ℕ) (past : Past) → Passing p m x past → Passing p m x (grown x past (repost (one_hop_less m) q ∷ []))
-passing-one p q m x past h = record {
-  open_port = open_of (post_message q (one_hop_less m) (ap is_kind_election h.known.kind) (loop-message p q m x past h)
+passing_one : (p q : PeerId) (m : MessageValue) (x : ℕ) (past : Past) → Passing p m x past → Passing p m x (grown x past (repost (one_hop_less m) q ∷ []))
+passing_one p q m x past h = record {
+  open_port = open_of (post_message q (one_hop_less m) (ap is_kind_election h.known.kind) (loop_message p q m x past h)
       (wake_role h.awake (during_open h.open_port)));
   awake = h.awake;
   known = h.known;
 }
 
-passing-list : (p : PeerId) (m : MessageValue) (ps : List PeerId) (x : ℕ) (past : Past) → Passing p m x past →
+passing_list : (p : PeerId) (m : MessageValue) (ps : List PeerId) (x : ℕ) (past : Past) → Passing p m x past →
     Passing p m x (grown x past (map (repost (one_hop_less m)) ps))
-passing-list p m [] x past h = h
-passing-list p m (q ∷ ps) x past h = passing-list p m ps x (grown x past (repost (one_hop_less m) q ∷ [])) (passing-one p q m x past h)
+passing_list p m [] x past h = h
+passing_list p m (q ∷ ps) x past h = passing_list p m ps x (grown x past (repost (one_hop_less m) q ∷ [])) (passing_one p q m x past h)
 
-pub repost-calm : (m : MessageValue) (ps : List PeerId) → is_calm false false (map (repost m) ps) ≡ true
-repost-calm m [] = refl
-repost-calm m (p ∷ ps) = repost-calm m ps
+pub repost_calm : (m : MessageValue) (ps : List PeerId) → is_calm false false (map (repost m) ps) ≡ true
+repost_calm m [] = refl
+repost_calm m (p ∷ ps) = repost_calm m ps
 
 -- what is known of all ports while a LOOP is passed on: the port that took it rests, the others may post it
 abbrev pub Spreading : Port → Place → MessageValue → Port → ℕ → Past → Type 0
 Spreading q from m r = Pick (q.0 == r.0) Ended (OpenIn false (IsHeard from (Good (Message m))))
 
-reposts-one : (q r : Port) (p : PeerId) (m : MessageValue) (x : ℕ) (past : NodePast) → Known_loop m past.name → (q.0 == r.0) ≡ false → r.0 < length past.ports →
+reposts_one : (q r : Port) (p : PeerId) (m : MessageValue) (x : ℕ) (past : NodePast) → Known_loop m past.name → (q.0 == r.0) ≡ false → r.0 < length past.ports →
     AllPorts (Spreading q (Peer p) m) x past →
     AllPorts (Spreading q (Peer p) m) x (spread x past (reposts_on (one_hop_less m) r x past))
 unfolding reposts_on on reposts
-reposts-one q r p m x past k n has all = by_case (is_awake_on past r) refl where
+reposts_one q r p m x past k n has all = by_case (is_awake_on past r) refl where
   by_case : (b : Bool) → is_awake_on past r ≡ b → AllPorts (Spreading q (Peer p) m) x (spread x past (if b then on r (reposts (one_hop_less m)) x past else []))
   by_case true e =
       let here = on_port r past in
       let acts = map (repost (one_hop_less m)) (others here.own here.peers) in
-      let calm = repost-calm (one_hop_less m) (others here.own here.peers) in
+      let calm = repost_calm (one_hop_less m) (others here.own here.peers) in
       let awake = awake_is (role here.seen) (not-true (is_starting_role (role here.seen)) e) in
       placed_all r x past acts (Spreading q (Peer p) m) (Spreading q (Peer p) m) (calm_bootless false false acts calm)
-      (passes n (passing-list p m (others here.own here.peers) x here (record { open_port = (all r has).no n; awake = awake; known = k })).open_port)
+      (passes n (passing_list p m (others here.own here.peers) x here (record { open_port = (all r has).no n; awake = awake; known = k })).open_port)
       (λ s d h y. record {
         yes = λ t. kept_aside ends_family false x (on_port s past) acts calm (y.yes t);
         no = λ t. kept_aside open_family false x (on_port s past) acts calm (y.no t);
@@ -200,15 +202,15 @@ reposts-one q r p m x past k n has all = by_case (is_awake_on past r) refl where
       all
   by_case false e = all
 
-reposts-all : (q : Port) (p : PeerId) (m : MessageValue) (ports : List Port) (x : ℕ) (past : NodePast) → Known_loop m past.name →
+reposts_all : (q : Port) (p : PeerId) (m : MessageValue) (ports : List Port) (x : ℕ) (past : NodePast) → Known_loop m past.name →
     Ranged (length past.ports) ports → Others q ports → AllPorts (Spreading q (Peer p) m) x past →
     AllPorts (Spreading q (Peer p) m) x (spread x past (for_ports (reposts_on (one_hop_less m)) ports x past))
 unfolding for_ports nothing_at_all ◌and_then◌
-reposts-all q p m [] x past k ranged other all = all
-reposts-all q p m (r ∷ rest) x past k ranged other all =
+reposts_all q p m [] x past k ranged other all = all
+reposts_all q p m (r ∷ rest) x past k ranged other all =
     let first = reposts_on (one_hop_less m) r x past in
     subst (λ z. AllPorts (Spreading q (Peer p) m) x z) (sym (spread_append x past first (for_ports (reposts_on (one_hop_less m)) rest x (spread x past first))))
-    (reposts-all q p m rest x (spread x past first) k ranged.1 other.1 (reposts-one q r p m x past k other.0 ranged.0 all))
+    (reposts_all q p m rest x (spread x past first) k ranged.1 other.1 (reposts_one q r p m x past k other.0 ranged.0 all))
 
 -- after the taking
 abbrev pub TookLoop : Port → Place → MessageValue → ℕ → NodePast → Type 0
@@ -218,35 +220,35 @@ resting : (q : Port) (from : Place) (m : MessageValue) (x : ℕ) (past : NodePas
     AllPorts (Spreading q from m) x past
 resting q from m x past kind h r has = let y = h.all r has in record { yes = λ e. loop_ends from m kind (y.yes e).free; no = y.no }
 
-ends-rest : (q : Port) (from : Place) (m : MessageValue) (x : ℕ) (past : NodePast) → AllPorts (Spreading q from m) x past → AllPorts (λ r. Ended) x past
-ends-rest q from m x past all r has = by_case (q.0 == r.0) refl where
+ends_rest : (q : Port) (from : Place) (m : MessageValue) (x : ℕ) (past : NodePast) → AllPorts (Spreading q from m) x past → AllPorts (λ r. Ended) x past
+ends_rest q from m x past all r has = by_case (q.0 == r.0) refl where
   by_case : (b : Bool) → (q.0 == r.0) ≡ b → Ended x (on_port r past)
   by_case true e = (all r has).yes e
   by_case false e = let k = (all r has).no e in (open_rests x (on_port r past) k, untaken_heeds (on_port r past).peers (on_port r past).seen k.took.0)
 
 loop_over : (q : Port) (from : Place) (m : MessageValue) (x : ℕ) (past : NodePast) → m.kind ≡ LoopKind → TookLoop q from m x past → AllPorts (λ r. Ended) x past
-loop_over q from m x past kind h = ends-rest q from m x past (resting q from m x past kind h)
+loop_over q from m x past kind h = ends_rest q from m x past (resting q from m x past kind h)
 
-gives-up-all : (q : Port) (p : PeerId) (m : MessageValue) (x : ℕ) (past : NodePast) → m.kind ≡ LoopKind → m.name ≡ past.name → m.number < q.0 →
+gives_up_all : (q : Port) (p : PeerId) (m : MessageValue) (x : ℕ) (past : NodePast) → m.kind ≡ LoopKind → m.name ≡ past.name → m.number < q.0 →
     TookLoop q (Peer p) m x past → AllPorts (λ r. Ended) x (spread x past (on q loosens_master x past))
-gives-up-all q p m x past kind name number h =
+gives_up_all q p m x past kind name number h =
     let heard = IsHeard (Peer p) (Good (Message m)) in
-    let own = (gives-up-leads p m kind).run x (on_port q past) (record { just = own_of q x past h; name = name; number = number }) in
+    let own = (gives_up_leads p m kind).run x (on_port q past) (record { just = own_of q x past h; name = name; number = number }) in
     let calm = (calm_unmoving {strange = false} {moving = false} refl built_loosens_master).calm x (on_port q past) in
     let after = on_run (λ r stirred. OpenIn stirred heard) (λ r. open_family) {Q = Ended} false q loosens_master x past calm own h in
-    ends-rest q (Peer p) m x (spread x past (on q loosens_master x past)) after.all
+    ends_rest q (Peer p) m x (spread x past (on q loosens_master x past)) after.all
 
-forwards-all : (q : Port) (p : PeerId) (m : MessageValue) (x : ℕ) (past : NodePast) → Known_loop m past.name → TookLoop q (Peer p) m x past →
+forwards_all : (q : Port) (p : PeerId) (m : MessageValue) (x : ℕ) (past : NodePast) → Known_loop m past.name → TookLoop q (Peer p) m x past →
     AllPorts (λ r. Ended) x (spread x past (forwards q (one_hop_less m) x past))
 unfolding forwards
-forwards-all q p m x past k h =
-    ends-rest q (Peer p) m x (spread x past (for_ports (reposts_on (one_hop_less m)) (other_ports q past) x past))
-    (reposts-all q p m (other_ports q past) x past k (other_ranged q past) (other_others q past) (resting q (Peer p) m x past k.kind h))
+forwards_all q p m x past k h =
+    ends_rest q (Peer p) m x (spread x past (for_ports (reposts_on (one_hop_less m)) (other_ports q past) x past))
+    (reposts_all q p m (other_ports q past) x past k (other_ranged q past) (other_others q past) (resting q (Peer p) m x past k.kind h))
 
-judges-all : (q : Port) (p : PeerId) (m : MessageValue) (x : ℕ) (past : NodePast) → m.kind ≡ LoopKind → TookLoop q (Peer p) m x past →
+judges_all : (q : Port) (p : PeerId) (m : MessageValue) (x : ℕ) (past : NodePast) → m.kind ≡ LoopKind → TookLoop q (Peer p) m x past →
     AllPorts (λ r. Ended) x (spread x past (judges q m x past))
 unfolding judges takes_loop_step nothing_at_all
-judges-all q p m x past kind h = by_case (nat_le 2 (length past.ports)) (same_name m.name past.name) refl (nat_lt m.number q.0) refl
+judges_all q p m x past kind h = by_case (nat_le 2 (length past.ports)) (same_name m.name past.name) refl (nat_lt m.number q.0) refl
     (nat_le 1 (hops_in m.body) && nat_le (hops_in m.body) 10) refl where
       over : AllPorts (λ r. Ended) x past
       over = loop_over q (Peer p) m x past kind h
@@ -255,19 +257,19 @@ judges-all q p m x past kind h = by_case (nat_le 2 (length past.ports)) (same_na
           (nat_le 1 (hops_in m.body) && nat_le (hops_in m.body) 10) ≡ hops →
           AllPorts (λ r. Ended) x (spread x past (takes_loop_step q (if two then (if same then (if lower then GiveUp else PassOver) else
           (if hops then Forward (one_hop_less m) else PassOver)) else PassOver) x past))
-      by_case true true s true l hops o = gives-up-all q p m x past kind (name-same m.name past.name s) (ltb-true m.number q.0 l) h
+      by_case true true s true l hops o = gives_up_all q p m x past kind (name_same m.name past.name s) (ltb-true m.number q.0 l) h
       by_case true false s lower l true o =
           let both = and_parts (nat_le 1 (hops_in m.body)) (nat_le (hops_in m.body) 10) o in
-          let other : m.name ≢ past.name = λ is. true≢false (sym (name-own m.name) ∙ ap (same_name m.name) is ∙ s) in
-          forwards-all q p m x past (record { kind = kind; other = other; some = both.0; few = leb-true (hops_in m.body) 10 both.1 }) h
+          let other : m.name ≢ past.name = λ is. true≢false (sym (name_own m.name) ∙ ap (same_name m.name) is ∙ s) in
+          forwards_all q p m x past (record { kind = kind; other = other; some = both.0; few = leb-true (hops_in m.body) 10 both.1 }) h
       by_case _ _ s _ l _ o = over
 
-heeds-all : (q : Port) (from : Place) (m : MessageValue) (x : ℕ) (past : NodePast) → m.kind ≡ LoopKind → TookLoop q from m x past → (b : Bool) →
+heeds_all : (q : Port) (from : Place) (m : MessageValue) (x : ℕ) (past : NodePast) → m.kind ≡ LoopKind → TookLoop q from m x past → (b : Bool) →
     hears_on from q x past ≡ b → AllPorts (λ r. Ended) x (spread x past (heeds_loop q m b x past))
 unfolding heeds_loop nothing_at_all
-heeds-all q (Peer p) m x past kind h true e = judges-all q p m x past kind h
-heeds-all q Stranger m x past kind h true e = absurd (true≢false (sym e))
-heeds-all q from m x past kind h false e = loop_over q from m x past kind h
+heeds_all q (Peer p) m x past kind h true e = judges_all q p m x past kind h
+heeds_all q Stranger m x past kind h true e = absurd (true≢false (sym e))
+heeds_all q from m x past kind h false e = loop_over q from m x past kind h
 
 -- a LOOP is taken
 pub takes_loop_lead : (q : Port) (from : Place) (m : MessageValue) → m.kind ≡ LoopKind →
@@ -287,5 +289,5 @@ takes_loop_lead q from m kind = record {
             { own = s.own; fits = s.fits; knows = s.knows; backs = s.backs; owed = s.owed; paid = s.paid; took = (s.took.0, refl) })) h.1;
       } in
       subst (λ z. AllPorts (λ r. Ended) x z) (sym (spread_append x past first (heeds_loop q m (hears_on from q x mid) x mid)))
-      (heeds-all q from m x mid kind took (hears_on from q x mid) refl);
+      (heeds_all q from m x mid kind took (hears_on from q x mid) refl);
 }

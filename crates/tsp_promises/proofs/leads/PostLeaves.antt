@@ -47,22 +47,22 @@ unfolding posts_to_others
 Leads_others {P = P} kind number k = record { run = λ x past h. kept_posts P kind number k (others past.own past.peers) x past h }
 
 -- a vote that is asked for after a post: by this message, which begins a send, or before
-post-vote : (p q : PeerId) (m : MessageValue) (d : Did) (before : List Seen) (bs : List PeerId) → d.deed ≡ Acts (Post (Peer p) (Message m)) →
+post_vote : (p q : PeerId) (m : MessageValue) (d : Did) (before : List Seen) (bs : List PeerId) → d.deed ≡ Acts (Post (Peer p) (Message m)) →
     (is_kind_election m.kind ≡ true → acting before ≡ true → is_among q bs ≡ false) →
     (asks_vote (message_at (open_to q before)) ≡ true → is_among q bs ≡ false) → (b : Bool) → ((p.0 == q.0) && (is_numbered m.kind && acting before)) ≡ b →
     asks_vote (message_at (cond b (Here d ∷ before) (open_to q before))) ≡ true → is_among q bs ≡ false
-post-vote p q m d before bs deed new old true test e =
+post_vote p q m d before bs deed new old true test e =
     let one = and_parts (p.0 == q.0) (is_numbered m.kind && acting before) test in
     let two = and_parts (is_numbered m.kind) (acting before) one.1 in
     new (subst (λ t. asks_vote (message_at (Here (record d { deed = t }) ∷ before)) ≡ true) deed e) two.1
-post-vote p q m d before bs deed new old false test e = old e
+post_vote p q m d before bs deed new old false test e = old e
 
 -- an exchange that is open after a request: the new one or an older one
-request-asked : (stirred : Bool) (d : Did) (seen : List Seen) (close : Option ℕ) (w at : ℕ) → close ≡ Some at → word_asked (Here d ∷ seen) ≡ w →
+request_asked : (stirred : Bool) (d : Did) (seen : List Seen) (close : Option ℕ) (w at : ℕ) → close ≡ Some at → word_asked (Here d ∷ seen) ≡ w →
     (b : Bool) (was : List Seen) (s : Seen) (older : List Seen) →
     (was ≡ s ∷ older → Asked stirred close (all_corrects (plain seen)) (lives (plain seen)) w s older) → (if b then Here d ∷ seen else was) ≡ s ∷ older →
     Asked stirred close (all_corrects (plain seen)) (lives (plain seen)) w s older
-request-asked stirred d seen close w at goes is true was s older old e =
+request_asked stirred d seen close w at goes is true was s older old e =
     let same : Here d ≡ s = cc in
     let rest : seen ≡ older = cc in
     record {
@@ -74,7 +74,7 @@ request-asked stirred d seen close w at goes is true was s older old e =
       corrects = λ calm. ap (λ z. all_corrects (plain z)) (sym rest);
       life = λ calm. ap (λ z. lives (plain z)) (sym rest);
     }
-request-asked stirred d seen close w at goes is false was s older old e = old e
+request_asked stirred d seen close w at goes is false was s older old e = old e
 
 -- what begins no send opens none
 unsent : (b : Bool) (here was : List Seen) → was ≡ [] → cond (b && false) here was ≡ []
@@ -86,7 +86,7 @@ pub post_knows : {stirred : Bool} (x : ℕ) (past : Past) (p : PeerId) (m : Mess
     true → is_among q (backers past.seen) ≡ false) → boot_tick (plain past.seen) + QUIET ≤ x → KnowsOf stirred x past.own past.seen →
     KnowsOf stirred x past.own (then_seen x past (Post (Peer p) (Message m)))
 post_knows x past p m new rested k =
-    let vote = with_votes k.vote (λ q e. post-vote p q m (now x past (Post (Peer p) (Message m))) past.seen (backers past.seen) refl (new q)
+    let vote = with_votes k.vote (λ q e. post_vote p q m (now x past (Post (Peer p) (Message m))) past.seen (backers past.seen) refl (new q)
     (k.vote.votes q) _ refl e) in
     with_quiet (with_vote k vote) (now_rested rested k.quiet)
 
@@ -128,7 +128,7 @@ module _ {stirred owing acts : Bool} {follow : List PeerId} {T : Option Received
         rounds = k.round.rounds;
         probing = k.round.probing;
         closes = k.round.closes;
-        exchanges = λ q i s older e. request-asked stirred (now x past a) past.seen (armed past.seen).close (word (plain past.seen)) at goes refl
+        exchanges = λ q i s older e. request_asked stirred (now x past a) past.seen (armed past.seen).close (word (plain past.seen)) at goes refl
             ((p.0 == q.0) && (asked past.seen % 2 ^ 64 == i)) (exchange q i past.seen) s older (k.round.exchanges q i s older) e;
       }))
       h.rested h.backs h.owed h.paid h.acting_is h.took
@@ -176,7 +176,7 @@ module _ {stirred awake owing acts : Bool} {follow : List PeerId} {T : Option Re
         vote = record {
           stands = k.vote.stands;
           windows = k.vote.windows;
-          votes = λ q e. post-vote p q m (now x past (Post (Peer p) (Message m))) past.seen (backers past.seen) refl (λ n. absurd (true≢false (sym n)))
+          votes = λ q e. post_vote p q m (now x past (Post (Peer p) (Message m))) past.seen (backers past.seen) refl (λ n. absurd (true≢false (sym n)))
               (k.vote.votes q) _ refl e;
         };
         round = k.round;

@@ -3,13 +3,14 @@ use Rattle.std.proofs.Common.{sym, subst, inl, true≢false, ◌∙◌, ◌≡�
 use Rattle.std.proofs.Common.{Some}
 use Rattle.std.proofs.lemmas.Bool.{and_parts}
 use Rattle.tsp_base.proofs.ViewPlaces.{or-false}
-use Rattle.tsp_promises.proofs.{leads.Changes.FreeIn, leads.Changes.become_loose, leads.Known.Free, leads.Known.Rests, leads.Known.asks_vote, shared.Printed.sets_target}
+use Rattle.tsp_promises.proofs.{leads.Changes.FreeIn, leads.Changes.become_loose, leads.Known.Free, leads.Known.Rests, leads.Known.asks_vote}
+use Rattle.tsp_promises.proofs.{shared.Printed.sets_target}
 use Rattle.tsp_promises.proofs.leads.PostLeaves.{post_message, Leads_arms, Leads_posts, Leads_others, Leads_posts_time}
 use Rattle.tsp_promises.specs.{AckFits.Answers, HoldFits.BackerFits}
 use Rattle.tsp_promises.proofs.{leads.CorrectionLeads.Began, leads.CorrectionLeads.open_is, leads.CorrectionLeads.may_fits, leads.CommonLeads.begins_quit}
 use Rattle.tsp_promises.proofs.{leads.CommonLeads.arms_elect_during}
 use Rattle.tsp_promises.specs.{CorrectionFits.CorrectionFits, CorrectionFits.SetsTarget, PortFits.PortFits, PortFits.setup_in}
-use Rattle.tsp_promises.proofs.leads.Leaves.{none-among, join, rival, arm_resolve, acked, backer}
+use Rattle.tsp_promises.proofs.leads.Leaves.{none_among, join, rival, arm_resolve, acked, backer}
 use Rattle.tsp_promises.proofs.leads.TakenLeads.{Says, Heard, HeardIn, rests_of, ack_fits, acknowledges_lead, quits_lead, election_acked}
 use Rattle.tsp_promises.proofs.leads.SlaveLeads.{follow_heard, idle_heard, masterup_leads, masterack_leads, election_leads, adjtime_leads, settime_leads}
 use Rattle.tsp_promises.proofs.leads.SlaveLeads.{from_master_leads}
@@ -35,20 +36,20 @@ record VoteAsked (setup : Setup) (p : PeerId) (number : ℕ) (seen : List Seen) 
   pub kind : began.message.kind ≡ Election
   pub number_is : began.message.number ≡ number
 
-election-is : (k : Kind) → is_kind_election k ≡ true → k ≡ Election
-election-is Election e = refl
-election-is _ e = absurd (true≢false (sym e))
+election_is : (k : Kind) → is_kind_election k ≡ true → k ≡ Election
+election_is Election e = refl
+election_is _ e = absurd (true≢false (sym e))
 
-vote-open : (setup : Setup) (p : PeerId) (number : ℕ) (seen : List Seen) → PortFits setup seen → (o : Option Sending) → open_send p seen ≡ o →
+vote_open : (setup : Setup) (p : PeerId) (number : ℕ) (seen : List Seen) → PortFits setup seen → (o : Option Sending) → open_send p seen ≡ o →
     answers_election number o ≡ true → VoteAsked setup p number seen
-vote-open setup p number seen f None is e = absurd (true≢false (sym e))
-vote-open setup p number seen f (Some s) is e =
+vote_open setup p number seen f None is e = absurd (true≢false (sym e))
+vote_open setup p number seen f (Some s) is e =
     let o = open_is setup p seen s f is in
     let both = and_parts (is_kind_election s.message.kind) (s.message.number == number) e in
     let m = o.message_is in
     record {
       began = o.began;
-      kind = ap (λ (t : MessageValue). t.kind) (sym m) ∙ election-is s.message.kind both.0;
+      kind = ap (λ (t : MessageValue). t.kind) (sym m) ∙ election_is s.message.kind both.0;
       number_is = ap (λ (t : MessageValue). t.number) (sym m) ∙ eqb-true s.message.number number both.1;
     }
 
@@ -62,7 +63,7 @@ module _ {p : PeerId} {m : MessageValue} where
   answered : (x : ℕ) (past : Past) → m.kind ≡ Accept → Heard p (Good (Message m)) x past → has_election p m.number x past ≡ true →
       Answered p m x (grown x past (Acked p ∷ []))
   answered x past k h e =
-      let v = vote-open (setup_in past) p m.number past.seen h.just.free.fits (open_send p past.seen) refl e in
+      let v = vote_open (setup_in past) p m.number past.seen h.just.free.fits (open_send p past.seen) refl e in
       let asks : asks_vote (message_at (open_to p past.seen)) ≡ true = ap (λ place. asks_vote (message_at place)) v.began.is ∙ ap
       (λ d. asks_vote (message_at (Here (record v.began.first { deed = d }) ∷ v.began.older))) v.began.deed ∙ ap is_kind_election v.kind in
       let same : (p.0 == p.0) ≡ true = eq-eqb p.0 p.0 refl in
@@ -135,7 +136,7 @@ module _ {p : PeerId} {m : MessageValue} where
   candidate_leads Election e = Leads_posts p Refuse m.number (λ x past h. rests_of (post_message p (bare Refuse m.number past.name) refl tt h.0.just.free))
   candidate_leads Accept e = Leads_from (λ x past h. h.0) (accepted_lead e)
   candidate_leads Refuse e = refused_lead
-  candidate_leads QuitKind e = quits_lead Candidate [] (λ q i. let bad : ⊥ = cc in absurd bad) refl (λ q i. none-among q refl i) e
+  candidate_leads QuitKind e = quits_lead Candidate [] (λ q i. let bad : ⊥ = cc in absurd bad) refl (λ q i. none_among q refl i) e
   candidate_leads Ack e = acknowledged e
   candidate_leads _ e = idle_heard (λ x past h. h.0)
 

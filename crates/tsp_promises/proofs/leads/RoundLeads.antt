@@ -11,7 +11,7 @@ use Rattle.tsp_rules.specs.CandidateRows.{lead_row, yields, has_won, window_ring
 use Rattle.tsp_base.specs.Words.{Did, Seen, Here, Past, plain, Leads, boot_tick, role, armed, probes, started, Row, grown, nothing, puts, ◌followed_by◌}
 use Rattle.tsp_base.specs.Words.{for_each, arms, bare, posts_to_others, backers, either_by, peer_of}
 use Rattle.tsp_base.proofs.LeadsLemmas.{Leads_then, Leads_either, Leads_reading, Leads_nothing, Leads_puts, Leads_each, Leads_from, Leads_to}
-use Rattle.tsp_promises.proofs.leads.Leaves.{none-some, some-same, arm_round, arm_round_alarms, arm_probe, abandon}
+use Rattle.tsp_promises.proofs.leads.Leaves.{none-some, some_same, arm_round, arm_round_alarms, arm_probe, abandon}
 use Rattle.tsp_promises.proofs.leads.PostLeaves.{post_message, request, Leads_arms, Leads_others}
 use Rattle.tsp_promises.proofs.leads.Changes.{FreeIn, become_loose, become_master, late, open_of, ring}
 use Rattle.tsp_promises.proofs.{leads.Known.Free, leads.Known.Open, leads.Known.Untaken, leads.CommonLeads.arms_elect_during}
@@ -216,7 +216,7 @@ probe_leads own wait = rings_lead own wait Probe
     record {
       open_port = open_of (arm_probe (x + PROBE) (record { until = h.0.until; goes = h.0.goes; soon = omega (arith, soon); few = omega (arith, few) })
           h.0.free);
-      later = λ at e. let is = some-same (x + PROBE) at e in omega (arith, is);
+      later = λ at e. let is = some_same (x + PROBE) at e in omega (arith, is);
     }))
     (Leads_from (λ x past h. record { open_port = open_of h.0.free; later = λ at e. none-some at (sym h.0.unprobed ∙ e) }) Leads_nothing))))
     (Leads_then {Q = Free Untaken} (puts (Late Probe)) (puts Abandon)

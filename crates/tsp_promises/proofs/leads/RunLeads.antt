@@ -7,7 +7,7 @@ use Rattle.tsp_rules.specs.CommonRows.{boots}
 use Rattle.tsp_promises.specs.PortFits.{PortFits, setup_in}
 use Rattle.tsp_promises.specs.Runs.{Makes, Boots, Answers as Answering, row_of, Happening, ran, last_tick, Ordered, RulesFit}
 use Rattle.tsp_promises.proofs.leads.Known.{KnowsOf, Ended, Fresh, Rests}
-use Rattle.tsp_promises.proofs.leads.Leaves.{made, none-some, none-among, nil-cons, some-same}
+use Rattle.tsp_promises.proofs.leads.Leaves.{made, none-some, none_among, nil_cons, some_same}
 use Rattle.tsp_promises.proofs.{leads.AnswerLeads.answers_lead, leads.HeedLeads.answers_heed, leads.HeedLeads.untaken_heeds}
 
 -- a step of a port at rest may end
@@ -35,7 +35,7 @@ booted x past h = record {
           boot_le = omega arith;
           last_le = omega arith;
           boot_is = refl;
-          start_le = λ start idle e. nil-cons (Here start) idle e;
+          start_le = λ start idle e. nil_cons (Here start) idle e;
           next = λ at e. none-some at e;
         };
         quiet = record {
@@ -47,7 +47,7 @@ booted x past h = record {
           rounds = λ at e. none-some at e;
           probing = λ at e. none-some at e;
           closes = λ calm at e. none-some at e;
-          exchanges = λ p i s older e. nil-cons s older e;
+          exchanges = λ p i s older e. nil_cons s older e;
         };
       })
       (λ e. absurd (true≢false (sym e))) h.backs h.owed h.paid h.acting_is h.took;
@@ -72,14 +72,14 @@ quiets x past b =
             };
             quiet = record {
               rested = inl (record { starts = refl; unsearched = refl; unelected = refl; unresolved = refl; unsent = λ p. refl });
-              silent = λ at e. (refl, let is = some-same (x + QUIET) at e in omega (arith, is, boot));
+              silent = λ at e. (refl, let is = some_same (x + QUIET) at e in omega (arith, is, boot));
             };
             vote = record { stands = λ e. let bad : ⊥ = cc in absurd bad; windows = λ at e. none-some at e; votes = λ p e. absurd (true≢false (sym e)) };
             round = record {
               rounds = λ at e. none-some at e;
               probing = λ at e. none-some at e;
               closes = λ calm at e. none-some at e;
-              exchanges = λ p i s older e. nil-cons s older e;
+              exchanges = λ p i s older e. nil_cons s older e;
             };
           })
           (λ e. absurd (true≢false (sym e))) h.backs h.owed h.paid h.acting_is h.took;
@@ -88,7 +88,7 @@ quiets x past b =
     }
 
 pub boot_rests : (x : ℕ) (past : Past) → Booting x past → Rests x past
-boot_rests x past b = let h = b.fresh in record { fits = h.fits; knows = h.knows; backs = h.backs; follows = λ p e. none-among p h.owed e; paid = h.paid }
+boot_rests x past b = let h = b.fresh in record { fits = h.fits; knows = h.knows; backs = h.backs; follows = λ p e. none_among p h.owed e; paid = h.paid }
 
 -- a boot keeps what is known of a port, and heeds what its step takes, which is nothing
 pub boots_lead : Leads Fresh boots Ended
@@ -150,8 +150,8 @@ ended_later x y past later e = let h = e.0 in (
 )
 
 -- what is known is known of another past of a port that is set up alike and has seen the same
-rests-seen : (x : ℕ) (past now : Past) → past.own ≡ now.own → setup_in past ≡ setup_in now → past.seen ≡ now.seen → Rests x past → Rests x now
-rests-seen x past now own setup seen h = record {
+rests_seen : (x : ℕ) (past now : Past) → past.own ≡ now.own → setup_in past ≡ setup_in now → past.seen ≡ now.seen → Rests x past → Rests x now
+rests_seen x past now own setup seen h = record {
   fits = subst (λ s. PortFits s now.seen) setup (subst (λ z. PortFits (setup_in past) z) seen h.fits);
   knows = subst (λ o. KnowsOf false x o now.seen) own (subst (λ z. KnowsOf false x past.own z) seen h.knows);
   backs = subst (λ z. is_unbacked z ≡ false) seen h.backs;
@@ -162,14 +162,14 @@ rests-seen x past now own setup seen h = record {
 -- so that has ended its step too
 pub ended_seen : (x : ℕ) (past now : Past) → past.own ≡ now.own → setup_in past ≡ setup_in now → past.seen ≡ now.seen → Ended x past → Ended x now
 ended_seen x past now own setup seen e = (
-  rests-seen x past now own setup seen e.0,
+  rests_seen x past now own setup seen e.0,
   subst (λ (s : Setup). unheeded s.peers now.seen ≡
       None) setup (subst (λ z. unheeded past.peers z ≡ None) seen e.1),
 )
 
 -- a port that has done nothing
-pub nothing-done : (x : ℕ) (past : Past) → Ended x (record past { seen = [] })
-nothing-done x past = (
+pub nothing_done : (x : ℕ) (past : Past) → Ended x (record past { seen = [] })
+nothing_done x past = (
   record {
     fits = tt;
     knows = record {
@@ -177,7 +177,7 @@ nothing-done x past = (
         boot_le = omega arith;
         last_le = omega arith;
         boot_is = refl;
-        start_le = λ start idle e. nil-cons (Here start) idle e;
+        start_le = λ start idle e. nil_cons (Here start) idle e;
         next = λ at e. none-some at e;
       };
       quiet = record {
@@ -189,43 +189,43 @@ nothing-done x past = (
         rounds = λ at e. none-some at e;
         probing = λ at e. none-some at e;
         closes = λ calm at e. none-some at e;
-        exchanges = λ p i s older e. nil-cons s older e;
+        exchanges = λ p i s older e. nil_cons s older e;
       };
     };
     backs = refl;
-    follows = λ p e. none-among p refl e;
+    follows = λ p e. none_among p refl e;
     paid = refl;
   },
   refl,
 )
 
 -- and owes nothing
-pub nothing-ends : (setup : Setup) → StepEnds setup []
-nothing-ends setup = record {
+pub nothing_ends : (setup : Setup) → StepEnds setup []
+nothing_ends setup = record {
   backs = refl;
   heeds = refl;
-  follows = λ p e. none-among p refl e;
+  follows = λ p e. none_among p refl e;
   acknowledged = refl;
-  exchanges = λ p i s older e. nil-cons (Here s) older e;
+  exchanges = λ p i s older e. nil_cons (Here s) older e;
 }
 
-own-ran : (hs : List Happening) (past : Past) → (ran hs past).own ≡ past.own
-own-ran [] past = refl
-own-ran (h ∷ before) past = own-ran before past
+own_ran : (hs : List Happening) (past : Past) → (ran hs past).own ≡ past.own
+own_ran [] past = refl
+own_ran (h ∷ before) past = own_ran before past
 
-setup-ran : (hs : List Happening) (past : Past) → setup_in (ran hs past) ≡ setup_in past
-setup-ran [] past = refl
-setup-ran (h ∷ before) past = setup-ran before past
+setup_ran : (hs : List Happening) (past : Past) → setup_in (ran hs past) ≡ setup_in past
+setup_ran [] past = refl
+setup_ran (h ∷ before) past = setup_ran before past
 
-ran-rests : (past : Past) (hs : List Happening) → past.seen ≡ [] → Ordered past.own.0 hs → Ended (last_tick hs) (ran hs past)
-ran-rests past [] e o = subst (λ s. Ended 0 (record past { seen = s })) (sym e) (nothing-done 0 past)
-ran-rests past (h ∷ before) e o =
-    let own : (ran before past).own.0 ≡ h.step.node = ap (λ (p : PeerId). p.0) (own-ran before past) ∙ sym o.1 in
+ran_rests : (past : Past) (hs : List Happening) → past.seen ≡ [] → Ordered past.own.0 hs → Ended (last_tick hs) (ran hs past)
+ran_rests past [] e o = subst (λ s. Ended 0 (record past { seen = s })) (sym e) (nothing_done 0 past)
+ran_rests past (h ∷ before) e o =
+    let own : (ran before past).own.0 ≡ h.step.node = ap (λ (p : PeerId). p.0) (own_ran before past) ∙ sym o.1 in
     (row_leads h.makes).run h.tick (in_step h.step h.tick (ran before past)) (begins_fresh h.step (last_tick before) h.tick (ran before past) o.0 own
-    (ran-rests past before e o.2))
+    (ran_rests past before e o.2))
 
 -- a port that runs by the rules owes nothing
 pub rules_fit : RulesFit
 rules_fit past hs e o =
-    let r = ran-rests past hs e o in
-    (subst (λ s. PortFits s (ran hs past).seen) (setup-ran hs past) r.0.fits, subst (λ s. StepEnds s (ran hs past).seen) (setup-ran hs past) (ends_of r))
+    let r = ran_rests past hs e o in
+    (subst (λ s. PortFits s (ran hs past).seen) (setup_ran hs past) r.0.fits, subst (λ s. StepEnds s (ran hs past).seen) (setup_ran hs past) (ends_of r))

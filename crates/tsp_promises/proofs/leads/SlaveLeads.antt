@@ -17,8 +17,9 @@ use Rattle.tsp_base.proofs.LeadsLemmas.{Leads_then, Leads_either, Leads_reading,
 use Rattle.tsp_promises.{specs.AckFits.Answers, proofs.leads.PostLeaves.Leads_posts, proofs.leads.PostLeaves.post_knows, proofs.leads.PostLeaves.post_message}
 use Rattle.tsp_promises.specs.CorrectFits.{ByMaster, amount_of, sets_time}
 use Rattle.tsp_promises.specs.StepFacts.{backed, owes, owes_after}
-use Rattle.tsp_promises.proofs.{leads.Known.Free, leads.Known.KnowsOf, leads.Known.Rests, shared.Printed.adjusts_prints, shared.Printed.flag_of, shared.Printed.sets_prints}
-use Rattle.tsp_promises.proofs.leads.Leaves.{correct, arm_elect, none-among}
+use Rattle.tsp_promises.proofs.{leads.Known.Free, leads.Known.KnowsOf, leads.Known.Rests, shared.Printed.adjusts_prints, shared.Printed.flag_of}
+use Rattle.tsp_promises.proofs.{shared.Printed.sets_prints}
+use Rattle.tsp_promises.proofs.leads.Leaves.{correct, arm_elect, none_among}
 use Rattle.tsp_promises.proofs.leads.Changes.{Quitting, quitting_of, back_other, quit_acked, quit_taken}
 use Rattle.tsp_promises.proofs.leads.CommonLeads.{arms_elect_keeps, arms_elect_during, tells_ticket_during, follow_leads, begins_conflict}
 use Rattle.tsp_promises.proofs.leads.TakenLeads.{Says, Heard, HeardIn, rests_of, ack_fits, quit_ack, quits_now}
@@ -96,9 +97,9 @@ election_leads p m kind other = Leads_either (may_back_at p) (puts (Back p) foll
     (Leads_posts p Refuse m.number (λ x past h. rests_of (post_message p (bare Refuse m.number past.name) refl tt h.0.0.just.free)))
 
 -- the last correction's tick, where there was one since the boot
-correct-cases : (ds : List Did) → ((correct_tick ds ≡ None) × (last_correct ds ≡ boot_tick ds)) ⊎ (correct_tick ds ≡ Some (last_correct ds))
-correct-cases [] = inl (refl, refl)
-correct-cases (d ∷ before) = by_deed d.deed (correct-cases before) where
+correct_cases : (ds : List Did) → ((correct_tick ds ≡ None) × (last_correct ds ≡ boot_tick ds)) ⊎ (correct_tick ds ≡ Some (last_correct ds))
+correct_cases [] = inl (refl, refl)
+correct_cases (d ∷ before) = by_deed d.deed (correct_cases before) where
   by_deed : (deed : Deed) → ((correct_tick before ≡ None) × (last_correct before ≡ boot_tick before)) ⊎ (correct_tick before ≡ Some (last_correct before)) →
       ((tick_in (correct_place_after deed (d ∷ before) (correct_place before)) ≡ None) × (last_correct_after deed d.tick (last_correct before) ≡
       boot_after deed d.tick (boot_tick before)))
@@ -109,7 +110,7 @@ correct-cases (d ∷ before) = by_deed d.deed (correct-cases before) where
 
 pub gap_of : (x : ℕ) (past : Past) → is_past (correct_tick (plain past.seen)) GAP x ≡ true → boot_tick (plain past.seen) + QUIET ≤ x →
     last_correct (plain past.seen) + GAP ≤ x
-gap_of x past e rested = elim (correct-cases (plain past.seen)) [
+gap_of x past e rested = elim (correct_cases (plain past.seen)) [
   | inl h ↦ let same = h.1 in omega (arith, same, rested)
   | inr h ↦ past_is (correct_tick (plain past.seen)) GAP x e (last_correct (plain past.seen)) h
 ]
@@ -120,9 +121,9 @@ no_close : (x : ℕ) (past : Past) (q : PeerId) → role past.seen ≡ Follow q 
 no_close x past q r h None e = e
 no_close x past q r h (Some at) e = let leads = (h.knows.round.closes refl at e).leads in let bad : ⊥ = cc in absurd bad
 
-is_by-is : (p : PeerId) (number : ℕ) (o : Option Correcting) → is_by p number o ≡ true → o ≡ Some (record { from = p; number = number })
-is_by-is p number None e = absurd (true≢false (sym e))
-is_by-is p number (Some c) e =
+is_by_is : (p : PeerId) (number : ℕ) (o : Option Correcting) → is_by p number o ≡ true → o ≡ Some (record { from = p; number = number })
+is_by_is p number None e = absurd (true≢false (sym e))
+is_by_is p number (Some c) e =
     let both = and_parts (c.from.0 == p.0) (c.number == number) e in
     let from : c.from ≡ p = same_peer c.from p both.0 in
     let count : c.number ≡ number = eqb-true c.number number both.1 in
@@ -150,7 +151,7 @@ module _ {p : PeerId} {m : MessageValue} where
       Leads P (acks_repeat p m.number) Rests
   unfolding acks_repeat
   acks_repeat_leads kind k = Leads_either (is_repeated p m.number) (posts p Ack m.number) nothing
-      (Leads_from (λ x past h. record { free = (k x past h.0).just.free; taken_is = is_by-is p m.number (last_taken past.seen) h.1 }) (obeyed_ack kind))
+      (Leads_from (λ x past h. record { free = (k x past h.0).just.free; taken_is = is_by_is p m.number (last_taken past.seen) h.1 }) (obeyed_ack kind))
       (idle_heard (λ x past h. k x past h.0))
 
   -- a correction of the followed master is obeyed
@@ -252,9 +253,9 @@ module _ {p : PeerId} {m : MessageValue} where
       not-standing : {B : Type 0} (q : PeerId) → Follow q ≡ Candidate → B
       not-standing q e = let bad : ⊥ = cc in absurd bad
 
-  acks-quit : (q : PeerId) (x : ℕ) (past : Past) → m.kind ≡ QuitKind → Staying (Some (record { from = p; message = m })) (Says p m) q x past →
+  acks_quit : (q : PeerId) (x : ℕ) (past : Past) → m.kind ≡ QuitKind → Staying (Some (record { from = p; message = m })) (Says p m) q x past →
       Staying None (Says p m) q x (grown x past (Post (Peer p) (Message (bare Ack m.number past.name)) ∷ []))
-  acks-quit q x past k h = record {
+  acks_quit q x past k h = record {
     quitting = quit_acked p m (bare Ack m.number past.name) refl refl (quit_ack past k h.quitting.took) h.quitting;
     knows = post_knows x past p (bare Ack m.number past.name) (λ r e. absurd (true≢false (sym e))) h.quitting.rested h.knows;
     role_is = h.role_is;
@@ -266,7 +267,7 @@ module _ {p : PeerId} {m : MessageValue} where
     fits = h.quitting.fits;
     knows = h.knows;
     backs = h.quitting.backs;
-    follows = λ r e. none-among r h.quitting.owed e;
+    follows = λ r e. none_among r h.quitting.owed e;
     paid = h.quitting.paid;
   }
 
@@ -277,7 +278,7 @@ module _ {p : PeerId} {m : MessageValue} where
       (posts p Ack m.number followed_by reading role_at (follows_unless p))
       (Leads_puts (Quit p) (λ x past h. stays q x past h k))
       (Leads_then {Q = Staying None (Says p m) q} (posts p Ack m.number) (reading role_at (follows_unless p))
-      (Leads_posts p Ack m.number (λ x past h. acks-quit q x past k h))
+      (Leads_posts p Ack m.number (λ x past h. acks_quit q x past k h))
       (Leads_reading role_at (follows_unless p) (λ a. record {
         run = λ x past h.
             let same : a ≡ Follow q = sym h.1 ∙ h.0.role_is in

@@ -22,21 +22,21 @@ sound_upsetting row k = record { run = λ x past h. ended x past (k.run x past h
   ended x past h true = rw added_append ((sound_built built_abandons_going).run x (grown x past (row x past)) h)
 
 -- what the rules post is sound
-pub answers-sound : AnswersAreSound
+pub answers_sound : AnswersAreSound
 unfolding answers input_row
-answers-sound Turn x past s h = (Leads_then due_sends (due_alarms followed_by nothing) sound_due_sends
+answers_sound Turn x past s h = (Leads_then due_sends (due_alarms followed_by nothing) sound_due_sends
     (Leads_then due_alarms nothing sound_alarms Leads_nothing)).run x past h
-answers-sound (Got from t) x past s h = (Leads_then due_sends (due_alarms followed_by upsetting (takes true true from t)) sound_due_sends
+answers_sound (Got from t) x past s h = (Leads_then due_sends (due_alarms followed_by upsetting (takes true true from t)) sound_due_sends
     (Leads_then due_alarms (upsetting (takes true true from t)) sound_alarms
     (sound_upsetting (takes true true from t) (sound_built (built_takes true true from t (comes_unchanged from) s tt (taken_ranges t s)))))).run x past h
 
 -- each act of a sound past is sound
-before-sound : (step : Step) (x : ℕ) (acts : List Act) (seen : List Seen) → AreSound (added step x acts seen) → AreSound seen
-before-sound step x [] seen h = h
-before-sound step x (a ∷ rest) seen h = (before-sound step x rest (Here (record { step = step; tick = x; deed = Acts a }) ∷ seen) h).1
+before_sound : (step : Step) (x : ℕ) (acts : List Act) (seen : List Seen) → AreSound (added step x acts seen) → AreSound seen
+before_sound step x [] seen h = h
+before_sound step x (a ∷ rest) seen h = (before_sound step x rest (Here (record { step = step; tick = x; deed = Acts a }) ∷ seen) h).1
 
 pub acts_sound : (step : Step) (x : ℕ) (acts : List Act) (seen : List Seen) → AreSound (added step x acts seen) → All IsSoundAct acts
 acts_sound step x [] seen h = All-nil IsSoundAct
 acts_sound step x (a ∷ rest) seen h =
     let now = Here (record { step = step; tick = x; deed = Acts a }) ∷ seen in
-    All-cons IsSoundAct a rest (before-sound step x rest now h).0 (acts_sound step x rest now h)
+    All-cons IsSoundAct a rest (before_sound step x rest now h).0 (acts_sound step x rest now h)

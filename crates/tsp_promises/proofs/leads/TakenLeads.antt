@@ -1,7 +1,7 @@
 -- The rows that take a message, of whichever role, keep what is known of a port.
 use Rattle.std.proofs.Common.{sym, subst, ap, true≢false, eqb-true, ◌∙◌, ◌≡◌, ◌≢◌, ℕ, ◌==◌, Bool, true, false, List, [], ◌∷◌, Option, None, Some, refl}
 use Rattle.std.proofs.lemmas.Bool.{and_parts, not-true}
-use Rattle.tsp_rules.proofs.{RowsOther.follows_unless-other, Asides.now, GuardFacts.stand_is, GuardFacts.awake_is, GuardFacts.master_is}
+use Rattle.tsp_rules.proofs.{RowsOther.follows_unless_other, Asides.now, GuardFacts.stand_is, GuardFacts.awake_is, GuardFacts.master_is}
 use Rattle.tsp_rules.specs.Values.{Post, Acked, Quit, Trace, Message, Stamp, Taken, Good, Kind, Ack, Election, QuitKind, PeerId, Place, Peer, Stranger, Role}
 use Rattle.tsp_rules.specs.Values.{Starting, Follow, Master, Request, Reply}
 use Rattle.tsp_rules.specs.CommonRows.{quits, follows_unless, follow_row, posts_reply, replies, master_name, names_master, says_master, traces, tests, is_awake}
@@ -19,7 +19,8 @@ use Rattle.tsp_promises.proofs.leads.PostLeaves.{post_back, post_reply, post_ear
 use Rattle.tsp_promises.proofs.leads.Known.{During, Free, Early, RestsIn, Rests}
 use Rattle.tsp_promises.proofs.leads.Changes.{rested_of, wake, Quitting, FreeIn, quit_acked, quit_taken, Is, JustTook}
 use Rattle.tsp_promises.proofs.shared.StrangerFacts.{master_named, own_named}
-use Rattle.tsp_promises.proofs.{leads.CommonLeads.follow_leads, leads.CommonLeads.candidature_leads, leads.Leaves.none-among, leads.Leaves.trace, leads.Leaves.acked}
+use Rattle.tsp_promises.proofs.{leads.CommonLeads.follow_leads, leads.CommonLeads.candidature_leads, leads.Leaves.none_among, leads.Leaves.trace}
+use Rattle.tsp_promises.proofs.{leads.Leaves.acked}
 
 -- what a step took from a peer: a message
 abbrev pub Says : PeerId → MessageValue → Option Received → Option Received → Type 0
@@ -27,7 +28,7 @@ Says p m = Is (Peer p) (Good (Message m))
 
 pub rests_of : {stirred awake : Bool} {T : Option Received → Option Received → Type 0} {x : ℕ} {past : Past} → During stirred awake false [] true T x past →
     RestsIn stirred x past
-rests_of h = record { fits = h.fits; knows = h.knows; backs = h.backs; follows = λ p e. none-among p h.owed e; paid = h.paid }
+rests_of h = record { fits = h.fits; knows = h.knows; backs = h.backs; follows = λ p e. none_among p h.owed e; paid = h.paid }
 
 -- a port that isn't Starting
 pub wake_role : {stirred awake owing acts : Bool} {follow : List PeerId} {T : Option Received → Option Received → Type 0} {x : ℕ} {past : Past} →
@@ -231,6 +232,6 @@ module _ {p : PeerId} {m : MessageValue} where
       (Leads_reading role_at (follows_unless p) (λ a. record {
         run = λ x past h.
             let same : a ≡ r = sym h.1 ∙ h.0.role_is in
-            let row : follows_unless p a ≡ follow_row p = follows_unless-other p a (λ q e. other q (sym same ∙ e)) in
+            let row : follows_unless p a ≡ follow_row p = follows_unless_other p a (λ q e. other q (sym same ∙ e)) in
             subst (λ s. Rests x (grown x past (s x past))) (sym row) (rests_follow follow p only ((follow_leads p).run x past h.0.quitting));
       })))

@@ -2,8 +2,8 @@
 use Rattle.std.proofs.Common.{sym, ap, subst, subst₂, inl, inr, ◌∙◌, ◌≡◌, List, [], ◌∷◌, Some, refl, arith, ◌≢◌, ℕ, ◌+◌, ◌<◌, ◌≤◌, length, is_some}
 use Rattle.tsp_rules.specs.Values.{Post, Good, PeerId, Peer, Become, Message, LoopKind, Hops, Place, Stranger, Loose, HOPS}
 use Rattle.tsp_base.specs.Words.{Acts, Line, of, dids, Within, Received, heard, peer_of, view, MessageValue}
-use Rattle.tsp_base.proofs.{PlaceLemmas.Within-through, PlaceLemmas.Within-tail, PlaceLemmas.Within-none, Views.plain_view}
-use Rattle.tsp_promises.proofs.shared.EverywhereLemmas.{Everywhere-at, Everywhere-from, Everywhere-within}
+use Rattle.tsp_base.proofs.{PlaceLemmas.Within_through, PlaceLemmas.Within_tail, PlaceLemmas.Within_none, Views.plain_view}
+use Rattle.tsp_promises.proofs.shared.EverywhereLemmas.{Everywhere_at, Everywhere_from, Everywhere_within}
 use Rattle.tsp_promises.proofs.promised.KnownProof.{heard_taken, known, step_at, took_deed, took_post}
 use Rattle.tsp_promises.specs.Looped.{ChainAt, GivesUpAt, HopsAt, IsLoopChain, Looped, LoopPost, SentBy}
 use Rattle.tsp_promises.specs.{Fits.Fits, Fits.node_of, Fits.LineFits, Setting.Setting, Setting.setup_of}
@@ -23,11 +23,11 @@ record Traced (setting : Setting) (x : LoopPost) : Type 0 where
   pub chain : IsLoopChain (x ∷ rest)
   pub named : Named setting x.message.name x.message.number (x ∷ rest)
 
-none-heard : (r : Received) → heard [] ≡ Some r → ⊥
-none-heard r e = cc
+none_heard : (r : Received) → heard [] ≡ Some r → ⊥
+none_heard r e = cc
 
-same-hops : (a b : ℕ) → Hops a ≡ Hops b → a ≡ b
-same-hops a b e = cc
+same_hops : (a b : ℕ) → Hops a ≡ Hops b → a ≡ b
+same_hops a b e = cc
 
 -- what the post of a LOOP owes
 loop_fits : (setting : Setting) (l : Line) (world : List Line) (to : PeerId) (m : MessageValue) → LineFits setting l world → l.did.deed ≡
@@ -37,15 +37,15 @@ loop_fits setting l world to m f deed kind =
     (deed_fits setting l world (Acts (Post (Peer to) (Message m))) deed f).fits
 
 -- it sets out here, or is passed on
-traced-by : (setting : Setting) (x : LoopPost) → Fits setting (x.post ∷ x.older) → Honest (x.post ∷ x.older) →
+traced_by : (setting : Setting) (x : LoopPost) → Fits setting (x.post ∷ x.older) → Honest (x.post ∷ x.older) →
     ((y : LoopPost) → Within (y.post ∷ y.older) x.older → Traced setting y) →
     LoopFits (setup_of setting (node_of x.post) x.post.port) (view x.post.port (of (node_of x.post) x.older)) x.message → Traced setting x
-traced-by setting x f honest trace (inl s) = record { rest = []; chain = same-hops x.hops HOPS (sym x.hops_is ∙ s.hops); named = (sym s.name, sym s.number) }
-traced-by setting x f honest trace (inr p) =
+traced_by setting x f honest trace (inl s) = record { rest = []; chain = same_hops x.hops HOPS (sym x.hops_is ∙ s.hops); named = (sym s.name, sym s.number) }
+traced_by setting x f honest trace (inr p) =
     let n = node_of x.post in
     let r : Received = record { from = Peer p.from; taken = Good (Message p.message) } in
     let took : heard (dids (of n x.older)) ≡ Some r = ap heard (sym (plain_view x.post.port (of n x.older))) ∙ p.took in
-    let at = step_at setting _ (λ t. heard (dids t) ≡ Some r) (of n x.older) (own_fits setting n x.older f.1) (λ e. none-heard r e)
+    let at = step_at setting _ (λ t. heard (dids t) ≡ Some r) (of n x.older) (own_fits setting n x.older f.1) (λ e. none_heard r e)
     (λ l t e. took_deed r l.did.deed (heard (dids t)) e) took in
     let k = took_post setting x.post x.older (Post (Peer x.to) (Message x.message)) p.from (Message p.message) _ f honest x.deed at at.is in
     let y : LoopPost = record {
@@ -59,7 +59,7 @@ traced-by setting x f honest trace (inr p) =
       hops_is = p.came;
     } in
     let t = trace y k.place in
-    let left : x.hops ≡ p.left = same-hops x.hops p.left (sym x.hops_is ∙ p.goes) in
+    let left : x.hops ≡ p.left = same_hops x.hops p.left (sym x.hops_is ∙ p.goes) in
     record {
       rest = y ∷ t.rest;
       chain = (
@@ -70,40 +70,40 @@ traced-by setting x f honest trace (inr p) =
     }
 
 traced : (setting : Setting) (t : List Line) → Fits setting t → Honest t → (x : LoopPost) → Within (x.post ∷ x.older) t → Traced setting x
-traced setting [] f h x w = Within-none x.post x.older w
+traced setting [] f h x w = Within_none x.post x.older w
 traced setting (l ∷ t) f h x (inr w) = traced setting t f.1 h.1 x w
 traced setting (l ∷ t) f h x (inl e) =
     let older : t ≡ x.older = cc in
-    traced-by setting x (subst (λ z. Fits setting z) (sym e) f) (subst (λ z. Honest z) (sym e) h)
+    traced_by setting x (subst (λ z. Fits setting z) (sym e) f) (subst (λ z. Honest z) (sym e) h)
     (λ y w. traced setting t f.1 h.1 y (subst (λ z. Within (y.post ∷ y.older) z) (sym older) w))
     (loop_fits setting x.post x.older x.to x.message (subst (λ z. Fits setting z) (sym e) f).0 x.deed x.kind)
 
 -- a chain is as long as its hops say
-chain-length : (x : LoopPost) (rest : List LoopPost) → IsLoopChain (x ∷ rest) → length (x ∷ rest) + x.hops ≡ HOPS + 1
-chain-length x [] c = omega (arith, c)
-chain-length x (y ∷ rest) c = omega (arith, c.1.0, chain-length y rest c.1.1)
+chain_length : (x : LoopPost) (rest : List LoopPost) → IsLoopChain (x ∷ rest) → length (x ∷ rest) + x.hops ≡ HOPS + 1
+chain_length x [] c = omega (arith, c)
+chain_length x (y ∷ rest) c = omega (arith, c.1.0, chain_length y rest c.1.1)
 
 -- a LOOP has few hops, to whomever it is posted
-hops-by : (setting : Setting) (l : Line) (world : List Line) (to : Place) (m : MessageValue) → LineFits setting l world → l.did.deed ≡
+hops_by : (setting : Setting) (l : Line) (world : List Line) (to : Place) (m : MessageValue) → LineFits setting l world → l.did.deed ≡
     Acts (Post to (Message m)) → m.kind ≡ LoopKind → (hops : ℕ) × ((m.body ≡ Hops hops) × (hops ≤ HOPS))
-hops-by setting l world Stranger m f deed kind =
+hops_by setting l world Stranger m f deed kind =
     absurd (subst (λ k. StrangerFits k l.did (view l.port (of (node_of l) world)) m.number) kind (deed_fits setting l world (Acts (Post Stranger (Message m)))
     deed f).fits.0)
-hops-by setting l world (Peer p) m f deed kind = of-fits (loop_fits setting l world p m f deed kind) where
-  of-fits : LoopFits (setup_of setting (node_of l) l.port) (view l.port (of (node_of l) world)) m → (hops : ℕ) × ((m.body ≡ Hops hops) × (hops ≤ HOPS))
-  of-fits (inl s) = (HOPS, (s.hops, omega arith))
-  of-fits (inr p) = (p.left, (p.goes, omega (arith, p.few)))
+hops_by setting l world (Peer p) m f deed kind = of_fits (loop_fits setting l world p m f deed kind) where
+  of_fits : LoopFits (setup_of setting (node_of l) l.port) (view l.port (of (node_of l) world)) m → (hops : ℕ) × ((m.body ≡ Hops hops) × (hops ≤ HOPS))
+  of_fits (inl s) = (HOPS, (s.hops, omega arith))
+  of_fits (inr p) = (p.left, (p.goes, omega (arith, p.few)))
 
 -- its post ends a chain
-chain-by : (setting : Setting) (l : Line) (world : List Line) → Fits setting (l ∷ world) → Honest (l ∷ world) → ChainAt l world
-chain-by setting l world f honest Stranger m deed kind =
+chain_by : (setting : Setting) (l : Line) (world : List Line) → Fits setting (l ∷ world) → Honest (l ∷ world) → ChainAt l world
+chain_by setting l world f honest Stranger m deed kind =
     absurd (subst (λ k. StrangerFits k l.did (view l.port (of (node_of l) world)) m.number) kind (deed_fits setting l world (Acts (Post Stranger (Message m)))
     deed f.0).fits.0)
-chain-by setting l world f honest (Peer p) m deed kind =
-    let h = hops-by setting l world (Peer p) m f.0 deed kind in
+chain_by setting l world f honest (Peer p) m deed kind =
+    let h = hops_by setting l world (Peer p) m f.0 deed kind in
     let x : LoopPost = record { post = l; older = world; to = p; message = m; deed = deed; kind = kind; hops = h.0; hops_is = h.1.0 } in
     let t = traced setting (l ∷ world) f honest x (inl refl) in
-    record { last = x; rest = t.rest; post_is = refl; older_is = refl; chain = t.chain; few = omega (arith, chain-length x t.rest t.chain) }
+    record { last = x; rest = t.rest; post_is = refl; older_is = refl; chain = t.chain; few = omega (arith, chain_length x t.rest t.chain) }
 
 -- the last post of these stands in the history
 abbrev Inside : List LoopPost → List Line → Type 0
@@ -111,23 +111,24 @@ Inside [] world = Unit {0}
 Inside (x ∷ rest) world = Within (x.post ∷ x.older) world
 
 -- a chain in the name of node n was begun by it, and passed on by others
-sent-by : (setting : Setting) (l : Line) (world : List Line) (number : ℕ) → NamesApartAt setting l world → number < l.port.0 → (chain : List LoopPost) →
+sent_by : (setting : Setting) (l : Line) (world : List Line) (number : ℕ) → NamesApartAt setting l world → number < l.port.0 → (chain : List LoopPost) →
     IsLoopChain chain → Named setting (setting.name (node_of l)) number chain → Inside chain world → SentBy (node_of l) l.port chain
-sent-by setting l world number apart below [] c named inside = c
-sent-by setting l world number apart below (first ∷ []) c named inside = (apart first.post first.older inside named.0, omega (arith, named.1))
-sent-by setting l world number apart below (late ∷ early ∷ rest) c named inside = (
+sent_by setting l world number apart below [] c named inside = c
+sent_by setting l world number apart below (first ∷ []) c named inside = (apart first.post first.older inside named.0, omega (arith, named.1))
+sent_by setting l world number apart below (late ∷ early ∷ rest) c named inside = (
   (λ e. named.0 (ap setting.name e)),
-  sent-by setting l world number apart below (early ∷ rest) c.1.1 named.1 (Within-through (early.post ∷
-      early.older) late.older world c.0.brings.place (Within-tail late.post late.older world inside)),
+  sent_by setting l world number apart below (early ∷ rest) c.1.1 named.1 (Within_through (early.post ∷
+      early.older) late.older world c.0.brings.place (Within_tail late.post late.older world inside)),
 )
 
-gives-up : (setting : Setting) (l : Line) (world : List Line) → Fits setting (l ∷ world) → Honest (l ∷ world) → NamesApartAt setting l world → GivesUpAt l world
-gives-up setting l world f honest apart deed leads =
+gives_up_holds : (setting : Setting) (l : Line) (world : List Line) → Fits setting (l ∷ world) → Honest (l ∷ world) → NamesApartAt setting l world →
+    GivesUpAt l world
+gives_up_holds setting l world f honest apart deed leads =
     let y : YieldFits (setup_of setting (node_of l) l.port) (view l.port (of (node_of l) world)) =
     deed_fits setting l world (Acts (Become Loose)) deed f.0 leads in
     let k = known setting l world (Become Loose) y.from (Message y.message) f honest deed y.took in
     let fk = fits_in setting k.post k.older world f.1 k.place in
-    let h = hops-by setting k.post k.older (Peer (peer_of (node_of l))) y.message fk k.deed y.kind in
+    let h = hops_by setting k.post k.older (Peer (peer_of (node_of l))) y.message fk k.deed y.kind in
     let x : LoopPost = record {
       post = k.post;
       older = k.older;
@@ -147,15 +148,16 @@ gives-up setting l world f honest apart deed leads =
         took = ap (λ o. is_some o) (heard_taken setting l.port _ (of (node_of l) world) (own_fits setting (node_of l) world f.1) y.took);
       };
       chain = t.chain;
-      sent = sent-by setting l world y.message.number apart y.number (x ∷ t.rest) t.chain (subst (λ name. Named setting name y.message.number (x ∷ t.rest))
+      sent = sent_by setting l world y.message.number apart y.number (x ∷ t.rest) t.chain (subst (λ name. Named setting name y.message.number (x ∷ t.rest))
           y.name t.named) k.place;
     }
 
 pub looped_in : (setting : Setting) (world : List Line) → Fits setting world → Looped setting world
 looped_in setting world f = record {
-  hops = Everywhere-from HopsAt world (λ l s w. λ to m deed kind. hops-by setting l s to m (fits_in setting l s world f w) deed kind);
-  chains = λ honest. Everywhere-from ChainAt world (λ l s w. chain-by setting l s (fits_at setting (l ∷ s) world f w) (Everywhere-within HonestAt (l ∷
+  hops = Everywhere_from HopsAt world (λ l s w. λ to m deed kind. hops_by setting l s to m (fits_in setting l s world f w) deed kind);
+  chains = λ honest. Everywhere_from ChainAt world (λ l s w. chain_by setting l s (fits_at setting (l ∷ s) world f w) (Everywhere_within HonestAt (l ∷
       s) world honest w));
-  gives_up = λ honest apart. Everywhere-from GivesUpAt world (λ l s w. gives-up setting l s (fits_at setting (l ∷ s) world f w) (Everywhere-within HonestAt (l ∷
-      s) world honest w) (Everywhere-at (NamesApartAt setting) l s world apart w));
+  gives_up = λ honest apart. Everywhere_from GivesUpAt world (λ l s w. gives_up_holds setting l s (fits_at setting (l ∷ s) world f w)
+      (Everywhere_within HonestAt (l ∷
+      s) world honest w) (Everywhere_at (NamesApartAt setting) l s world apart w));
 }

@@ -6,21 +6,21 @@ use Rattle.tsp_base.specs.Words.{Deed, Begins, Acts, Did, Line, of, dids, base, 
 use Rattle.tsp_base.specs.Words.{wall_after, rest_at, Within}
 use Rattle.tsp_promises.specs.{Fits.Fits, Fits.LineFits, Fits.Alive, Fits.node_of, Setting.Setting, ClockAt.left_at, ClockAt.shown_at}
 use Rattle.tsp_promises.proofs.promised.OwnFitsProof.{node_walk}
-use Rattle.tsp_promises.{proofs.shared.HistoryPlaces.of-own, proofs.shared.HistoryPlaces.Within-of, specs.ClockAt.clock, specs.ClockAt.clock_at}
+use Rattle.tsp_promises.{proofs.shared.HistoryPlaces.of_own, proofs.shared.HistoryPlaces.Within_of, specs.ClockAt.clock, specs.ClockAt.clock_at}
 
-base-deed : (setting : Setting) (d : Did) (t : List Did) (deed : Deed) → Alive setting deed d t → (up t ≡ true → base t ≡ setting.wall d.step.node (lives t)) →
+base_deed : (setting : Setting) (d : Did) (t : List Did) (deed : Deed) → Alive setting deed d t → (up t ≡ true → base t ≡ setting.wall d.step.node (lives t)) →
     up_after deed (up t) ≡ true →
     wall_after deed d.step.cause (wall t) -ℤ pos (boot_after deed d.tick (boot_tick t)) ≡ setting.wall d.step.node (lives_after deed (lives t))
-base-deed setting d t Begins a h u = h u
-base-deed setting d t (Acts Boot) a h u = rw a.1 (omega (arith, ints))
-base-deed setting d t (Acts act) a h u = h u
+base_deed setting d t Begins a h u = h u
+base_deed setting d t (Acts Boot) a h u = rw a.1 (omega (arith, ints))
+base_deed setting d t (Acts act) a h u = h u
 
 -- an uncorrected clock is the node's wall in this life and its ticks
 pub base_is : (setting : Setting) (n : ℕ) (world : List Line) → Fits setting world → up (dids (of n world)) ≡ true →
     base (dids (of n world)) ≡ setting.wall n (lives (dids (of n world)))
 base_is setting n = node_walk setting n (λ world own. up (dids own) ≡ true → base (dids own) ≡ setting.wall n (lives (dids own)))
     (λ u. absurd (true≢false (sym u)))
-    (λ l world f node h u. base-deed setting l.did (dids (of n world)) l.did.deed
+    (λ l world f node h u. base_deed setting l.did (dids (of n world)) l.did.deed
     (subst (λ k. Alive setting l.did.deed l.did (dids (of k world))) node f.0.alive) (λ e. h e ∙
     ap (λ k. setting.wall k (lives (dids (of n world)))) (sym node)) u
     ∙ ap (λ k. setting.wall k (lives_after l.did.deed (lives (dids (of n world))))) node)
@@ -36,13 +36,13 @@ pub offset_same : (setting : Setting) (n : ℕ) (s h : List Line) → lives (did
     offset setting n s ≡ offset setting n h
 offset_same setting n s h life still = subst₂ (λ x y. offset setting n s ≡ setting.wall n x +ℤ y) life still refl
 
-plus-more : (w a b : ℤ) → w +ℤ (a +ℤ b) ≡ (w +ℤ a) +ℤ b
-plus-more w a b = omega (arith, ints)
+plus_more : (w a b : ℤ) → w +ℤ (a +ℤ b) ≡ (w +ℤ a) +ℤ b
+plus_more w a b = omega (arith, ints)
 
 pub offset_more : (setting : Setting) (n : ℕ) (s h : List Line) (amount : ℤ) → lives (dids (of n s)) ≡ lives (dids (of n h)) →
     moved (dids (of n h)) ≡ moved (dids (of n s)) +ℤ amount → offset setting n h ≡ offset setting n s +ℤ amount
 offset_more setting n s h amount life more =
-    subst₂ (λ x y. setting.wall n x +ℤ y ≡ offset setting n s +ℤ amount) life (sym more) (plus-more (setting.wall n (lives (dids (of n s))))
+    subst₂ (λ x y. setting.wall n x +ℤ y ≡ offset setting n s +ℤ amount) life (sym more) (plus_more (setting.wall n (lives (dids (of n s))))
     (moved (dids (of n s))) amount)
 
 -- the clock before a line, at its time, is the target that its node's past gives
@@ -61,23 +61,23 @@ pub clock_post : (setting : Setting) (l : Line) (world : List Line) (to : Place)
     Acts (Post to datagram) →
     clock setting (node_of l) (l ∷ world) ≡ target (dids (of (node_of l) world)) l.did.tick
 clock_post setting l world to datagram f e =
-    let own = of-own (node_of l) l world refl in
+    let own = of_own (node_of l) l world refl in
     let still : moved (dids (l ∷ of (node_of l) world)) ≡ moved (dids (of (node_of l) world)) = rw e refl in
     let life : lives (dids (l ∷ of (node_of l) world)) ≡ lives (dids (of (node_of l) world)) = rw e refl in
     rw (own, still, life) (target_is setting l world f (post_up setting l world to datagram f.0 e))
 
-up-deed : (deed : Deed) (b : _) → b ≡ true → up_after deed b ≡ true
-up-deed (Acts Boot) b e = refl
-up-deed _ b e = e
+up_deed : (deed : Deed) (b : _) → b ≡ true → up_after deed b ≡ true
+up_deed (Acts Boot) b e = refl
+up_deed _ b e = e
 
-up-lines : (s t : List Line) → Within s t → up (dids s) ≡ true → up (dids t) ≡ true
-up-lines s [] w e = subst (λ k. up (dids k) ≡ true) w e
-up-lines s (l ∷ t) (inl w) e = subst (λ k. up (dids k) ≡ true) w e
-up-lines s (l ∷ t) (inr w) e = up-deed l.did.deed (up (dids t)) (up-lines s t w e)
+up_lines : (s t : List Line) → Within s t → up (dids s) ≡ true → up (dids t) ≡ true
+up_lines s [] w e = subst (λ k. up (dids k) ≡ true) w e
+up_lines s (l ∷ t) (inl w) e = subst (λ k. up (dids k) ≡ true) w e
+up_lines s (l ∷ t) (inr w) e = up_deed l.did.deed (up (dids t)) (up_lines s t w e)
 
 -- a node that has booted stays so
 pub stays_up : (n : ℕ) (s t : List Line) → Within s t → up (dids (of n s)) ≡ true → up (dids (of n t)) ≡ true
-stays_up n s t w e = up-lines (of n s) (of n t) (Within-of n s t w) e
+stays_up n s t w e = up_lines (of n s) (of n t) (Within_of n s t w) e
 
 -- its clock is its target
 pub clock_target : (setting : Setting) (n : ℕ) (h : List Line) (t : ℕ) → Fits setting h → up (dids (of n h)) ≡ true → clock_at setting n h t ≡

@@ -6,10 +6,11 @@ use Rattle.tsp_rules.specs.Values.{Took, Port, Act, Post, Datagram, Taken, Good,
 use Rattle.tsp_base.specs.Words.{Begins, Acts, Deed, Line, dids, view, seen_as, is_shared, Received, taken, taken_after, heard, Cause, Came, Handed, Step, Seen}
 use Rattle.tsp_base.specs.Words.{Here}
 use Rattle.tsp_base.specs.Words.{Elsewhere, of, Within, Receives, peer_of, posted}
-use Rattle.tsp_base.proofs.{PlaceLemmas.Within-through, PlaceLemmas.Within-tail, ViewPlaces.port-same, ViewPlaces.or-false, Views.plain_view}
+use Rattle.tsp_base.proofs.{PlaceLemmas.Within_through, PlaceLemmas.Within_tail, ViewPlaces.port_same, ViewPlaces.or-false, Views.plain_view}
 use Rattle.tsp_promises.specs.{Fits.Fits, Fits.SameStep, Fits.TookFits, Fits.node_of, OwnFits.OwnFits, OwnFits.OwnLineFits, Premises.Honest, Premises.HonestAt}
-use Rattle.tsp_promises.{proofs.promised.OwnFitsProof.own_deed, proofs.promised.OwnFitsProof.own_fits, proofs.promised.OwnFitsProof.fits_in, specs.Setting.Setting}
-use Rattle.tsp_promises.proofs.{shared.EverywhereLemmas.Everywhere-at, shared.HistoryPlaces.lift, shared.HistoryPlaces.of-own, shared.HistoryPlaces.line_on}
+use Rattle.tsp_promises.{proofs.promised.OwnFitsProof.own_deed, proofs.promised.OwnFitsProof.own_fits, proofs.promised.OwnFitsProof.fits_in}
+use Rattle.tsp_promises.{specs.Setting.Setting}
+use Rattle.tsp_promises.proofs.{shared.EverywhereLemmas.Everywhere_at, shared.HistoryPlaces.lift, shared.HistoryPlaces.of_own, shared.HistoryPlaces.line_on}
 
 -- the deeds' newest line is of this step
 abbrev pub InStep : List Line → Step → Type 0
@@ -17,17 +18,17 @@ InStep [] step = ⊥
 InStep (l ∷ before) step = l.did.step ≡ step
 
 -- of an act, the line before is of its step
-pub in-step : (a : Act) (s : Step) (t : List Line) → SameStep (Acts a) s (dids t) → InStep t s
-in-step a s [] e = e
-in-step a s (x ∷ t) e = e
+pub in_step_holds : (a : Act) (s : Step) (t : List Line) → SameStep (Acts a) s (dids t) → InStep t s
+in_step_holds a s [] e = e
+in_step_holds a s (x ∷ t) e = e
 
 -- and so is the line before of its node
-pub own-in-step : (n : ℕ) (s : Step) (world : List Line) → s.node ≡ n → InStep world s → InStep (of n world) s
-own-in-step n s [] same e = absurd e
-own-in-step n s (x ∷ world) same e = rw (of-own n x world (ap (λ (k : Step). k.node) e ∙ same)) e
+pub own_in_step : (n : ℕ) (s : Step) (world : List Line) → s.node ≡ n → InStep world s → InStep (of n world) s
+own_in_step n s [] same e = absurd e
+own_in_step n s (x ∷ world) same e = rw (of_own n x world (ap (λ (k : Step). k.node) e ∙ same)) e
 
-pub line-is : (l : Line) (q : Port) → l.port ≡ q → line_on q l.did ≡ l
-line-is l q e = subst (λ p. line_on p l.did ≡ l) e refl
+pub line_is : (l : Line) (q : Port) → l.port ≡ q → line_on q l.did ≡ l
+line_is l q e = subst (λ p. line_on p l.did ≡ l) e refl
 
 -- where a line of this step stands of which P holds
 pub record StepAt (P : Line → Type 0) (t : List Line) : Type 0 where
@@ -50,7 +51,7 @@ step_at setting P Q (l ∷ t) f none split h = elim (split l t h) [
   | inr m ↦
       let o = step_at setting P Q t f.1 none split m.1 in
       let same = subst (λ k. SameStep k l.did.step (dids t)) m.0.1 f.0.step in
-      record { line = o.line; rest = o.rest; place = inr o.place; is = o.is; step = λ s i. o.step l.did.step (in-step m.0.0 l.did.step t same) ∙ i }
+      record { line = o.line; rest = o.rest; place = inr o.place; is = o.is; step = λ s i. o.step l.did.step (in_step_holds m.0.0 l.did.step t same) ∙ i }
 ]
 
 -- what a port sees is made true by a line of its own, or was true before and the step goes on
@@ -58,18 +59,18 @@ pub port_split : (q : Port) (mark : Act) (Q : List Seen → Type 0) (l : Line) (
     (Q (Here l.did ∷ view q t) → (l.did.deed ≡ Acts mark) ⊎ (GoesOn l.did.deed × Q (view q t))) → (Q (Elsewhere l.did ∷ view q t) → Q (view q t)) →
     Q (view q (l ∷ t)) →
     ((l.port ≡ q) × (l.did.deed ≡ Acts mark)) ⊎ (GoesOn l.did.deed × Q (view q t))
-port_split q mark Q l t own here there = by-port ((l.port.0 == q.0) || is_shared l.did.deed) refl where
+port_split q mark Q l t own here there = by_port ((l.port.0 == q.0) || is_shared l.did.deed) refl where
   unshared : (deed : Deed) → ((l.port.0 == q.0) || is_shared deed) ≡ false → GoesOn deed
   unshared Begins e = absurd (true≢false (sym (or-true (l.port.0 == q.0)) ∙ e))
   unshared (Acts a) e = (a, refl)
 
-  by-port : (b : Bool) → ((l.port.0 == q.0) || is_shared l.did.deed) ≡ b → Q (seen_as b l.did ∷ view q t) →
+  by_port : (b : Bool) → ((l.port.0 == q.0) || is_shared l.did.deed) ≡ b → Q (seen_as b l.did ∷ view q t) →
       ((l.port ≡ q) × (l.did.deed ≡ Acts mark)) ⊎ (GoesOn l.did.deed × Q (view q t))
-  by-port true b h = elim (here h) [
-    | inl is ↦ inl (port-same l.port q (or-false (l.port.0 == q.0) (is_shared l.did.deed) b (ap is_shared is ∙ own)), is)
+  by_port true b h = elim (here h) [
+    | inl is ↦ inl (port_same l.port q (or-false (l.port.0 == q.0) (is_shared l.did.deed) b (ap is_shared is ∙ own)), is)
     | inr m ↦ inr m
   ]
-  by-port false b h = inr (unshared l.did.deed b, there h)
+  by_port false b h = inr (unshared l.did.deed b, there h)
 
 -- what was taken is what a Took says, or was taken before it
 pub took_deed : (r : Received) (deed : Deed) (o : Option Received) → taken_after deed o ≡ Some r →
@@ -110,31 +111,31 @@ pub record Known (setting : Setting) (l : Line) (q : Port) (world : List Line) (
   pub node : peer_of (node_of post) ≡ from
   pub net : setting.net (node_of post) post.port ≡ setting.net (node_of l) q
 
-same-place : (p q : PeerId) → Peer p ≡ Peer q → p ≡ q
-same-place p q e = cc
+same_place : (p q : PeerId) → Peer p ≡ Peer q → p ≡ q
+same_place p q e = cc
 
-same-good : (d e : Datagram) → Good d ≡ Good e → d ≡ e
-same-good d e h = cc
+same_good : (d e : Datagram) → Good d ≡ Good e → d ≡ e
+same_good d e h = cc
 
 -- by the cause of the step
-known-by : (setting : Setting) (l : Line) (world : List Line) (from : PeerId) (datagram : Datagram) (x : Line) (older : List Line) (cause : Cause) →
+known_by : (setting : Setting) (l : Line) (world : List Line) (from : PeerId) (datagram : Datagram) (x : Line) (older : List Line) (cause : Cause) →
     x.did.step ≡ l.did.step → cause ≡ l.did.step.cause → Within (x ∷ older) world →
     HonestAt x older → x.did.deed ≡ Acts (Took (Peer from) (Good datagram)) → TookFits cause setting x older (Peer from) (Good datagram) →
     Known setting l x.port world from datagram
-known-by setting l world from datagram x older Handed step is w h deed f = absurd (h (ap (λ (s : Step). s.cause) step ∙ sym is) from (Good datagram) deed)
-known-by setting l world from datagram x older (Came k) step is w h deed f =
+known_by setting l world from datagram x older Handed step is w h deed f = absurd (h (ap (λ (s : Step). s.cause) step ∙ sym is) from (Good datagram) deed)
+known_by setting l world from datagram x older (Came k) step is w h deed f =
     let node : node_of x ≡ node_of l = ap (λ (s : Step). s.node) step in
-    let same : datagram ≡ f.datagram = same-good datagram f.datagram f.taken_is in
+    let same : datagram ≡ f.datagram = same_good datagram f.datagram f.taken_is in
     record {
       post = f.post;
       older = f.older;
-      place = Within-through (f.post ∷ f.older) older world f.place (Within-tail x older world w);
+      place = Within_through (f.post ∷ f.older) older world f.place (Within_tail x older world w);
       takes = sym is ∙ ap Came (sym f.number);
       deed = subst₂ (λ n d. f.post.did.deed ≡ Acts (Post (Peer (peer_of n)) d)) node (sym same) f.deed;
-      node = sym (same-place from (peer_of (node_of f.post)) f.from_is);
+      node = sym (same_place from (peer_of (node_of f.post)) f.from_is);
       net = subst (λ n. setting.net (node_of f.post) f.post.port ≡ setting.net n x.port) node f.net;
     }
-known-by setting l world from datagram x older _ step is w h deed f = absurd f
+known_by setting l world from datagram x older _ step is w h deed f = absurd f
 
 -- an act comes after its step's Took
 pub took_post : (setting : Setting) (l : Line) (world : List Line) (a : Act) (from : PeerId) (datagram : Datagram) (P : Line → Type 0) →
@@ -144,10 +145,10 @@ took_post setting l world a from datagram P f h act t deed =
     let n = node_of l in
     let x = lift n world t.line t.rest t.place in
     let same : SameStep (Acts a) l.did.step (dids world) = subst (λ k. SameStep k l.did.step (dids world)) act f.0.step in
-    let step : t.line.did.step ≡ l.did.step = t.step l.did.step (own-in-step n l.did.step world refl (in-step a l.did.step world same)) in
+    let step : t.line.did.step ≡ l.did.step = t.step l.did.step (own_in_step n l.did.step world refl (in_step_holds a l.did.step world same)) in
     let fits = fits_in setting t.line x.world world f.1 x.place in
-    known-by setting l world from datagram t.line x.world t.line.did.step.cause step (ap (λ (s : Step). s.cause) step) x.place
-    (Everywhere-at HonestAt t.line x.world world h.1 x.place) deed (fits.took (Peer from) (Good datagram) deed)
+    known_by setting l world from datagram t.line x.world t.line.did.step.cause step (ap (λ (s : Step). s.cause) step) x.place
+    (Everywhere_at HonestAt t.line x.world world h.1 x.place) deed (fits.took (Peer from) (Good datagram) deed)
 
 -- what its port has taken in the step
 pub known : (setting : Setting) (l : Line) (world : List Line) (a : Act) (from : PeerId) (datagram : Datagram) → Fits setting (l ∷ world) →

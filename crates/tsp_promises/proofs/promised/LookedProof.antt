@@ -3,7 +3,8 @@ use Rattle.std.proofs.Common.{sym, arith, subst, mul-le-mul_left, ◌≡◌, ℕ
 use Rattle.std.proofs.lemmas.Int.{ints}
 use Rattle.tsp_base.specs.Words.{Line, width}
 use Rattle.tsp_promises.specs.Looked.{Look, width_by_ticks, IsAhead, Looked}
-use Rattle.tsp_promises.{proofs.shared.Clocks.tick-mono, proofs.promised.ClockProof.offset, proofs.shared.MasterMoved.offset_kept, specs.Fits.Fits, specs.Setting.Setting}
+use Rattle.tsp_promises.{proofs.shared.Clocks.tick_mono, proofs.promised.ClockProof.offset, proofs.shared.MasterMoved.offset_kept, specs.Fits.Fits}
+use Rattle.tsp_promises.{specs.Setting.Setting}
 
 -- the drift of a span, rounded up
 abbrev part : ℕ → ℕ → ℕ
@@ -18,8 +19,8 @@ sharp_over setting n a b o =
     (let k = setting.ticks n in (k.fast a (b - a), k.slow a (b - a)))
 
 -- the drift of a span is no more than that of a longer one
-part-mono : (p x y : ℕ) → x ≤ y → part p x ≤ part p y
-part-mono p x y h = let m : p * x ≤ p * y = mul-le-mul_left p h in omega arith
+part_mono : (p x y : ℕ) → x ≤ y → part p x ≤ part p y
+part_mono p x y h = let m : p * x ≤ p * y = mul-le-mul_left p h in omega arith
 
 -- a span whose ticks are x or fewer drifts by no more than the ticks tell, for 100 s
 by_ticks : (p y x : ℕ) → p ≤ 1000 → y ≤ x + part p y → x ≤ 100000000 → part p y ≤ width_by_ticks p x
@@ -41,9 +42,9 @@ apart : (w v : ℤ) (kf kl kt mm mt span e b : ℕ) →
     (((v +ℤ pos mt) -ℤ (w +ℤ pos kt)) ≤ℤ (((v +ℤ pos mm) -ℤ (w +ℤ pos kf)) +ℤ pos (2 * b)))
 apart w v kf kl kt mm mt span e b f l up down kup kdown le = (omega (arith, ints), omega (arith, ints))
 
-looked-from : (setting : Setting) (h : List Line) → Fits setting h → (k m t : ℕ) (look : Look k m h t) (b : ℕ) → part setting.drift (t - look.middle) ≤ b →
+looked_from : (setting : Setting) (h : List Line) → Fits setting h → (k m t : ℕ) (look : Look k m h t) (b : ℕ) → part setting.drift (t - look.middle) ≤ b →
     IsAhead setting look b
-looked-from setting h fits k m t look b le =
+looked_from setting h fits k m t look b le =
     let kb = offset_kept setting k look.before h fits look.own_before.within look.own_before.since in
     let ka = offset_kept setting k look.after h fits look.own_after.within look.own_after.since in
     let mt = offset_kept setting m look.there h fits look.other.within look.other.since in
@@ -53,10 +54,10 @@ looked-from setting h fits k m t look b le =
     let mine = sharp_over setting m look.middle t n in
     let mid = sharp_over setting k look.middle t n in
     let late = sharp_over setting k look.last t look.passed in
-    let less : part setting.drift (t - look.last) ≤ e = part-mono setting.drift (t - look.last) span (let j = look.ends in omega arith) in
-    let first = tick-mono setting k look.first look.middle look.begins in
-    let second = tick-mono setting k look.middle look.last look.ends in
-    let third = tick-mono setting k look.last t look.passed in
+    let less : part setting.drift (t - look.last) ≤ e = part_mono setting.drift (t - look.last) span (let j = look.ends in omega arith) in
+    let first = tick_mono setting k look.first look.middle look.begins in
+    let second = tick_mono setting k look.middle look.last look.ends in
+    let third = tick_mono setting k look.last t look.passed in
     let kup : setting.tick k t ≤ setting.tick k look.last + span + e = let j = look.ends in omega (arith, late.0, less) in
     let kdown : setting.tick k look.first + span ≤ setting.tick k t + e = omega (arith, mid.1, first) in
     rw kb (rw ka (rw mt (
@@ -67,14 +68,14 @@ looked-from setting h fits k m t look b le =
 
 pub looked : (setting : Setting) (h : List Line) → Fits setting h → Looked setting h
 looked setting h fits k m t look = (
-  looked-from setting h fits k m t look (width setting.drift (t - look.middle)) (omega arith),
-  λ x is short. looked-from setting h fits k m t look (width_by_ticks setting.drift x)
+  looked_from setting h fits k m t look (width setting.drift (t - look.middle)) (omega arith),
+  λ x is short. looked_from setting h fits k m t look (width_by_ticks setting.drift x)
       (by_ticks setting.drift (t - look.middle) x setting.small (subst (λ y. t - look.middle ≤ y + part setting.drift (t - look.middle)) (sym is) reach) short),
 ) where
   reach : t - look.middle ≤ (setting.tick k t - setting.tick k look.first) + part setting.drift (t - look.middle)
   reach =
       let n : look.middle ≤ t = let i = look.begins in let j = look.ends in let q = look.passed in omega arith in
       let mid = sharp_over setting k look.middle t n in
-      let first = tick-mono setting k look.first look.middle look.begins in
-      let all = tick-mono setting k look.middle t n in
+      let first = tick_mono setting k look.first look.middle look.begins in
+      let all = tick_mono setting k look.middle t n in
       omega (arith, mid.1, first, all)

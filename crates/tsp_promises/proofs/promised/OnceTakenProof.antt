@@ -7,13 +7,14 @@ use Rattle.tsp_rules.specs.Values.{LIFE}
 use Rattle.tsp_base.specs.Words.{Cause, Came, Handed, Acts, Did, Line, Seen, Here, Step, of, dids, plain, view, MessageValue, all_corrects, corrects, word}
 use Rattle.tsp_base.specs.Words.{boot_tick, tick_of, ticket, target, Within, role, taken, Dating, is_correction, is_date_request, last_date, sets_date}
 use Rattle.tsp_base.specs.Words.{Receives, TakesFrom, heard, peer_of, posted, time_in, is_numbered}
-use Rattle.tsp_base.proofs.{PlaceLemmas.Within-through, PlaceLemmas.Within-tail, Views.plain_view}
+use Rattle.tsp_base.proofs.{PlaceLemmas.Within_through, PlaceLemmas.Within_tail, Views.plain_view}
 use Rattle.tsp_promises.specs.CorrectFits.{WhyCorrect, ByRound, ByMaster, ByDate, TakesCorrection, amount_of, CorrectFits}
-use Rattle.tsp_promises.proofs.promised.OwnFitsProof.{locate, fits_in, own-step, tick_in, own_fits, fits_at, place-time, deed_fits, own_tick}
+use Rattle.tsp_promises.proofs.promised.OwnFitsProof.{locate, fits_in, own_step, tick_in, own_fits, fits_at, place_time, deed_fits, own_tick}
 use Rattle.tsp_promises.specs.{Once.Brings, Once.ActsOn, Once.OfSend, Once.OnceAt, Once.OnceCorrected, Setting.Setting, Setting.setup_of}
 use Rattle.tsp_promises.specs.{Fits.Fits, Fits.SameStep, Fits.TookFits, Fits.node_of, Premises.Life, Premises.TakenWithinAt, Since.Since}
-use Rattle.tsp_promises.proofs.{shared.Clocks.near, shared.SendPlaces.post_unique, shared.SendPlaces.same-number, shared.SendPlaces.SendPlace, shared.SendPlaces.send_place}
-use Rattle.tsp_promises.proofs.{shared.EverywhereLemmas.Everywhere-from, shared.EverywhereLemmas.Everywhere-within, promised.SinceProof.since}
+use Rattle.tsp_promises.proofs.{shared.Clocks.near, shared.SendPlaces.post_unique, shared.SendPlaces.same_number, shared.SendPlaces.SendPlace}
+use Rattle.tsp_promises.proofs.{shared.SendPlaces.send_place}
+use Rattle.tsp_promises.proofs.{shared.EverywhereLemmas.Everywhere_from, shared.EverywhereLemmas.Everywhere_within, promised.SinceProof.since}
 use Rattle.tsp_promises.proofs.shared.HistoryPlaces.{line_on, own_in}
 
 -- a Correct in a step that has taken this correction of p
@@ -22,8 +23,8 @@ pub record TakesOf (here : Did) (seen : List Seen) (amount : ℤ) (p : PeerId) (
   pub amount_is : amount ≡ amount_of m.kind (time_in m.body) (target (plain seen) here.tick)
   pub follows : role seen ≡ Follow p
 
-pub taken-of : (here : Did) (seen : List Seen) (amount : ℤ) (t : TakesCorrection here seen amount) → Receives seen t.from (Message t.message)
-taken-of here seen amount t = ap taken t.is ∙ rw t.deed refl
+pub taken_of : (here : Did) (seen : List Seen) (amount : ℤ) (t : TakesCorrection here seen amount) → Receives seen t.from (Message t.message)
+taken_of here seen amount t = ap taken t.is ∙ rw t.deed refl
 
 -- what a Took shows is what its step brings
 pub record Shows (setting : Setting) (x : Line) (from : Place) (m : MessageValue) (post : Line) (brought : MessageValue) : Type 0 where
@@ -31,28 +32,28 @@ pub record Shows (setting : Setting) (x : Line) (from : Place) (m : MessageValue
   pub message_is : m ≡ brought
   pub net : setting.net (node_of post) post.port ≡ setting.net (node_of x) x.port
 
-same-datagram : (p q : Place) (d e : Datagram) → Acts (Post p d) ≡ Acts (Post q e) → d ≡ e
-same-datagram p q d e h = cc
+same_datagram : (p q : Place) (d e : Datagram) → Acts (Post p d) ≡ Acts (Post q e) → d ≡ e
+same_datagram p q d e h = cc
 
-same-read : (m n : MessageValue) (d : Datagram) → Good (Message m) ≡ Good d → d ≡ Message n → m ≡ n
-same-read m n d e h = cc
+same_read : (m n : MessageValue) (d : Datagram) → Good (Message m) ≡ Good d → d ≡ Message n → m ≡ n
+same_read m n d e h = cc
 
-took-came : (setting : Setting) (x : Line) (rest world : List Line) (post : Line) (older : List Line) (to from : Place) (m brought : MessageValue)
+took_came : (setting : Setting) (x : Line) (rest world : List Line) (post : Line) (older : List Line) (to from : Place) (m brought : MessageValue)
     (cause : Cause) → cause ≡ Came (posted (dids older)) → Within (x ∷ rest) world → Within (post ∷ older) world →
     post.did.deed ≡ Acts (Post to (Message brought)) → TookFits cause setting x rest from (Good (Message m)) → Shows setting x from m post brought
-took-came setting x rest world post older to from m brought Handed is w v deed f = let bad : ⊥ = cc in absurd bad
-took-came setting x rest world post older to from m brought (Came k) is w v deed f =
-    let place = Within-through (f.post ∷ f.older) rest world f.place (Within-tail x rest world w) in
+took_came setting x rest world post older to from m brought Handed is w v deed f = let bad : ⊥ = cc in absurd bad
+took_came setting x rest world post older to from m brought (Came k) is w v deed f =
+    let place = Within_through (f.post ∷ f.older) rest world f.place (Within_tail x rest world w) in
     let same = post_unique world f.post post f.older older (Peer (peer_of (node_of x))) to f.datagram (Message brought) place v f.deed deed (f.number ∙
-    same-number k (posted (dids older)) is) in
+    same_number k (posted (dids older)) is) in
     let line : f.post ≡ post = cc in
-    let datagram = same-datagram (Peer (peer_of (node_of x))) to f.datagram (Message brought) (sym f.deed ∙ (ap (λ (z : Line). z.did.deed) line ∙ deed)) in
+    let datagram = same_datagram (Peer (peer_of (node_of x))) to f.datagram (Message brought) (sym f.deed ∙ (ap (λ (z : Line). z.did.deed) line ∙ deed)) in
     record {
       from_is = f.from_is ∙ ap (λ (z : Line). Peer (peer_of (node_of z))) line;
-      message_is = same-read m brought f.datagram f.taken_is datagram;
+      message_is = same_read m brought f.datagram f.taken_is datagram;
       net = subst (λ (z : Line). setting.net (node_of z) z.port ≡ setting.net (node_of x) x.port) line f.net;
     }
-took-came setting x rest world post older to from m brought _ is w v deed f = absurd f
+took_came setting x rest world post older to from m brought _ is w v deed f = absurd f
 
 -- the Took right before an act shows what the step brings
 shows : (setting : Setting) (l : Line) (world : List Line) (a : Act) (post : Line) (older : List Line) (took : Did) (past : List Seen) (from : Place)
@@ -63,25 +64,25 @@ shows setting l world a post older took past from m f act b is deed =
     let n = node_of l in
     let x = locate n l.port world took past (rw deed refl) (subst (λ s. Within (Here took ∷ past) s) (sym is) (inl refl)) in
     let fits = fits_in setting (line_on l.port took) x.older world f.1 x.place in
-    let own : SameStep l.did.deed l.did.step (dids (of n world)) = own-step l.did.deed l.did.step n world refl f.0.step in
+    let own : SameStep l.did.deed l.did.step (dids (of n world)) = own_step l.did.deed l.did.step n world refl f.0.step in
     let dids_is : dids (of n world) ≡ took ∷ plain past = sym (plain_view l.port (of n world)) ∙ ap plain is in
     let step : took.step ≡ l.did.step = subst₂ (λ d t. SameStep d l.did.step t) act dids_is own in
     let cause : took.step.cause ≡ Came (posted (dids older)) = ap (λ (s : Step). s.cause) step ∙ b.cause in
-    let s = took-came setting (line_on l.port took) x.older world post older (Peer (peer_of n)) from m b.message took.step.cause cause x.place b.place b.deed
+    let s = took_came setting (line_on l.port took) x.older world post older (Peer (peer_of n)) from m b.message took.step.cause cause x.place b.place b.deed
     (fits.took from (Good (Message m)) deed) in
     record { from_is = s.from_is; message_is = s.message_is; net = subst (λ k. setting.net (node_of post) post.port ≡ setting.net k l.port) x.node s.net }
 
 -- a Correct at a round's end has taken nothing
-none-heard : (l : Line) (world : List Line) → heard (plain (view l.port (of (node_of l) world))) ≡ None → is_some (heard (dids (of (node_of l) world))) ≡ true →
+none_heard : (l : Line) (world : List Line) → heard (plain (view l.port (of (node_of l) world))) ≡ None → is_some (heard (dids (of (node_of l) world))) ≡ true →
     ⊥
-none-heard l world e h = true≢false (sym h ∙ ap (λ k. is_some k) (ap heard (sym (plain_view l.port (of (node_of l) world))) ∙ e))
+none_heard l world e h = true≢false (sym h ∙ ap (λ k. is_some k) (ap heard (sym (plain_view l.port (of (node_of l) world))) ∙ e))
 
 -- what is heard in the step of a Correct that takes a post is its message
 pub heard_as : (setting : Setting) (l : Line) (world : List Line) (post : Line) (older : List Line) (a : Act) (amount : ℤ) → Fits setting (l ∷ world) →
     l.did.deed ≡ Acts a → (b : Brings l world post older) → is_some (heard (dids (of (node_of l) world))) ≡ true →
     WhyCorrect (setup_of setting (node_of l) l.port) l.did (view l.port (of (node_of l) world)) amount → (from : Place) ×
     (heard (plain (view l.port (of (node_of l) world))) ≡ Some (record { from = from; taken = Good (Message b.message) }))
-heard_as setting l world post older a amount f act b h (ByRound r) = absurd (none-heard l world r.untaken h)
+heard_as setting l world post older a amount f act b h (ByRound r) = absurd (none_heard l world r.untaken h)
 heard_as setting l world post older a amount f act b h (ByDate t) =
     let s = shows setting l world a post older t.took t.past t.from t.message f act b t.is t.deed in
     (t.from, ap (λ v. heard (plain v)) t.is ∙ (rw t.deed refl ∙ ap (λ m. Some (record { from = t.from; taken = Good (Message m) })) s.message_is))
@@ -89,19 +90,19 @@ heard_as setting l world post older a amount f act b h (ByMaster t) =
     let s = shows setting l world a post older t.took t.past (Peer t.from) t.message f act b t.is t.deed in
     (Peer t.from, ap (λ v. heard (plain v)) t.is ∙ (rw t.deed refl ∙ ap (λ m. Some (record { from = Peer t.from; taken = Good (Message m) })) s.message_is))
 
-pub no-correction : (k : Kind) → sets_date k ≡ true → is_correction k ≡ true → ⊥
-no-correction AdjTime e c = true≢false (sym e)
-no-correction SetTime e c = true≢false (sym e)
-no-correction _ e c = true≢false (sym c)
+pub no_correction : (k : Kind) → sets_date k ≡ true → is_correction k ≡ true → ⊥
+no_correction AdjTime e c = true≢false (sym e)
+no_correction SetTime e c = true≢false (sym e)
+no_correction _ e c = true≢false (sym c)
 
 pub takes_of : (setting : Setting) (l : Line) (world : List Line) (post : Line) (older : List Line) (a : Act) (amount : ℤ) → Fits setting (l ∷ world) →
     l.did.deed ≡ Acts a → (b : Brings l world post older) → is_some (heard (dids (of (node_of l) world))) ≡ true →
     is_correction b.message.kind ≡ true → WhyCorrect (setup_of setting (node_of l) l.port) l.did (view l.port (of (node_of l) world)) amount →
     TakesOf l.did (view l.port (of (node_of l) world)) amount (peer_of (node_of post)) b.message
-takes_of setting l world post older a amount f act b h kind (ByRound r) = absurd (none-heard l world r.untaken h)
+takes_of setting l world post older a amount f act b h kind (ByRound r) = absurd (none_heard l world r.untaken h)
 takes_of setting l world post older a amount f act b h kind (ByDate t) =
     let s = shows setting l world a post older t.took t.past t.from t.message f act b t.is t.deed in
-    absurd (no-correction b.message.kind (subst (λ (m : MessageValue). sets_date m.kind ≡ true) s.message_is t.kind) kind)
+    absurd (no_correction b.message.kind (subst (λ (m : MessageValue). sets_date m.kind ≡ true) s.message_is t.kind) kind)
 takes_of setting l world post older a amount f act b h kind (ByMaster t) =
     let seen = view l.port (of (node_of l) world) in
     let s = shows setting l world a post older t.took t.past (Peer t.from) t.message f act b t.is t.deed in
@@ -125,7 +126,7 @@ pub dates_of : (setting : Setting) (l : Line) (world : List Line) (post : Line) 
     l.did.deed ≡ Acts a → (b : Brings l world post older) → is_some (heard (dids (of (node_of l) world))) ≡ true →
     is_correction b.message.kind ≡ false → WhyCorrect (setup_of setting (node_of l) l.port) l.did (view l.port (of (node_of l) world)) amount →
     DatesOf setting l post l.did (view l.port (of (node_of l) world)) (peer_of (node_of post)) b.message
-dates_of setting l world post older a amount f act b h kind (ByRound r) = absurd (none-heard l world r.untaken h)
+dates_of setting l world post older a amount f act b h kind (ByRound r) = absurd (none_heard l world r.untaken h)
 dates_of setting l world post older a amount f act b h kind (ByMaster t) =
     let s = shows setting l world a post older t.took t.past (Peer t.from) t.message f act b t.is t.deed in
     absurd (true≢false (sym (subst (λ (m : MessageValue). is_correction m.kind ≡ true) s.message_is t.kind) ∙ kind))
@@ -163,9 +164,9 @@ pub correct_fits : (setting : Setting) (l : Line) (world : List Line) (post : Li
 correct_fits setting l world post older f a = deed_fits setting l world (Acts (Correct a.amount a.stepped a.shown)) a.correct f.0
 
 -- the node that takes a post of a send has rested since its boot
-pub acts-rested : (setting : Setting) (l : Line) (world : List Line) (post : Line) (older : List Line) → Fits setting (l ∷ world) → ActsOn l world post older →
+pub acts_rested : (setting : Setting) (l : Line) (world : List Line) (post : Line) (older : List Line) → Fits setting (l ∷ world) → ActsOn l world post older →
     boot_tick (dids (of (node_of l) world)) + QUIET ≤ l.did.tick
-acts-rested setting l world post older f a = subst (λ k. boot_tick k + QUIET ≤ l.did.tick) (plain_view l.port (of (node_of l) world))
+acts_rested setting l world post older f a = subst (λ k. boot_tick k + QUIET ≤ l.did.tick) (plain_view l.port (of (node_of l) world))
     (correct_fits setting l world post older f a).rested
 
 -- what is known of a Correct that takes a post of a correction
@@ -179,7 +180,7 @@ pub acting_on : (setting : Setting) (l : Line) (world : List Line) (post : Line)
 acting_on setting l world post older f a kind =
     let fits = correct_fits setting l world post older f a in
     let t = takes_of setting l world post older (Correct a.amount a.stepped a.shown) a.amount f a.correct a.brings a.took kind fits.why in
-    record { takes = t; number = t.number ∙ ap ticket (plain_view l.port (of (node_of l) world)); rested = acts-rested setting l world post older f a }
+    record { takes = t; number = t.number ∙ ap ticket (plain_view l.port (of (node_of l) world)); rested = acts_rested setting l world post older f a }
 
 -- where the send of what a Correct takes begins, and how long ago
 pub record Aged (k : ℕ) (post : Line) (older : List Line) (at : ℕ) (m : MessageValue) : Type 0 where
@@ -191,7 +192,7 @@ pub aged : (setting : Setting) (l : Line) (world : List Line) (post : Line) (old
     (a : ActsOn l world post older) → is_numbered a.brings.message.kind ≡ true → Aged (node_of l) post older l.did.step.at a.brings.message
 aged setting l world post older f life a kind =
     let b = a.brings in
-    let p = place-time setting (post ∷ older) world f.1 b.place in
+    let p = place_time setting (post ∷ older) world f.1 b.place in
     record {
       begins = send_place setting (node_of post) (node_of l) post older b.message (fits_at setting (post ∷ older) world f.1 b.place) refl b.deed kind;
       took = omega (arith, f.0.order);
@@ -199,13 +200,13 @@ aged setting l world post older f life a kind =
     }
 
 -- a post is of one node's message to one node
-pub posts-same : (j k : ℕ) (m n : MessageValue) → Acts (Post (Peer (peer_of j)) (Message m)) ≡ Acts (Post (Peer (peer_of k)) (Message n)) → (j ≡ k) × (m ≡ n)
-posts-same j k m n e = let p : peer_of j ≡ peer_of k = cc in (ap (λ (z : PeerId). z.0) p, cc)
+pub posts_same : (j k : ℕ) (m n : MessageValue) → Acts (Post (Peer (peer_of j)) (Message m)) ≡ Acts (Post (Peer (peer_of k)) (Message n)) → (j ≡ k) × (m ≡ n)
+posts_same j k m n e = let p : peer_of j ≡ peer_of k = cc in (ap (λ (z : PeerId). z.0) p, cc)
 
 -- a numbered post that is known to be of a send
-pub numbered-by : (k : ℕ) (post : Line) (older : List Line) (first : Did) (begun : List Seen) (m : MessageValue) → OfSend k post older first begun →
+pub numbered_by : (k : ℕ) (post : Line) (older : List Line) (first : Did) (begun : List Seen) (m : MessageValue) → OfSend k post older first begun →
     post.did.deed ≡ Acts (Post (Peer (peer_of k)) (Message m)) → is_numbered m.kind ≡ true
-numbered-by k post older first begun m s deed = subst (λ (z : MessageValue). is_numbered z.kind ≡ true) (posts-same k k s.message m (sym s.deed ∙ deed)).1
+numbered_by k post older first begun m s deed = subst (λ (z : MessageValue). is_numbered z.kind ≡ true) (posts_same k k s.message m (sym s.deed ∙ deed)).1
     s.numbered
 
 -- two Corrects of one node that take posts of one send, the later soon after the earlier
@@ -227,18 +228,18 @@ pub twice : (setting : Setting) (l : Line) (world : List Line) (post : Line) (ol
     OfSend (node_of c) other rest first begun → Twice setting l world post older c past other rest a.brings.message b.brings.message
 twice setting l world post older c past other rest first begun f life a w b s t =
     let fc = fits_at setting (c ∷ past) world f.1 w in
-    let x = aged setting l world post older f life a (numbered-by (node_of l) post older first begun a.brings.message s a.brings.deed) in
-    let y = aged setting c past other rest fc (Everywhere-within (TakenWithinAt LIFE) (c ∷ past) world life.1 w) b
-    (numbered-by (node_of c) other rest first begun b.brings.message t b.brings.deed) in
+    let x = aged setting l world post older f life a (numbered_by (node_of l) post older first begun a.brings.message s a.brings.deed) in
+    let y = aged setting c past other rest fc (Everywhere_within (TakenWithinAt LIFE) (c ∷ past) world life.1 w) b
+    (numbered_by (node_of c) other rest first begun b.brings.message t b.brings.deed) in
     let one : Here x.begins.first ∷ view post.port (of (node_of post) x.begins.fw) ≡ Here y.begins.first ∷ view other.port (of (node_of other) y.begins.fw) =
     sym x.begins.is ∙ (s.is ∙ (sym t.is ∙ y.begins.is)) in
     let two : x.begins.first ≡ y.begins.first = cc in
     let at : x.begins.first.step.at ≡ y.begins.first.step.at = ap (λ (d : Did). d.step.at) two in
-    let same = posts-same (node_of l) (node_of c) a.brings.message b.brings.message (sym x.begins.sends.deed ∙
+    let same = posts_same (node_of l) (node_of c) a.brings.message b.brings.message (sym x.begins.sends.deed ∙
     (ap (λ (d : Did). d.deed) two ∙ y.begins.sends.deed)) in
     let n = node_of l in
     let node : node_of c ≡ n = sym same.0 in
-    let order : c.did.step.at ≤ l.did.step.at = (let t = place-time setting (c ∷ past) world f.1 w in omega (arith, f.0.order)) in
+    let order : c.did.step.at ≤ l.did.step.at = (let t = place_time setting (c ∷ past) world f.1 w in omega (arith, f.0.order)) in
     let law = near setting n c.did.step.at l.did.step.at order in
     let tick_c : c.did.tick ≡ setting.tick n c.did.step.at = tick_in setting n c past world f.1 node w in
     let tick_l : l.did.tick ≡ setting.tick n l.did.step.at = f.0.tick in
@@ -253,8 +254,8 @@ twice setting l world post older c past other rest first begun f life a w b s t 
       soon = (let m = law.most in let u = x.begins.soon in let v = x.life in let z = y.begins.after in let q = y.took in omega arith);
     }
 
-pub corrected-at : (setting : Setting) (l : Line) (world : List Line) → Fits setting (l ∷ world) → Life (l ∷ world) → OnceAt is_correction l world
-corrected-at setting l world f life post c other older past rest first begun a kind w b s t =
+pub corrected_at : (setting : Setting) (l : Line) (world : List Line) → Fits setting (l ∷ world) → Life (l ∷ world) → OnceAt is_correction l world
+corrected_at setting l world f life post c other older past rest first begun a kind w b s t =
     let d = twice setting l world post older c past other rest first begun f life a w b s t in
     let fc = fits_at setting (c ∷ past) world f.1 w in
     let n = node_of l in
@@ -267,5 +268,5 @@ corrected-at setting l world f life post c other older past rest first begun a k
     (omega (arith, d.soon)) number
 
 pub once_corrected : (setting : Setting) (world : List Line) → Fits setting world → Life world → OnceCorrected world
-once_corrected setting world f life = Everywhere-from (OnceAt is_correction) world (λ l s w. corrected-at setting l s (fits_at setting (l ∷ s) world f w)
-    (Everywhere-within (TakenWithinAt LIFE) (l ∷ s) world life w))
+once_corrected setting world f life = Everywhere_from (OnceAt is_correction) world (λ l s w. corrected_at setting l s (fits_at setting (l ∷ s) world f w)
+    (Everywhere_within (TakenWithinAt LIFE) (l ∷ s) world life w))

@@ -3,16 +3,18 @@ use Rattle.std.proofs.Common.{sym, ap, arith, subst, inl, inr, ◌∙◌, ◌≡
 use Rattle.std.proofs.lemmas.Bool.{cases_lt}
 use Rattle.tsp_rules.specs.Values.{Become, Back, Message, PeerId, Port, Master, ELECT_MIN}
 use Rattle.tsp_base.specs.Words.{Acts, Did, Line, Seen, Here, of, dids, view, is_shared, boot_tick, lives, Within, backers, held, stood, Receives, peer_of}
-use Rattle.tsp_base.proofs.PlaceLemmas.{Within-all, Within-through, Within-tail, Within-comparable}
+use Rattle.tsp_base.proofs.PlaceLemmas.{Within_all, Within_through, Within_tail, Within_comparable}
 use Rattle.tsp_base.proofs.Views.{plain_view}
 use Rattle.tsp_promises.proofs.shared.ElectionFacts.{stood_at, backer_at, voters, port_elects, held_at, boots, boots_view}
-use Rattle.tsp_promises.proofs.promised.OwnFitsProof.{locate, tick_in, own_fits, fits_at, place-time}
+use Rattle.tsp_promises.proofs.promised.OwnFitsProof.{locate, tick_in, own_fits, fits_at, place_time}
 use Rattle.tsp_promises.proofs.promised.VoteProof.{Polled, polled_at, vote_of, Backed, back_of, open_place, asked_late}
 use Rattle.tsp_promises.specs.{Premises.Few, Premises.Honest, Premises.Life, Setting.Network, Setting.Setting, Setting.setup_of}
 use Rattle.tsp_promises.specs.{Fits.Fits, Fits.node_of, HoldFits.LeadFits, OneWinner.OneWinner, OneWinner.WinsAt}
-use Rattle.tsp_promises.proofs.{shared.Clocks.near, shared.Clocks.tick-mono, shared.Elections.In, shared.Elections.in_among, shared.Elections.ElectFits, shared.Elections.elects}
-use Rattle.tsp_promises.proofs.{shared.HistoryPlaces.Within-of, shared.HistoryPlaces.line_on, shared.Elections.AllIn, shared.Elections.shared, promised.ResolvedProof.holds_at}
-use Rattle.tsp_promises.proofs.{shared.EverywhereLemmas.Everywhere-from, promised.SinceProof.since}
+use Rattle.tsp_promises.proofs.{shared.Clocks.near, shared.Clocks.tick_mono, shared.Elections.In, shared.Elections.in_among, shared.Elections.ElectFits}
+use Rattle.tsp_promises.proofs.{shared.Elections.elects}
+use Rattle.tsp_promises.proofs.{shared.HistoryPlaces.Within_of, shared.HistoryPlaces.line_on, shared.Elections.AllIn, shared.Elections.shared}
+use Rattle.tsp_promises.proofs.{promised.ResolvedProof.holds_at}
+use Rattle.tsp_promises.proofs.{shared.EverywhereLemmas.Everywhere_from, promised.SinceProof.since}
 
 -- a port that wins now: since when it has stood, and what its past owes
 record Won (setting : Setting) (a : ℕ) (q : Port) (l : Line) (world : List Line) : Type 0 where
@@ -52,7 +54,7 @@ own_backed setting a q l world w v =
     let h = held_at v.win.start.tick (peer_of a) (view q (of a world)) (subst (λ p. (held (view q (of a world))).back ≡
     Some (v.win.start.tick, p)) own v.win.backs) in
     let p = locate a q world h.did h.before (rw h.deed refl) h.place in
-    let by = place-time setting (line_on q h.did ∷ p.older) world wx p.place in
+    let by = place_time setting (line_on q h.did ∷ p.older) world wx p.place in
     let order = w.fits.0.order in
     let x_tick = tick_in setting a (line_on q h.did) p.older world wx p.node p.place in
     let s_tick = tick_in setting a (line_on q v.win.start) v.so world wx v.start_node v.place in
@@ -76,7 +78,7 @@ other_backed : (setting : Setting) (a : ℕ) (q : Port) (l : Line) (world : List
     In p (backers (view q (of a world))) →
     Backed setting p.0 a (setting.net a q) v.win.start.step.at l.did.step.at world
 other_backed setting a q l world p w v i =
-    let wx = polled_at setting world (l ∷ world) w (inr (Within-all world)) in
+    let wx = polled_at setting world (l ∷ world) w (inr (Within_all world)) in
     let b = backer_at a (setup_of setting a q) p (view q (of a world)) (port_elects setting a q world wx.elects) i in
     let x = locate a q world b.did b.before (rw b.deed refl) b.place in
     let wb = polled_at setting (line_on q b.did ∷ x.older) world wx x.place in
@@ -86,12 +88,12 @@ other_backed setting a q l world p w v i =
     let late =
     asked_late setting a q b.did x.older p f.answer.number v.win.start wb b.node
     (backer-rested b.did x.older b.before x.place b.node x.before (b.same ∙ v.win.start_is)) vote open_ in
-    let y_in : Within (vote.y ∷ vote.yo) world = Within-through (vote.y ∷ vote.yo) x.older world vote.y_in (Within-tail (line_on q b.did) x.older world x.place)
+    let y_in : Within (vote.y ∷ vote.yo) world = Within_through (vote.y ∷ vote.yo) x.older world vote.y_in (Within_tail (line_on q b.did) x.older world x.place)
     in
     let wy = polled_at setting (vote.y ∷ vote.yo) world wx y_in in
-    let e_by = place-time setting (vote.e ∷ vote.eo) vote.yo wy.fits.1 vote.e_in in
+    let e_by = place_time setting (vote.e ∷ vote.eo) vote.yo wy.fits.1 vote.e_in in
     let y_order = wy.fits.0.order in
-    let y_by = place-time setting (vote.y ∷ vote.yo) world wx.fits y_in in
+    let y_by = place_time setting (vote.y ∷ vote.yo) world wx.fits y_in in
     let order = w.fits.0.order in
     let found = back_of setting a (setting.net a q) v.win.start.step.at l.did.step.at vote.y vote.yo world vote.answer wx.fits y_in vote.posts vote.backs
     vote.net (omega (arith, late, e_by, y_order)) (omega (arith, y_by, order)) in
@@ -101,19 +103,19 @@ other_backed setting a q l world p w v i =
         stood vs ≡ Here v.win.start ∷ v.win.idle → boot_tick (dids (of a xo)) + 290000000 ≤ x.tick
     backer-rested x xo vs x_in node seen stands =
         let f = w.fits.1 in
-        let xo_in : Within xo world = Within-tail (line_on q x) xo world x_in in
-        let i = since setting (of a xo) (of a world) (own_fits setting a world f) (Within-of a xo world xo_in) in
+        let xo_in : Within xo world = Within_tail (line_on q x) xo world x_in in
+        let i = since setting (of a xo) (of a world) (own_fits setting a world f) (Within_of a xo world xo_in) in
         let here = stood_at vs (Here v.win.start) v.win.idle stands in
         let there = stood_at (view q (of a world)) (Here v.win.start) v.win.idle v.win.start_is in
         let same : lives (dids (of a xo)) ≡ lives (dids (of a world)) = sym (boots_view q (of a xo)) ∙
         (ap boots seen ∙ (sym here.life ∙ (there.life ∙ boots_view q (of a world)))) in
         let s = locate a q xo v.win.start v.win.idle v.own (subst (λ k. Within (Here v.win.start ∷ v.win.idle) k) (sym seen) here.place) in
         let fx = fits_at setting (line_on q x ∷ xo) world f x_in in
-        let s_by = place-time setting (line_on q v.win.start ∷ s.older) xo fx.1 s.place in
+        let s_by = place_time setting (line_on q v.win.start ∷ s.older) xo fx.1 s.place in
         let s_tick = tick_in setting a (line_on q v.win.start) s.older xo fx.1 v.start_node s.place in
         let x_tick = tick_in setting a (line_on q x) xo world f node x_in in
         let order = fx.0.order in
-        let mono = tick-mono setting a v.win.start.step.at x.step.at (omega (arith, s_by, order)) in
+        let mono = tick_mono setting a v.win.start.step.at x.step.at (omega (arith, s_by, order)) in
         let rested = v.rested in
         let soon = v.win.soon in
         elim i.life [
@@ -138,7 +140,7 @@ ordered setting c a b net x y xo yo world f differ x_in y_in x_node y_node x_dee
     let port : x.port ≡ y.port = setting.apart c x.port y.port (x_net ∙ sym y_net) in
     let tick_x = tick_in setting c x xo world f x_node x_in in
     let tick_y = tick_in setting c y yo world f y_node y_in in
-    let by = place-time setting (x ∷ xo) yo fy.1 before in
+    let by = place_time setting (x ∷ xo) yo fy.1 before in
     let order = fy.0.order in
     let n = near setting c x.did.step.at y.did.step.at (omega (arith, by, order)) in
     let most = n.most in
@@ -150,28 +152,28 @@ ordered setting c a b net x y xo yo world f differ x_in y_in x_node y_node x_dee
 apart : (setting : Setting) (c a b : ℕ) (net : Network) (r s t u : ℕ) (world : List Line) → Fits setting world → (a ≡ b → ⊥) →
     (x : Backed setting c a net r s world) → (y : Backed setting c b net t u world) →
     (x.line.did.step.at + 59940000 ≤ y.line.did.step.at) ⊎ (y.line.did.step.at + 59940000 ≤ x.line.did.step.at)
-apart setting c a b net r s t u world f differ x y = elim (Within-comparable (x.line ∷ x.older) (y.line ∷ y.older) world x.place y.place) [
+apart setting c a b net r s t u world f differ x y = elim (Within_comparable (x.line ∷ x.older) (y.line ∷ y.older) world x.place y.place) [
   | inl (inl e) ↦ absurd (same e)
   | inl (inr i) ↦ inl (ordered setting c a b net x.line y.line x.older y.older world f differ x.place y.place x.node y.node x.deed y.deed x.net_is y.net_is i)
   | inr (inl e) ↦ absurd (same (sym e))
   | inr (inr i) ↦ inr (ordered setting c b a net y.line x.line y.older x.older world f (λ e. differ (sym e)) y.place x.place y.node x.node y.deed x.deed
       y.net_is x.net_is i)
 ] where
-  same-act : (p q : PeerId) → Acts (Back p) ≡ Acts (Back q) → p ≡ q
-  same-act p q e = cc
+  same_act : (p q : PeerId) → Acts (Back p) ≡ Acts (Back q) → p ≡ q
+  same_act p q e = cc
 
   same : x.line ∷ x.older ≡ y.line ∷ y.older → ⊥
   same e =
       let line : x.line ≡ y.line = cc in
-      differ (ap (λ (p : PeerId). p.0) (same-act (peer_of a) (peer_of b) (sym x.deed ∙ (ap (λ (k : Line). k.did.deed) line ∙ y.deed))))
+      differ (ap (λ (p : PeerId). p.0) (same_act (peer_of a) (peer_of b) (sym x.deed ∙ (ap (λ (k : Line). k.did.deed) line ∙ y.deed))))
 
 -- a port wins soon after it has stood
-won-soon : (setting : Setting) (a : ℕ) (q : Port) (l : Line) (world : List Line) → Polled setting (l ∷ world) → (v : Won setting a q l world) →
+won_soon : (setting : Setting) (a : ℕ) (q : Port) (l : Line) (world : List Line) → Polled setting (l ∷ world) → (v : Won setting a q l world) →
     l.did.step.at ≤ v.win.start.step.at + 6006010
-won-soon setting a q l world w v =
+won_soon setting a q l world w v =
     let s_tick = tick_in setting a (line_on q v.win.start) v.so world w.fits.1 v.start_node v.place in
     let l_tick : l.did.tick ≡ setting.tick a l.did.step.at = subst (λ n. l.did.tick ≡ setting.tick n l.did.step.at) v.node w.fits.0.tick in
-    let by = place-time setting (line_on q v.win.start ∷ v.so) world w.fits.1 v.place in
+    let by = place_time setting (line_on q v.win.start ∷ v.so) world w.fits.1 v.place in
     let order = w.fits.0.order in
     let n = near setting a v.win.start.step.at l.did.step.at (omega (arith, by, order)) in
     let least = n.least in
@@ -179,12 +181,12 @@ won-soon setting a q l world w v =
     omega (arith, least, s_tick, l_tick, soon)
 
 -- in a longer history
-backed-later : (setting : Setting) (c a : ℕ) (net : Network) (r s : ℕ) (h world : List Line) → Within h world → Backed setting c a net r s h →
+backed_later : (setting : Setting) (c a : ℕ) (net : Network) (r s : ℕ) (h world : List Line) → Within h world → Backed setting c a net r s h →
     Backed setting c a net r s world
-backed-later setting c a net r s h world w b = record {
+backed_later setting c a net r s h world w b = record {
   line = b.line;
   older = b.older;
-  place = Within-through (b.line ∷ b.older) h world b.place w;
+  place = Within_through (b.line ∷ b.older) h world b.place w;
   node = b.node;
   deed = b.deed;
   net_is = b.net_is;
@@ -204,7 +206,7 @@ wins_at setting l world strict w other older deed other_in other_deed differ net
     let b = node_of other in
     let q = l.port in
     let r = other.port in
-    let wx = polled_at setting world (l ∷ world) w (inr (Within-all world)) in
+    let wx = polled_at setting world (l ∷ world) w (inr (Within_all world)) in
     let wo = polled_at setting (other ∷ older) world wx other_in in
     let one = won setting l world w deed in
     let two = won setting other older wo other_deed in
@@ -224,12 +226,12 @@ wins_at setting l world strict w other older deed other_in other_deed differ net
     ) (in_among (peer_of a) all (setting.own a q), xs.peers) ys_in (omega (arith, most, more')) in
     let x = counted_backed setting a q l world s.peer w one s.one in
     let y = subst (λ k. Backed setting s.peer.0 b k two.win.start.step.at other.did.step.at world) net
-    (backed-later setting s.peer.0 b (setting.net b r) two.win.start.step.at other.did.step.at older world (Within-tail other older world other_in)
+    (backed_later setting s.peer.0 b (setting.net b r) two.win.start.step.at other.did.step.at older world (Within_tail other older world other_in)
     (counted_backed setting b r other older s.peer wo two s.two)) in
-    let order : other.did.step.at ≤ l.did.step.at = (let k = place-time setting (other ∷ older) world wx.fits other_in in let o = w.fits.0.order in
+    let order : other.did.step.at ≤ l.did.step.at = (let k = place_time setting (other ∷ older) world wx.fits other_in in let o = w.fits.0.order in
     omega (arith, k, o)) in
     times l.did.step.at other.did.step.at one.win.start.step.at two.win.start.step.at x.line.did.step.at y.line.did.step.at order
-    (won-soon setting a q l world w one) (won-soon setting b r other older wo two) x.after y.after x.by y.by
+    (won_soon setting a q l world w one) (won_soon setting b r other older wo two) x.after y.after x.by y.by
     (apart setting s.peer.0 a b (setting.net a q) one.win.start.step.at l.did.step.at two.win.start.step.at other.did.step.at world wx.fits
     (λ e. differ (sym e)) x y)
 
@@ -237,4 +239,4 @@ pub one_winner : (setting : Setting) (world : List Line) → setting.strict ≡ 
     OneWinner setting world
 one_winner setting world strict f h l w =
     let p : Polled setting world = record { fits = f; elects = elects setting world f; honest = h; life = l; few = w } in
-    Everywhere-from (WinsAt setting) world (λ k s i. wins_at setting k s strict (polled_at setting (k ∷ s) world p i))
+    Everywhere_from (WinsAt setting) world (λ k s i. wins_at setting k s strict (polled_at setting (k ∷ s) world p i))

@@ -2,14 +2,21 @@
 use Rattle.std.specs.Prelude.{List}
 use Rattle.tsp_promises.specs.{Fits.Fits, Fits.Finished, Safe.Safe, Setting.Setting}
 use Rattle.tsp_base.specs.Words.{Line}
-use Rattle.tsp_promises.proofs.{promised.AgreedProof.agreed, promised.AgreedProof.stay_agreed, promised.AnsweredProof.answered, promised.AgreedProof.chained, promised.AgreedShownProof.shows}
-use Rattle.tsp_promises.proofs.{promised.AgreedShownProof.agreed_shown, promised.AgreedShownProof.shown_near, promised.AgreedShownProof.waited, promised.ErrsProof.errs_bounded}
-use Rattle.tsp_promises.proofs.{promised.ConfirmedProof.once_confirmed, promised.EstimatesProof.estimates_hold, promised.MeasuredProof.measured, promised.ResolvedProof.one_back}
-use Rattle.tsp_promises.proofs.{promised.FirstSetProof.first_set, promised.FirstSetProof.first_set_soon, promised.OnceDatedProof.once_taken, promised.OneErrorProof.one_error}
-use Rattle.tsp_promises.proofs.{promised.ModerateProof.moderate, promised.ModerateProof.moderate_clocks, promised.OnceObeyedProof.once_obeyed, promised.AgreedProof.relayed}
+use Rattle.tsp_promises.proofs.{promised.AgreedProof.agreed, promised.AgreedProof.stay_agreed, promised.AnsweredProof.answered, promised.AgreedProof.chained}
+use Rattle.tsp_promises.proofs.{promised.AgreedShownProof.shows}
+use Rattle.tsp_promises.proofs.{promised.AgreedShownProof.agreed_shown, promised.AgreedShownProof.shown_near, promised.AgreedShownProof.waited}
+use Rattle.tsp_promises.proofs.{promised.ErrsProof.errs_bounded}
+use Rattle.tsp_promises.proofs.{promised.ConfirmedProof.once_confirmed, promised.EstimatesProof.estimates_hold, promised.MeasuredProof.measured}
+use Rattle.tsp_promises.proofs.{promised.ResolvedProof.one_back}
+use Rattle.tsp_promises.proofs.{promised.FirstSetProof.first_set, promised.FirstSetProof.first_set_soon, promised.OnceDatedProof.once_taken}
+use Rattle.tsp_promises.proofs.{promised.OneErrorProof.one_error}
+use Rattle.tsp_promises.proofs.{promised.ModerateProof.moderate, promised.ModerateProof.moderate_clocks, promised.OnceObeyedProof.once_obeyed}
+use Rattle.tsp_promises.proofs.{promised.AgreedProof.relayed}
 use Rattle.tsp_promises.proofs.{promised.OnceObeyedProof.once_spaced, promised.OnceObeyedProof.once_spaced_over_lives, promised.OnceTakenProof.once_corrected}
-use Rattle.tsp_promises.proofs.{shared.SendPlaces.only_master, promised.ResolvedProof.yields, promised.ResolvedProof.yields_taken, promised.ResolvedProof.stays_quiet}
-use Rattle.tsp_promises.proofs.{promised.ErrsProof.seldom, promised.ResolvedProof.silent, promised.SteadyProof.meets, promised.SteadyProof.steady, promised.StopsProof.stops_leading}
+use Rattle.tsp_promises.proofs.{shared.SendPlaces.only_master, promised.ResolvedProof.yields, promised.ResolvedProof.yields_taken}
+use Rattle.tsp_promises.proofs.{promised.ResolvedProof.stays_quiet}
+use Rattle.tsp_promises.proofs.{promised.ErrsProof.seldom, promised.ResolvedProof.silent, promised.SteadyProof.meets, promised.SteadyProof.steady}
+use Rattle.tsp_promises.proofs.{promised.StopsProof.stops_leading}
 use Rattle.tsp_promises.proofs.{promised.ThriceProof.thrice, promised.AgreedProof.throughout, promised.MeasuredProof.trips}
 
 pub safe : (setting : Setting) (world : List Line) → Fits setting world → Finished setting world → Safe setting world

@@ -5,37 +5,38 @@ use Rattle.std.proofs.Common.{Bool, true}
 use Rattle.tsp_rules.specs.Values.{Post, Sample, Datagram, PeerId, Place, Port, Message, AdjTime, Peer, CLOSE, SLACK, Close, Correct, Kind}
 use Rattle.tsp_base.specs.Words.{Came, Acts, Did, Line, Seen, Here, of, dids, view, plain, lives, moved, ticket, Within, Sampled, best, started, ReplyValue}
 use Rattle.tsp_base.specs.Words.{Undisturbed, peer_of, posted, MessageValue, taken, target, is_correction, time_in}
-use Rattle.tsp_base.proofs.{PlaceLemmas.Within-tail, PlaceLemmas.Within-through, Views.plain_view}
-use Rattle.tsp_promises.proofs.shared.RoundPlaces.{BestAt, best_at, started_at, same-start, some-is}
-use Rattle.tsp_promises.proofs.promised.OwnFitsProof.{own_fits, fits_at, Given, given_at, place-time, locate, tick_in}
-use Rattle.tsp_promises.proofs.promised.MeasuredProof.{Reading, first-now, reading_at, reading_is, sample_fits}
+use Rattle.tsp_base.proofs.{PlaceLemmas.Within_tail, PlaceLemmas.Within_through, Views.plain_view}
+use Rattle.tsp_promises.proofs.shared.RoundPlaces.{BestAt, best_at, started_at, same_start, some_is}
+use Rattle.tsp_promises.proofs.promised.OwnFitsProof.{own_fits, fits_at, Given, given_at, place_time, locate, tick_in}
+use Rattle.tsp_promises.proofs.promised.MeasuredProof.{Reading, first_now, reading_at, reading_is, sample_fits}
 use Rattle.tsp_promises.specs.CorrectionFits.{AnswersSlaveUp, AtClose, BeginFits, FromClose, FollowedBy}
-use Rattle.tsp_promises.proofs.promised.OnceTakenProof.{Acting, acting_on, numbered-by, posts-same}
+use Rattle.tsp_promises.proofs.promised.OnceTakenProof.{Acting, acting_on, numbered_by, posts_same}
 use Rattle.tsp_promises.specs.{Fits.Fits, Fits.node_of, OneError.FromReading, OneError.Taking, Premises.Honest, Premises.Life}
 use Rattle.tsp_promises.specs.{Agreed.FromRound, ClockAt.clock, CorrectFits.amount_of, Setting.Setting, StepFacts.closed}
-use Rattle.tsp_promises.proofs.{shared.SendPlaces.SendPlace, shared.SendPlaces.post_fits, shared.SendPlaces.send_place, promised.SendProof.numbered, promised.SinceProof.since}
+use Rattle.tsp_promises.proofs.{shared.SendPlaces.SendPlace, shared.SendPlaces.post_fits, shared.SendPlaces.send_place, promised.SendProof.numbered}
+use Rattle.tsp_promises.proofs.{promised.SinceProof.since}
 use Rattle.tsp_promises.proofs.{shared.Clocks.near, shared.MasterMoved.Kept, shared.MasterMoved.kept_from, shared.MasterMoved.first_after}
-use Rattle.tsp_promises.proofs.{promised.ClockProof.offset, promised.ClockProof.offset_same, shared.HistoryPlaces.Within-of, shared.HistoryPlaces.line_on}
+use Rattle.tsp_promises.proofs.{promised.ClockProof.offset, promised.ClockProof.offset_same, shared.HistoryPlaces.Within_of, shared.HistoryPlaces.line_on}
 
 -- from the round's best sample to its Close the node is left alone
-kept-to-close : (setting : Setting) (m : ℕ) (q : Port) (cpast before : List Line) (p : PeerId) (sample : Sampled) (start : Did) (idle : List Seen) →
+kept_to_close : (setting : Setting) (m : ℕ) (q : Port) (cpast before : List Line) (p : PeerId) (sample : Sampled) (start : Did) (idle : List Seen) →
     Fits setting cpast →
     (b : BestAt p sample (view q (of m cpast))) → b.rest ≡ view q (of m before) → started (view q (of m cpast)) ≡ Here start ∷ idle →
     Undisturbed (plain idle) (plain (view q (of m cpast))) →
     Kept (dids (of m before)) (dids (of m cpast))
-kept-to-close setting m q cpast before p sample start idle f b rest_is start_is u =
+kept_to_close setting m q cpast before p sample start idle f b rest_is start_is u =
     let lb = locate m q cpast b.did b.rest (rw b.deed refl) b.place in
     let same : dids (of m lb.older) ≡ dids (of m before) = sym (plain_view q (of m lb.older)) ∙ (ap plain (lb.before ∙ rest_is) ∙ plain_view q (of m before)) in
     let begins : started (view q (of m lb.older)) ≡ Here start ∷ idle = ap started lb.before ∙ (b.round ∙ start_is) in
     let sa = started_at (view q (of m lb.older)) start idle begins in
     let ls = locate m q lb.older start idle (rw sa.deed refl) sa.place in
-    let lo_in : Within lb.older cpast = Within-tail (line_on q b.did) lb.older cpast lb.place in
-    let so_in : Within ls.older lb.older = Within-tail (line_on q start) ls.older lb.older ls.place in
+    let lo_in : Within lb.older cpast = Within_tail (line_on q b.did) lb.older cpast lb.place in
+    let so_in : Within ls.older lb.older = Within_tail (line_on q start) ls.older lb.older ls.place in
     let one = since setting (of m ls.older) (of m lb.older) (own_fits setting m lb.older (fits_at setting lb.older cpast f lo_in))
-    (Within-of m ls.older lb.older so_in) in
-    let two = since setting (of m lb.older) (of m cpast) (own_fits setting m cpast f) (Within-of m lb.older cpast lo_in) in
+    (Within_of m ls.older lb.older so_in) in
+    let two = since setting (of m lb.older) (of m cpast) (own_fits setting m cpast f) (Within_of m lb.older cpast lo_in) in
     subst (λ d. Kept d (dids (of m cpast))) same (kept_from (dids (of m ls.older)) (dids (of m lb.older)) (dids (of m cpast)) one two
-    (first-now q (of m cpast) (of m ls.older) idle ls.before u))
+    (first_now q (of m cpast) (of m ls.older) idle ls.before u))
 
 -- what is known of the reading r that m took of k, for the Close that stands after cpast
 pub record ReadAt (setting : Setting) (m k : ℕ) (cpast : List Line) (sample : Sampled) (start : Did) (r : Line) (older : List Line) : Type 0 where
@@ -46,11 +47,11 @@ pub record ReadAt (setting : Setting) (m k : ℕ) (cpast : List Line) (sample : 
   pub after : start.step.at ≤ r.did.step.at
 
 -- with the Reading of the Sample's line
-read-with : (setting : Setting) (m k : ℕ) (l r : Line) (before cpast older : List Line) (sample : Sampled) (start s : Did) (i : List Seen) (reply : ReplyValue)
+read_with : (setting : Setting) (m k : ℕ) (l r : Line) (before cpast older : List Line) (sample : Sampled) (start s : Did) (i : List Seen) (reply : ReplyValue)
     → node_of l ≡ m →
     Kept (dids (of m before)) (dids (of m cpast)) → sample.ticket ≡ reply.ticket → s ≡ start →
     (x : Reading setting l before k sample.diff sample.err s i reply) → x.post ∷ x.older ≡ r ∷ older → ReadAt setting m k cpast sample start r older
-read-with setting m k l r before cpast older sample start s i reply l_node kept number start_is x same =
+read_with setting m k l r before cpast older sample start s i reply l_node kept number start_is x same =
     let post_is : x.post ≡ r = cc in
     let older_is : x.older ≡ older = cc in
     record {
@@ -80,19 +81,19 @@ read_at setting m k q l r before cpast older sample start idle to datagram f h w
     let same = reading_is setting l before k sample.diff sample.err s.start s.idle s.reply r older to datagram x r_in r_deed takes in
     let mine : started (view q (of m before)) ≡ Here s.start ∷ s.idle = subst₂ (λ n p. started (view p (of n before)) ≡ Here s.start ∷
     s.idle) l_node l_port s.start_is in
-    let start_same = same-start s.start start s.idle idle (view q (of m before)) b.rest (view q (of m cpast)) mine rest_is b.round start_is in
-    read-with setting m k l r before cpast older sample start s.start s.idle s.reply l_node
-    (kept-to-close setting m q cpast before (peer_of k) sample start idle fc b rest_is start_is u) s.number_is start_same x same
+    let start_same = same_start s.start start s.idle idle (view q (of m before)) b.rest (view q (of m cpast)) mine rest_is b.round start_is in
+    read_with setting m k l r before cpast older sample start s.start s.idle s.reply l_node
+    (kept_to_close setting m q cpast before (peer_of k) sample start idle fc b rest_is start_is u) s.number_is start_same x same
 
 -- the round began at most so long before its Close
-pub round-soon : (setting : Setting) (m : ℕ) (q : Port) (close : Line) (cpast past : List Line) (start : Did) (idle : List Seen) → Fits setting past →
+pub round_soon : (setting : Setting) (m : ℕ) (q : Port) (close : Line) (cpast past : List Line) (start : Did) (idle : List Seen) → Fits setting past →
     Within (close ∷ cpast) past → node_of close ≡ m →
     started (view q (of m cpast)) ≡ Here start ∷ idle → close.did.tick ≤ start.tick + (CLOSE + SLACK) → close.did.step.at ≤ start.step.at + 9009011
-round-soon setting m q close cpast past start idle f close_in node start_is soon =
+round_soon setting m q close cpast past start idle f close_in node start_is soon =
     let fc = fits_at setting (close ∷ cpast) past f close_in in
     let sa = started_at (view q (of m cpast)) start idle start_is in
     let ls = locate m q cpast start idle (rw sa.deed refl) sa.place in
-    let order : start.step.at ≤ close.did.step.at = (let p = place-time setting (line_on q start ∷ ls.older) cpast fc.1 ls.place in
+    let order : start.step.at ≤ close.did.step.at = (let p = place_time setting (line_on q start ∷ ls.older) cpast fc.1 ls.place in
     omega (arith, fc.0.order)) in
     let n = near setting m start.step.at close.did.step.at order in
     let tick_s : start.tick ≡ setting.tick m start.step.at = tick_in setting m (line_on q start) ls.older cpast fc.1 ls.node ls.place in
@@ -105,22 +106,22 @@ pub record Used (first : Did) (begun : List Seen) (p : PeerId) (m : MessageValue
   pub from : FromClose first begun p m close past mean sample
 
 -- what begins before its step has taken anything, or is an ADJTIME, begins at a Close
-pub begun-by : (first : Did) (begun : List Seen) (p : PeerId) (m : MessageValue) (close : Did) (past : List Seen) → (m.kind ≡ AdjTime) ⊎ (taken begun ≡ None) →
+pub begun_by : (first : Did) (begun : List Seen) (p : PeerId) (m : MessageValue) (close : Did) (past : List Seen) → (m.kind ≡ AdjTime) ⊎ (taken begun ≡ None) →
     closed begun ≡ Here close ∷ past → AnswersSlaveUp begun p m ⊎ AtClose first begun p m → (sample : Sampled) × Used first begun p m close past sample
-begun-by first begun p m close past (inl kind) close_is (inl s) = let bad : ⊥ = (let k = sym kind ∙ s.sets in cc) in absurd bad
-begun-by first begun p m close past (inr none) close_is (inl s) = let bad : ⊥ = (let k = sym none ∙ s.took in cc) in absurd bad
-begun-by first begun p m close past none close_is (inr a) =
+begun_by first begun p m close past (inl kind) close_is (inl s) = let bad : ⊥ = (let k = sym kind ∙ s.sets in cc) in absurd bad
+begun_by first begun p m close past (inr none) close_is (inl s) = let bad : ⊥ = (let k = sym none ∙ s.took in cc) in absurd bad
+begun_by first begun p m close past none close_is (inr a) =
     let both : Here a.close ∷ a.past ≡ Here close ∷ past = sym a.is.is ∙ close_is in
     let did_is : a.close ≡ close = cc in
     let past_is : a.past ≡ past = cc in
     (a.sample, record { mean = a.mean; from = subst₂ (λ y z. FromClose first begun p m y z a.mean a.sample) did_is past_is a.is })
 
-pub used-by : (first : Did) (begun : List Seen) (p : PeerId) (m : MessageValue) (close : Did) (past : List Seen) (sample : Sampled) →
+pub used_by : (first : Did) (begun : List Seen) (p : PeerId) (m : MessageValue) (close : Did) (past : List Seen) (sample : Sampled) →
     (m.kind ≡ AdjTime) ⊎ (taken begun ≡ None) → closed begun ≡ Here close ∷ past → best p past ≡ Some sample →
     AnswersSlaveUp begun p m ⊎ AtClose first begun p m → Used first begun p m close past sample
-used-by first begun p m close past sample none close_is best_is from =
-    let u = begun-by first begun p m close past none close_is from in
-    subst (λ z. Used first begun p m close past z) (some-is u.0 sample (sym u.1.from.best_is ∙ best_is)) u.1
+used_by first begun p m close past sample none close_is best_is from =
+    let u = begun_by first begun p m close past none close_is from in
+    subst (λ z. Used first begun p m close past z) (some_is u.0 sample (sym u.1.from.best_is ∙ best_is)) u.1
 
 -- where the send begins and what its beginning owes; and the clock was moved as it says
 pub record BegunFacts (m : ℕ) (c : Line) (past : List Line) (t : Taking m c past) : Type 0 where
@@ -165,7 +166,7 @@ read_facts setting m c past g t d close cpast r older x =
     let k = node_of c in
     let q = t.post.port in
     let b = t.acts.brings in
-    let used = used-by t.first t.begun (peer_of k) t.acts.brings.message close.did (view q (of m cpast)) x.sample x.none x.close_is x.best_is d.fits.from in
+    let used = used_by t.first t.begun (peer_of k) t.acts.brings.message close.did (view q (of m cpast)) x.sample x.none x.close_is x.best_is d.fits.from in
     let u = used.from in
     let rd = x.reading in
     let gs = given_at setting (rd.line ∷ rd.before) (c ∷ past) g (inr rd.at) in
@@ -173,11 +174,11 @@ read_facts setting m c past g t d close cpast r older x =
     let read = read_at setting m k q rd.line r rd.before cpast older x.sample u.start u.idle rd.to rd.datagram gs.fits gs.honest gs.life fc.1 rd.node rd.port
     u.best_is rd.is rd.reads rd.takes rd.deed u.start_is u.undisturbed in
     let first_at : d.begins.first.step.at ≡ t.first.step.at = ap (λ (z : Did). z.step.at) d.first_is in
-    let round = round-soon setting m q close cpast past u.start u.idle g.fits.1 x.closes x.close_node u.start_is u.soon in
+    let round = round_soon setting m q close cpast past u.start u.idle g.fits.1 x.closes x.close_node u.start_is u.soon in
     let time : c.did.step.at ≤ r.did.step.at + 65000000 =
     (let p = d.begins.soon in let l = g.life.0 t.post t.before (Peer (peer_of k))
     (Message b.message) b.place b.deed b.cause in let o = u.at in let s = read.after in omega arith) in
-    let reads : Within (r ∷ older) past = Within-through (r ∷ older) rd.before past rd.reads (Within-tail rd.line rd.before past rd.at) in
+    let reads : Within (r ∷ older) past = Within_through (r ∷ older) rd.before past rd.reads (Within_tail rd.line rd.before past rd.at) in
     let same : ticket (dids (of k older)) ≡ ticket (dids (of k past)) = sym read.number ∙ (sym u.number ∙ d.acting.number) in
     record {
       used = used;
@@ -186,8 +187,8 @@ read_facts setting m c past g t d close cpast r older x =
       kept = first_after setting k c r past older rd.to rd.datagram g.fits refl read.node rd.deed reads d.acting.rested same time;
     }
 
-pub corrects-adj : (k : Kind) → k ≡ AdjTime → is_correction k ≡ true
-corrects-adj k e = ap is_correction e
+pub corrects_adj : (k : Kind) → k ≡ AdjTime → is_correction k ≡ true
+corrects_adj k e = ap is_correction e
 
 -- what a FromRound's Correct takes is an ADJTIME, as the beginning of its send is
 pub cast_kind : (setting : Setting) (m : ℕ) (close : Line) (cpast : List Line) (c : Line) (past : List Line) (r : Line) (rolder : List Line) (err : ℤ) →
@@ -196,10 +197,10 @@ cast_kind setting m close cpast c past r rolder err f x =
     let k = node_of c in
     let b = x.acts.brings in
     let s = send_place setting (node_of x.post) k x.post x.before b.message (fits_at setting (x.post ∷ x.before) past f.1 b.place) refl b.deed
-    (numbered-by k x.post x.before x.first x.begun b.message x.of_send b.deed) in
+    (numbered_by k x.post x.before x.first x.begun b.message x.of_send b.deed) in
     let both : Here s.first ∷ view x.post.port (of (node_of x.post) s.fw) ≡ Here x.first ∷ x.begun = sym s.is ∙ x.of_send.is in
     let first_is : s.first ≡ x.first = cc in
-    ap (λ (z : MessageValue). z.kind) (posts-same k k b.message x.message (sym s.sends.deed ∙ (ap (λ (z : Did). z.deed) first_is ∙ x.begins))).1 ∙ x.kind
+    ap (λ (z : MessageValue). z.kind) (posts_same k k b.message x.message (sym s.sends.deed ∙ (ap (λ (z : Did). z.deed) first_is ∙ x.begins))).1 ∙ x.kind
 
 -- a FromRound takes a correction
 abbrev pub taking_of : {m : ℕ} {close c r : Line} {cpast past rolder : List Line} {err : ℤ}
@@ -208,7 +209,7 @@ taking_of x kind = record {
   post = x.post;
   before = x.before;
   acts = x.acts;
-  kind = corrects-adj x.acts.brings.message.kind kind;
+  kind = corrects_adj x.acts.brings.message.kind kind;
   node = x.node;
   first = x.first;
   begun = x.begun;
@@ -245,9 +246,9 @@ pub record Met (setting : Setting) (m k : ℕ) (cpast : List Line) (mean : ℤ) 
     pub reads : Within (r ∷ rolder) past
 
 -- the amount of a Correct that takes an ADJTIME is its time
-pub amount-adj : (c : Line) (past : List Line) (post : Line) (amount : ℤ) (m : MessageValue) → Acting c past post amount m → m.kind ≡ AdjTime → amount ≡
+pub amount_adj : (c : Line) (past : List Line) (post : Line) (amount : ℤ) (m : MessageValue) → Acting c past post amount m → m.kind ≡ AdjTime → amount ≡
     time_in m.body
-amount-adj c past post amount m a kind = a.takes.amount_is ∙ ap (λ k. amount_of k (time_in m.body) (target (plain (view c.port (of (node_of c) past)))
+amount_adj c past post amount m a kind = a.takes.amount_is ∙ ap (λ k. amount_of k (time_in m.body) (target (plain (view c.port (of (node_of c) past)))
     c.did.tick)) kind
 
 -- a FromRound and all that is known of it
@@ -281,7 +282,7 @@ whole setting m close cpast c past r rolder err g x =
         amount = x.acts.amount;
         stepped = x.acts.stepped;
         shown = x.acts.shown;
-        amount_is = amount-adj c past x.post x.acts.amount x.acts.brings.message t.acting kind ∙ u.value kind;
+        amount_is = amount_adj c past x.post x.acts.amount x.acts.brings.message t.acting kind ∙ u.value kind;
         deed = x.acts.correct;
         error = subst (λ e. pos (nat_abs (x.sample.diff -ℤ (clock setting k (r ∷ rolder) -ℤ clock setting m (r ∷ rolder)))) ≤ℤ e) x.err_is d.read.error;
         same_m = d.read.same_m;
@@ -294,7 +295,7 @@ whole setting m close cpast c past r rolder err g x =
       deed = u.deed;
       port = x.post.port;
       fw = s.fw;
-      fw_in = Within-tail (line_on x.post.port s.first) s.fw past (Within-through (line_on x.post.port s.first ∷ s.fw) (x.post ∷
+      fw_in = Within_tail (line_on x.post.port s.first) s.fw past (Within_through (line_on x.post.port s.first ∷ s.fw) (x.post ∷
           x.before) past s.place x.acts.brings.place);
       followed = subst (λ w. (d.used.mean ≡ pos 0) ⊎ FollowedBy close.did (view x.post.port (of m cpast)) w d.used.mean) (sym t.begun_is) u.followed;
     }

@@ -3,16 +3,18 @@ use Rattle.std.proofs.Common.{sym, ap, arith, subst, subst₂, inl, inr, ◌∙�
 use Rattle.tsp_rules.specs.Values.{Post, Back, Backer, Message, Accept, Election, PeerId, Peer, Port, LAST, LIFE}
 use Rattle.tsp_base.specs.Words.{Deed, Begins, Step, Acts, Did, Line, Seen, Here, of, dids, view, is_shared, MessageValue, boot_tick, lives, lives_after, word}
 use Rattle.tsp_base.specs.Words.{Within, acting, stood, stood_after, begun, is_numbered, Receives, peer_of, Setup}
-use Rattle.tsp_base.proofs.{PlaceLemmas.Within-all, PlaceLemmas.Within-through, PlaceLemmas.Within-tail, Views.plain_view}
+use Rattle.tsp_base.proofs.{PlaceLemmas.Within_all, PlaceLemmas.Within_through, PlaceLemmas.Within_tail, Views.plain_view}
 use Rattle.tsp_promises.specs.Premises.{Few, FewAt, Honest, HonestAt, Life, TakenWithinAt}
 use Rattle.tsp_promises.proofs.shared.ElectionFacts.{Asks, begun_asks, asks_life, one_asking, open_at, boots, boots_view}
-use Rattle.tsp_promises.proofs.promised.OwnFitsProof.{locate, view-line, seen_in, tick_in, deed_fits, own_fits, fits_at, place-time}
+use Rattle.tsp_promises.proofs.promised.OwnFitsProof.{locate, view_line, seen_in, tick_in, deed_fits, own_fits, fits_at, place_time}
 use Rattle.tsp_promises.proofs.shared.Elections.{AskFits, VoteFits, ElectFits, ElectsAt, Elects}
-use Rattle.tsp_promises.proofs.promised.KnownProof.{GoesOn, StepAt, in-step, known, own-in-step, port_split, step_at}
+use Rattle.tsp_promises.proofs.promised.KnownProof.{GoesOn, StepAt, in_step_holds, known, own_in_step, port_split, step_at}
 use Rattle.tsp_promises.specs.{Fits.Fits, Fits.SameStep, Fits.node_of, Setting.Network, Setting.Setting, Setting.setup_of, StepFacts.backed}
 use Rattle.tsp_promises.specs.{StepFacts.backed_after, DeedFits.MessageFits, DeedFits.ElectionFits, HoldFits.AcceptFits, HoldFits.BackerFits, OwnFits.OwnFits}
-use Rattle.tsp_promises.proofs.{shared.HistoryPlaces.line_on, shared.HistoryPlaces.Within-of, shared.HistoryPlaces.lift, shared.HistoryPlaces.own_in, promised.SinceProof.since, shared.Clocks.near}
-use Rattle.tsp_promises.proofs.{shared.EverywhereLemmas.Everywhere-at, shared.EverywhereLemmas.Everywhere-within, promised.SendProof.opened, promised.SendProof.send_is}
+use Rattle.tsp_promises.proofs.{shared.HistoryPlaces.line_on, shared.HistoryPlaces.Within_of, shared.HistoryPlaces.lift, shared.HistoryPlaces.own_in}
+use Rattle.tsp_promises.proofs.{promised.SinceProof.since, shared.Clocks.near}
+use Rattle.tsp_promises.proofs.{shared.EverywhereLemmas.Everywhere_at, shared.EverywhereLemmas.Everywhere_within, promised.SendProof.opened}
+use Rattle.tsp_promises.proofs.{promised.SendProof.send_is}
 
 -- a history that fits, also as elections ask, under their premises
 pub record Polled (setting : Setting) (world : List Line) : Type 0 where
@@ -25,10 +27,10 @@ pub record Polled (setting : Setting) (world : List Line) : Type 0 where
 pub polled_at : (setting : Setting) (s h : List Line) → Polled setting h → Within s h → Polled setting s
 polled_at setting s h p w = record {
   fits = fits_at setting s h p.fits w;
-  elects = Everywhere-within (ElectsAt setting) s h p.elects w;
-  honest = Everywhere-within HonestAt s h p.honest w;
-  life = Everywhere-within (TakenWithinAt LIFE) s h p.life w;
-  few = Everywhere-within FewAt s h p.few w;
+  elects = Everywhere_within (ElectsAt setting) s h p.elects w;
+  honest = Everywhere_within HonestAt s h p.honest w;
+  life = Everywhere_within (TakenWithinAt LIFE) s h p.life w;
+  few = Everywhere_within FewAt s h p.few w;
 }
 
 -- an ACCEPT of p that counts: the post that was taken, and the ELECTION that it answers
@@ -67,7 +69,7 @@ pub vote_of : (setting : Setting) (a : ℕ) (q : Port) (x : Did) (xo : List Line
 vote_of setting a q x xo p answer w node deed took kind =
     let took' : Receives (view q (of x.step.node xo)) p (Message answer) = subst (λ n. Receives (view q (of n xo)) p (Message answer)) (sym node) took in
     let k = known setting (line_on q x) xo (Backer p) p (Message answer) w.fits w.honest deed took' in
-    let wx = polled_at setting xo (line_on q x ∷ xo) w (inr (Within-all xo)) in
+    let wx = polled_at setting xo (line_on q x ∷ xo) w (inr (Within_all xo)) in
     let wy = polled_at setting (k.post ∷ k.older) xo wx k.place in
     let acc = accept_fits setting k.post k.older (peer_of x.step.node) answer wy.elects.0 k.deed kind in
     let j = known setting k.post k.older (Post (Peer (peer_of x.step.node)) (Message answer)) (peer_of x.step.node) (Message acc.message) wy.fits wy.honest
@@ -114,14 +116,14 @@ back_at setting q p t f e = step_at setting _ (λ t. backed (view q t) ≡ Some 
   none : backed [] ≡ Some p → ⊥
   none e = cc
 
-  by-deed : (deed : Deed) (o : Option PeerId) → backed_after deed o ≡ Some p → (deed ≡ Acts (Back p)) ⊎ (GoesOn deed × (o ≡ Some p))
-  by-deed Begins o e = let bad : ⊥ = cc in absurd bad
-  by-deed (Acts (Back r)) o e = let same : r ≡ p = cc in inl (ap (λ (z : PeerId). Acts (Back z)) same)
-  by-deed (Acts a) o e = inr ((a, refl), e)
+  by_deed_holds : (deed : Deed) (o : Option PeerId) → backed_after deed o ≡ Some p → (deed ≡ Acts (Back p)) ⊎ (GoesOn deed × (o ≡ Some p))
+  by_deed_holds Begins o e = let bad : ⊥ = cc in absurd bad
+  by_deed_holds (Acts (Back r)) o e = let same : r ≡ p = cc in inl (ap (λ (z : PeerId). Acts (Back z)) same)
+  by_deed_holds (Acts a) o e = inr ((a, refl), e)
 
   split : (l : Line) (t : List Line) → backed (view q (l ∷ t)) ≡ Some p →
       ((l.port ≡ q) × (l.did.deed ≡ Acts (Back p))) ⊎ (GoesOn l.did.deed × (backed (view q t) ≡ Some p))
-  split l t e = port_split q (Back p) (λ s. backed s ≡ Some p) l t refl (λ e. by-deed l.did.deed (backed (view q t)) e) (λ e. e) e
+  split l t e = port_split q (Back p) (λ s. backed s ≡ Some p) l t refl (λ e. by_deed_holds l.did.deed (backed (view q t)) e) (λ e. e) e
 
 -- the Back in the step of an ACCEPT
 pub back_of : (setting : Setting) (a : ℕ) (net : Network) (from upto : ℕ) (y : Line) (yo world : List Line) (answer : MessageValue) → Fits setting world →
@@ -134,12 +136,12 @@ back_of setting a net from upto y yo world answer f w deed backs net_is after by
     let b = back_at setting y.port (peer_of a) (of (node_of y) yo) own backs in
     let x = lift (node_of y) yo b.line b.rest b.place in
     let same = subst (λ k. SameStep k y.did.step (dids yo)) deed fy.0.step in
-    let in_step = in-step (Post (Peer (peer_of a)) (Message answer)) y.did.step yo same in
-    let step : b.line.did.step ≡ y.did.step = b.step y.did.step (own-in-step (node_of y) y.did.step yo refl in_step) in
+    let in_step = in_step_holds (Post (Peer (peer_of a)) (Message answer)) y.did.step yo same in
+    let step : b.line.did.step ≡ y.did.step = b.step y.did.step (own_in_step (node_of y) y.did.step yo refl in_step) in
     record {
       line = b.line;
       older = x.world;
-      place = Within-through (b.line ∷ x.world) yo world x.place (Within-tail y yo world w);
+      place = Within_through (b.line ∷ x.world) yo world x.place (Within_tail y yo world w);
       node = x.node;
       deed = b.is.1;
       net_is = ap (setting.net (node_of y)) b.is.0 ∙ net_is;
@@ -153,7 +155,7 @@ asking_number : (setting : Setting) (n : ℕ) (q : Port) (d : Did) (older world 
     d.deed ≡ Acts (Post (Peer p) (Message m)) → m.kind ≡ Election → acting (view q (of n older)) ≡ true → m.number ≡
     32768 + (word (dids (of n older)) + begun (view q (of n older))) % 32768
 asking_number setting n q d older world p m f w node deed kind acts =
-    let own = Everywhere-at (ElectsAt setting) (line_on q d) older world f w in
+    let own = Everywhere_at (ElectsAt setting) (line_on q d) older world f w in
     let here : ElectFits (setup_of setting n q) d.deed d (view q (of n older)) = subst (λ k. ElectFits (setup_of setting k q) d.deed d (view q (of k older)))
     node own in
     let one : VoteFits m.kind (view q (of n older)) p m = subst (λ k. ElectFits (setup_of setting n q) k d (view q (of n older))) deed here in
@@ -163,16 +165,16 @@ asking_number setting n q d older world p m f w node deed kind acts =
 few_in : (n : ℕ) (q : Port) (d : Did) (older world : List Line) (p : PeerId) → Few world → Within (line_on q d ∷ older) world → d.step.node ≡ n →
     Asks p d (view q (of n older)) → begun (view q (of n older)) < 32767
 few_in n q d older world p few w node a =
-    let one = Everywhere-at FewAt (line_on q d) older world few w in
+    let one = Everywhere_at FewAt (line_on q d) older world few w in
     let two : begun (view q (of n (line_on q d ∷ older))) < 32768 = subst (λ k. begun (view q (of k (line_on q d ∷ older))) < 32768) node one in
-    let three : begun (Here d ∷ view q (of n older)) < 32768 = subst (λ s. begun s < 32768) (view-line n (line_on q d) older node) two in
+    let three : begun (Here d ∷ view q (of n older)) < 32768 = subst (λ s. begun s < 32768) (view_line n (line_on q d) older node) two in
     let count = begun_asks p d (view q (of n older)) a in
     omega (arith, three, count)
 
 same_word : (setting : Setting) (n : ℕ) (s t : List Line) → Fits setting t → Within s t → lives (dids (of n s)) ≡ lives (dids (of n t)) → word (dids (of n s)) ≡
     word (dids (of n t))
 same_word setting n s t f w e =
-    let i = since setting (of n s) (of n t) (own_fits setting n t f) (Within-of n s t w) in
+    let i = since setting (of n s) (of n t) (own_fits setting n t f) (Within_of n s t w) in
     elim i.life [ inl one ↦ one.word | inr new ↦ absurd (omega (arith, new.lives, e)) ]
 
 -- by their numbers two ELECTIONs of one life are one
@@ -187,8 +189,8 @@ same_asking setting n q p g f gw fw world mg mf w g_in f_in g_node f_node g_deed
     let b : Asks p f (view q (of n fw)) = record { message = mf; deed = f_deed; kind = f_kind; begins = f_acts } in
     let one = asking_number setting n q g gw world p mg w.elects g_in g_node g_deed g_kind g_acts in
     let two = asking_number setting n q f fw world p mf w.elects f_in f_node f_deed f_kind f_acts in
-    let g_word = same_word setting n gw world w.fits (Within-tail (line_on q g) gw world g_in) g_life in
-    let f_word = same_word setting n fw world w.fits (Within-tail (line_on q f) fw world f_in) f_life in
+    let g_word = same_word setting n gw world w.fits (Within_tail (line_on q g) gw world g_in) g_life in
+    let f_word = same_word setting n fw world w.fits (Within_tail (line_on q f) fw world f_in) f_life in
     let g_few = few_in n q g gw world p w.few g_in g_node a in
     let f_few = few_in n q f fw world p w.few f_in f_node b in
     let same : begun (view q (of n gw)) ≡ begun (view q (of n fw)) = omega (arith, one, two, g_word, f_word, g_few, f_few, number) in
@@ -217,7 +219,7 @@ ask_place setting a q e eo to m f node port deed kind =
     let here : ElectionFits e.did (view q (of a eo)) to m = subst₂ (λ n r. ElectionFits e.did (view r (of n eo)) to m) node port asks in
     let d = send_is to e.did (view q (of a eo)) m deed (ap is_numbered kind) here.numbered.repeats in
     let line : view q (of a (e ∷ eo)) ≡ Here e.did ∷ view q (of a eo) = subst (λ r. view r (of a (e ∷ eo)) ≡ Here e.did ∷
-    view r (of a eo)) port (view-line a e eo node) in
+    view r (of a eo)) port (view_line a e eo node) in
     let l = locate a q (e ∷ eo) d.first d.older (rw d.same refl) (subst (λ s. Within (Here d.first ∷ d.older) s) (sym line) d.place) in
     record {
       g = d.first;
@@ -281,20 +283,20 @@ pub asked_late : (setting : Setting) (a : ℕ) (q : Port) (x : Did) (xo : List L
     x.step.node ≡ a → boot_tick (dids (of a xo)) + 290000000 ≤ x.tick →
     (v : Vote setting a q x xo p number) → OpenPlace a q xo start p number → start.step.at ≤ v.e.did.step.at
 asked_late setting a q x xo p number start w node rested v o =
-    let wx = polled_at setting xo (line_on q x ∷ xo) w (inr (Within-all xo)) in
-    let e_in : Within (v.e ∷ v.eo) xo = Within-through (v.e ∷ v.eo) v.yo xo v.e_in (Within-tail v.y v.yo xo v.y_in) in
+    let wx = polled_at setting xo (line_on q x ∷ xo) w (inr (Within_all xo)) in
+    let e_in : Within (v.e ∷ v.eo) xo = Within_through (v.e ∷ v.eo) v.yo xo v.e_in (Within_tail v.y v.yo xo v.y_in) in
     let we = polled_at setting (v.e ∷ v.eo) xo wx e_in in
     let asks : v.e.did.deed ≡ Acts (Post (Peer p) (Message v.elect)) = subst (λ t. v.e.did.deed ≡ Acts (Post (Peer t) (Message v.elect))) v.voter v.asks in
     let g = ask_place setting a q v.e v.eo p v.elect we.fits v.asker v.port asks v.kind in
-    let g_in : Within (line_on q g.g ∷ g.gw) xo = Within-through (line_on q g.g ∷ g.gw) (v.e ∷ v.eo) xo g.place e_in in
+    let g_in : Within (line_on q g.g ∷ g.gw) xo = Within_through (line_on q g.g ∷ g.gw) (v.e ∷ v.eo) xo g.place e_in in
     let own = own_fits setting a xo wx.fits in
     let i = since setting (line_on q g.g ∷ of a g.gw) (of a xo) own (own_in a (line_on q g.g) g.gw xo g.node g_in) in
-    let late : g.g.step.at ≤ v.e.did.step.at = place-time setting (line_on q g.g ∷ g.gw) (v.e ∷ v.eo) we.fits g.place in
+    let late : g.g.step.at ≤ v.e.did.step.at = place_time setting (line_on q g.g ∷ g.gw) (v.e ∷ v.eo) we.fits g.place in
     elim i.life [
       | inr new ↦
           let tick_e = tick_in setting a v.e v.eo xo wx.fits v.asker e_in in
           let tick_x : x.tick ≡ setting.tick a x.step.at = subst (λ n. x.tick ≡ setting.tick n x.step.at) node w.fits.0.tick in
-          let e_by = place-time setting (v.e ∷ v.eo) xo wx.fits e_in in
+          let e_by = place_time setting (v.e ∷ v.eo) xo wx.fits e_in in
           let n = near setting a v.e.did.step.at x.step.at (omega (arith, w.fits.0.order, e_by)) in
           absurd (omega (arith, new.boot, rested, g.soon, v.early, v.soon, tick_e, tick_x, n.most))
       | inl one ↦
@@ -305,7 +307,7 @@ asked_late setting a q x xo p number start w node rested v o =
           let did : g.g ≡ o.f = cc in
           let at : g.g.step.at ≡ o.f.step.at = ap (λ (d : Did). d.step.at) did in
           let wf = polled_at setting (line_on q o.f ∷ o.fw) xo wx o.place in
-          let early = place-time setting (line_on q start ∷ o.so) o.fw wf.fits.1 o.after in
+          let early = place_time setting (line_on q start ∷ o.so) o.fw wf.fits.1 o.after in
           let order = wf.fits.0.order in
           omega (arith, early, order, at, late)
     ]

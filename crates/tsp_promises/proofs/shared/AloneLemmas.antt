@@ -31,15 +31,15 @@ alone past = on_port first_port past
 pub record Same (C : ℕ → Past → Type 0) (row : NodeRow) (r : Row) : Type 0 where
   pub run : (x : ℕ) (past : NodePast) (s : PortSetup) → past.ports ≡ s ∷ [] → C x (alone past) → row x past ≡ placed first_port (r x (alone past))
 
-placed-append : (xs ys : List Act) → placed first_port (xs ++ ys) ≡ placed first_port xs ++ placed first_port ys
-placed-append [] ys = refl
-placed-append (a ∷ xs) ys = ap (λ (ps : List Placed). record { port = first_port; act = a } ∷ ps) (placed-append xs ys)
+placed_append : (xs ys : List Act) → placed first_port (xs ++ ys) ≡ placed first_port xs ++ placed first_port ys
+placed_append [] ys = refl
+placed_append (a ∷ xs) ys = ap (λ (ps : List Placed). record { port = first_port; act = a } ∷ ps) (placed_append xs ys)
 
 -- one row after the other
-same-then : {C D : ℕ → Past → Type 0} (row more : NodeRow) (r s : Row) → Same C row r → Leads C r D → Same D more s →
+same_then : {C D : ℕ → Past → Type 0} (row more : NodeRow) (r s : Row) → Same C row r → Leads C r D → Same D more s →
     Same C (row and_then more) (r followed_by s)
 unfolding ◌and_then◌ ◌followed_by◌
-same-then {D = D} row more r s a l b = record {
+same_then {D = D} row more r s a l b = record {
   run = λ x past setup one c.
       let acts = r x (alone past) in
       let mid = spread x past (placed first_port acts) in
@@ -47,56 +47,56 @@ same-then {D = D} row more r s a l b = record {
       let known : D x (alone mid) = subst (λ z. D x z) (sym after) (l.run x (alone past) c) in
       ap (λ ps. ps ++ more x (spread x past ps)) (a.run x past setup one c)
       ∙ ap (λ ps. placed first_port acts ++ ps) (b.run x mid setup one known ∙ ap (λ z. placed first_port (s x z)) after)
-      ∙ sym (placed-append acts (s x (grown x (alone past) acts)));
+      ∙ sym (placed_append acts (s x (grown x (alone past) acts)));
 }
 
-same-from : {C D : ℕ → Past → Type 0} (row : NodeRow) (r : Row) → ((x : ℕ) (past : Past) → C x past → D x past) → Same D row r → Same C row r
-same-from row r k a = record { run = λ x past s one c. a.run x past s one (k x (alone past) c) }
+same_from : {C D : ℕ → Past → Type 0} (row : NodeRow) (r : Row) → ((x : ℕ) (past : Past) → C x past → D x past) → Same D row r → Same C row r
+same_from row r k a = record { run = λ x past s one c. a.run x past s one (k x (alone past) c) }
 
 -- a row of the port
-same-on : {C : ℕ → Past → Type 0} (r : Row) → Same C (on first_port r) r
+same_on : {C : ℕ → Past → Type 0} (r : Row) → Same C (on first_port r) r
 unfolding on
-same-on r = record { run = λ x past s one c. refl }
+same_on r = record { run = λ x past s one c. refl }
 
 -- there is no other port
 only : (past : NodePast) (s : PortSetup) → past.ports ≡ s ∷ [] → ports_from 0 past.ports ≡ first_port ∷ []
 only past s one = ap (λ ps. ports_from 0 ps) one
 
-none-other : (past : NodePast) (s : PortSetup) → past.ports ≡ s ∷ [] → other_ports first_port past ≡ []
-none-other past s one = ap (λ ps. filter (λ (r : Port). not (r.0 == 0)) (ports_from 0 ps)) one
+none_other : (past : NodePast) (s : PortSetup) → past.ports ≡ s ∷ [] → other_ports first_port past ≡ []
+none_other past s one = ap (λ ps. filter (λ (r : Port). not (r.0 == 0)) (ports_from 0 ps)) one
 
-none-lower : (past : NodePast) (s : PortSetup) → past.ports ≡ s ∷ [] → lower_ports first_port past ≡ []
-none-lower past s one = ap (λ ps. filter (λ (r : Port). nat_lt r.0 0) (ports_from 0 ps)) one
+none_lower : (past : NodePast) (s : PortSetup) → past.ports ≡ s ∷ [] → lower_ports first_port past ≡ []
+none_lower past s one = ap (λ ps. filter (λ (r : Port). nat_lt r.0 0) (ports_from 0 ps)) one
 
 -- the port leads the clock where it doesn't follow, and steers it where it does
-leads-alone : (x : ℕ) (past : NodePast) (s : PortSetup) → past.ports ≡ s ∷ [] → leads_clock first_port x past ≡ not (follows_on past first_port)
-leads-alone x past s one =
+leads_alone : (x : ℕ) (past : NodePast) (s : PortSetup) → past.ports ≡ s ∷ [] → leads_clock first_port x past ≡ not (follows_on past first_port)
+leads_alone x past s one =
     ap (λ ps. not (any_port (follows_on past) ps) && not (any_port (leads_on past) (lower_ports first_port past))) (only past s one)
-    ∙ ap (λ ps. not (follows_on past first_port || false) && not (any_port (leads_on past) ps)) (none-lower past s one)
+    ∙ ap (λ ps. not (follows_on past first_port || false) && not (any_port (leads_on past) ps)) (none_lower past s one)
     ∙ and-true (not (follows_on past first_port || false))
     ∙ ap (λ b. not b) (or-false (follows_on past first_port))
 
-steers-alone : (x : ℕ) (past : NodePast) (s : PortSetup) → past.ports ≡ s ∷ [] → steers first_port x past ≡ follows_on past first_port
-steers-alone x past s one =
-    ap (λ ps. follows_on past first_port && not (any_port (follows_on past) ps)) (none-lower past s one) ∙ and-true (follows_on past first_port)
+steers_alone : (x : ℕ) (past : NodePast) (s : PortSetup) → past.ports ≡ s ∷ [] → steers first_port x past ≡ follows_on past first_port
+steers_alone x past s one =
+    ap (λ ps. follows_on past first_port && not (any_port (follows_on past) ps)) (none_lower past s one) ∙ and-true (follows_on past first_port)
 
-charge-alone : (x : ℕ) (past : NodePast) (s : PortSetup) → past.ports ≡ s ∷ [] → in_charge first_port x past ≡ true
-charge-alone x past s one = ap (λ b. b || leads_clock first_port x past) (steers-alone x past s one) ∙
-    ap (λ b. follows_on past first_port || b) (leads-alone x past s one) ∙ excluded (follows_on past first_port) where
+charge_alone : (x : ℕ) (past : NodePast) (s : PortSetup) → past.ports ≡ s ∷ [] → in_charge first_port x past ≡ true
+charge_alone x past s one = ap (λ b. b || leads_clock first_port x past) (steers_alone x past s one) ∙
+    ap (λ b. follows_on past first_port || b) (leads_alone x past s one) ∙ excluded (follows_on past first_port) where
       excluded : (b : Bool) → (b || not b) ≡ true
       excluded true = refl
       excluded false = refl
 
 -- no port's round is given up where there is none
-given-up-none : (b : Bool) (x : ℕ) (past : NodePast) → (if b then for_ports abandons_on [] x past else []) ≡ []
+given_up_none : (b : Bool) (x : ℕ) (past : NodePast) → (if b then for_ports abandons_on [] x past else []) ≡ []
 unfolding for_ports nothing_at_all
-given-up-none true x past = refl
-given-up-none false x past = refl
+given_up_none true x past = refl
+given_up_none false x past = refl
 
 -- a probe sends no LOOPs
-same-probe : Same Open (alarm_on first_port Probe) (rings true false Probe)
+same_probe : Same Open (alarm_on first_port Probe) (rings true false Probe)
 unfolding alarm_on probes_on ◌and_then◌ loops_after on
-same-probe = record {
+same_probe = record {
   run = λ x past s one c.
       let acts = rings true false Probe x (alone past) in
       let after = on_port first_port (spread x past (placed first_port acts)) in
@@ -106,110 +106,110 @@ same-probe = record {
 }
 
 -- a round goes on only at a master
-leads-round : (x : ℕ) (past : Past) → Open x past → is_due CloseAlarm x past ≡ true → role past.seen ≡ Master
-leads-round x past h due = by_close (armed past.seen).close refl due where
+leads_round : (x : ℕ) (past : Past) → Open x past → is_due CloseAlarm x past ≡ true → role past.seen ≡ Master
+leads_round x past h due = by_close (armed past.seen).close refl due where
   by_close : (o : Option ℕ) → (armed past.seen).close ≡ o → is_over o x ≡ true → role past.seen ≡ Master
   by_close None e over = absurd (true≢false (sym over))
   by_close (Some at) e over = (h.knows.round.closes refl at e).leads
 
-closes-alone : (x : ℕ) (past : Past) (own : Bool) → Open x past → own ≡ not (is_follow (role past.seen)) → rings own false CloseAlarm x past ≡
+closes_alone : (x : ℕ) (past : Past) (own : Bool) → Open x past → own ≡ not (is_follow (role past.seen)) → rings own false CloseAlarm x past ≡
     rings true false CloseAlarm x past
 unfolding rings either_by alarm_rings
-closes-alone x past own h e = by_due (is_due CloseAlarm x past) refl where
+closes_alone x past own h e = by_due (is_due CloseAlarm x past) refl where
   by_due : (b : Bool) → is_due CloseAlarm x past ≡ b → (if b then close_rings own x past else nothing x past) ≡
       (if b then close_rings true x past else nothing x past)
-  by_due true due = ap (λ own. close_rings own x past) (e ∙ ap (λ (r : Role). not (is_follow r)) (leads-round x past h due))
+  by_due true due = ap (λ own. close_rings own x past) (e ∙ ap (λ (r : Role). not (is_follow r)) (leads_round x past h due))
   by_due false due = refl
 
-same-close : Same Open (alarm_on first_port CloseAlarm) (rings true false CloseAlarm)
+same_close : Same Open (alarm_on first_port CloseAlarm) (rings true false CloseAlarm)
 unfolding alarm_on reading_all closes_on stirring on
-same-close = record {
+same_close = record {
   run = λ x past s one c.
       let own = leads_clock first_port x past in
       let acts = rings own false CloseAlarm x (alone past) in
       let mid = spread x past (placed first_port acts) in
-      ap (λ ports. placed first_port acts ++ (if corrects acts then for_ports abandons_on ports x mid else [])) (none-other past s one)
-      ∙ ap (λ ps. placed first_port acts ++ ps) (given-up-none (corrects acts) x mid)
+      ap (λ ports. placed first_port acts ++ (if corrects acts then for_ports abandons_on ports x mid else [])) (none_other past s one)
+      ∙ ap (λ ps. placed first_port acts ++ ps) (given_up_none (corrects acts) x mid)
       ∙ append-nil (placed first_port acts)
-      ∙ ap (λ zs. placed first_port zs) (closes-alone x (alone past) own c (leads-alone x past s one));
+      ∙ ap (λ zs. placed first_port zs) (closes_alone x (alone past) own c (leads_alone x past s one));
 }
 
 -- no round waits for another port's
-same-round : Same Open (alarm_on first_port Round) (rings true false Round)
+same_round : Same Open (alarm_on first_port Round) (rings true false Round)
 unfolding alarm_on reading_all begins_round_on on
-same-round = record {
-  run = λ x past s one c. ap (λ ports. placed first_port (rings true (any_port (goes_on past) ports) Round x (alone past))) (none-other past s one);
+same_round = record {
+  run = λ x past s one c. ap (λ ports. placed first_port (rings true (any_port (goes_on past) ports) Round x (alone past))) (none_other past s one);
 }
 
 -- an alarm's turn
-same-alarm : (a : Alarm) → Same (Around (moves_by a)) (alarm_on first_port a) (rings_alone a)
+same_alarm : (a : Alarm) → Same (Around (moves_by a)) (alarm_on first_port a) (rings_alone a)
 unfolding alarm_on rings_alone
-same-alarm Probe = same-probe
-same-alarm CloseAlarm = same-from (alarm_on first_port CloseAlarm) (rings true false CloseAlarm) (around_open true) same-close
-same-alarm Round = same-round
-same-alarm a = same-on (rings true false a)
+same_alarm Probe = same_probe
+same_alarm CloseAlarm = same_from (alarm_on first_port CloseAlarm) (rings true false CloseAlarm) (around_open true) same_close
+same_alarm Round = same_round
+same_alarm a = same_on (rings true false a)
 
-same-each : (probed : Bool) (alarms : List Alarm) → are_probed probed alarms ≡ true → Same (Around probed) (each_on first_port alarms) (rings_each alarms)
+same_each : (probed : Bool) (alarms : List Alarm) → are_probed probed alarms ≡ true → Same (Around probed) (each_on first_port alarms) (rings_each alarms)
 unfolding nothing_at_all nothing rings_alone
-same-each probed [] e = record { run = λ x past s one c. refl }
-same-each probed (a ∷ []) e = same-from (alarm_on first_port a) (rings_alone a) (before_turn probed a [] e) (same-alarm a)
-same-each probed (a ∷ next ∷ rest) e =
-    same-from (each_on first_port (a ∷ next ∷ rest)) (rings_each (a ∷ next ∷ rest)) (before_turn probed a (next ∷ rest) e)
-    (same-then (alarm_on first_port a) (each_on first_port (next ∷ rest)) (rings_alone a) (rings_each (next ∷ rest)) (same-alarm a) (alarm_leads true false a)
-    (same-each (is_probe a) (next ∷ rest) (after_turn probed a (next ∷ rest) e)))
+same_each probed [] e = record { run = λ x past s one c. refl }
+same_each probed (a ∷ []) e = same_from (alarm_on first_port a) (rings_alone a) (before_turn probed a [] e) (same_alarm a)
+same_each probed (a ∷ next ∷ rest) e =
+    same_from (each_on first_port (a ∷ next ∷ rest)) (rings_each (a ∷ next ∷ rest)) (before_turn probed a (next ∷ rest) e)
+    (same_then (alarm_on first_port a) (each_on first_port (next ∷ rest)) (rings_alone a) (rings_each (next ∷ rest)) (same_alarm a) (alarm_leads true false a)
+    (same_each (is_probe a) (next ∷ rest) (after_turn probed a (next ∷ rest) e)))
 
-same-alarms : Same Open (alarms_on first_port) due_alarms
+same_alarms : Same Open (alarms_on first_port) due_alarms
 unfolding alarms_on due_alarms
-same-alarms = same-each false ALL refl
+same_alarms = same_each false ALL refl
 
-same-turns : Same Fresh (turns_on first_port) (due_sends followed_by due_alarms)
+same_turns : Same Fresh (turns_on first_port) (due_sends followed_by due_alarms)
 unfolding turns_on
-same-turns = same-then (on first_port due_sends) (alarms_on first_port) due_sends due_alarms (same-on due_sends) due_sends_lead
-    (same-from (alarms_on first_port) due_alarms (λ x past h. open_of h) same-alarms)
+same_turns = same_then (on first_port due_sends) (alarms_on first_port) due_sends due_alarms (same_on due_sends) due_sends_lead
+    (same_from (alarms_on first_port) due_alarms (λ x past h. open_of h) same_alarms)
 
 -- what goes through all ports goes through the only one
-each-alone : {C : ℕ → Past → Type 0} (rows : Port → NodeRow) (r : Row) → Same C (rows first_port) r → Same C (reading_all all_ports (for_ports rows)) r
+each_alone : {C : ℕ → Past → Type 0} (rows : Port → NodeRow) (r : Row) → Same C (rows first_port) r → Same C (reading_all all_ports (for_ports rows)) r
 unfolding reading_all for_ports ◌and_then◌ nothing_at_all
-each-alone rows r a =
+each_alone rows r a =
     record { run = λ x past s one c. ap (λ ports. for_ports rows ports x past) (only past s one) ∙ append-nil (rows first_port x past) ∙ a.run x past s one c }
 
 -- a correction isn't passed over: who follows steers the clock
-never-left : (f c : Bool) → (not f && (c && f)) ≡ false
-never-left true c = refl
-never-left false c = and_right c false refl
+never_left : (f c : Bool) → (not f && (c && f)) ≡ false
+never_left true c = refl
+never_left false c = and_right c false refl
 
-takes-alone : (from : Place) (m : MessageValue) (steer charge : Bool) (x : ℕ) (past : Past) → steer ≡ is_follow (role past.seen) → charge ≡ true →
+takes_alone : (from : Place) (m : MessageValue) (steer charge : Bool) (x : ℕ) (past : Past) → steer ≡ is_follow (role past.seen) → charge ≡ true →
     takes steer charge from (Good (Message m)) x past ≡ takes true true from (Good (Message m)) x past
 unfolding takes handles either_by ◌followed_by◌ puts
-takes-alone from m steer charge x past s c =
+takes_alone from m steer charge x past s c =
     let next = grown x past (Took from (Good (Message m)) ∷ []) in
     let acts : Bool → Bool → List Act = λ left ch. (Took from (Good (Message m)) ∷ []) ++
     (if is_own from x next then nothing x next else (if left then nothing x next else handles_kind ch from m m.kind x next)) in
     let left : is_left steer m.kind x next ≡ false = ap (λ b. not b && (is_correction m.kind && is_follow (role past.seen))) s ∙
-    never-left (is_follow (role past.seen)) (is_correction m.kind) in
+    never_left (is_follow (role past.seen)) (is_correction m.kind) in
     ap (λ b. acts b charge) left ∙ ap (λ b. acts false b) c
 
 -- a round that goes on is given up alike
-gives-up : (x : ℕ) (past : NodePast) → abandons_on first_port x past ≡ placed first_port (abandons_going x (alone past))
+gives_up_holds : (x : ℕ) (past : NodePast) → abandons_on first_port x past ≡ placed first_port (abandons_going x (alone past))
 unfolding abandons_on abandons_going either_by abandons puts nothing
-gives-up x past = by_going (is_going (view first_port past.lines)) where
+gives_up_holds x past = by_going (is_going (view first_port past.lines)) where
   by_going : (b : Bool) → (if b then record { port = first_port; act = Abandon } ∷ [] else []) ≡ placed first_port (if b then Abandon ∷ [] else [])
   by_going true = refl
   by_going false = refl
 
 -- a follower has no round
-no-round : (x : ℕ) (past : Past) → Rests x past → is_follow (role past.seen) ≡ true → is_going past.seen ≡ false
-no-round x past h follows = by_close (armed past.seen).close refl where
+no_round : (x : ℕ) (past : Past) → Rests x past → is_follow (role past.seen) ≡ true → is_going past.seen ≡ false
+no_round x past h follows = by_close (armed past.seen).close refl where
   by_close : (o : Option ℕ) → (armed past.seen).close ≡ o → is_some o ≡ false
   by_close None e = refl
   by_close (Some at) e = absurd (true≢false (sym follows ∙ ap (λ (r : Role). is_follow r) (h.knows.round.closes refl at e).leads))
 
 module _ (from : Place) (m : MessageValue) where
   -- what corrects the clock and is no date finds no round that goes on
-  none-going : (x : ℕ) (past : Past) → Open x past → corrects (takes true true from (Good (Message m)) x past) ≡ true → sets_date m.kind ≡ false →
+  none_going : (x : ℕ) (past : Past) → Open x past → corrects (takes true true from (Good (Message m)) x past) ≡ true → sets_date m.kind ≡ false →
       abandons_going x (grown x past (takes true true from (Good (Message m)) x past)) ≡ []
   unfolding abandons_going either_by nothing
-  none-going x past h e d =
+  none_going x past h e d =
       let acts = takes true true from (Good (Message m)) x past in
       let follows : is_follow (role (grown x past acts).seen) ≡ true = elim ((steady_takes from m d).run x past tt) [
         | inl still ↦
@@ -221,64 +221,64 @@ module _ (from : Place) (m : MessageValue) where
         | inr s ↦
             absurd (true≢false (sym s.0 ∙ d))
       ] in
-      let idle : is_going_at x (grown x past acts) ≡ false = no-round x (grown x past acts) rests follows in
+      let idle : is_going_at x (grown x past acts) ≡ false = no_round x (grown x past acts) rests follows in
       ap (λ b. if b then abandons x (grown x past acts) else []) idle
 
-  ends-alike : (x : ℕ) (past : NodePast) (s : PortSetup) → past.ports ≡ s ∷ [] → Open x (alone past) →
+  ends_alike : (x : ℕ) (past : NodePast) (s : PortSetup) → past.ports ≡ s ∷ [] → Open x (alone past) →
       corrects (takes true true from (Good (Message m)) x (alone past)) ≡ true → (d : Bool) → sets_date m.kind ≡ d →
       for_ports abandons_on (if d then ports_from 0 past.ports else other_ports first_port past) x
       (spread x past (placed first_port (takes true true from (Good (Message m)) x (alone past))))
       ≡ placed first_port (abandons_going x (grown x (alone past) (takes true true from (Good (Message m)) x (alone past))))
   unfolding for_ports ◌and_then◌ nothing_at_all
-  ends-alike x past s one h e true d =
+  ends_alike x past s one h e true d =
       let acts = takes true true from (Good (Message m)) x (alone past) in
       let mid = spread x past (placed first_port acts) in
       ap (λ ports. for_ports abandons_on ports x mid) (only past s one)
       ∙ append-nil (abandons_on first_port x mid)
-      ∙ gives-up x mid
+      ∙ gives_up_holds x mid
       ∙ ap (λ z. placed first_port (abandons_going x z)) (on_own first_port x past acts)
-  ends-alike x past s one h e false d =
+  ends_alike x past s one h e false d =
       let acts = takes true true from (Good (Message m)) x (alone past) in
       let mid = spread x past (placed first_port acts) in
-      ap (λ ports. for_ports abandons_on ports x mid) (none-other past s one) ∙ sym (ap (λ zs. placed first_port zs) (none-going x (alone past) h e d))
+      ap (λ ports. for_ports abandons_on ports x mid) (none_other past s one) ∙ sym (ap (λ zs. placed first_port zs) (none_going x (alone past) h e d))
 
-  same-message : Same Open (takes_message first_port from m) (upsetting (takes true true from (Good (Message m))))
+  same_message : Same Open (takes_message first_port from m) (upsetting (takes true true from (Good (Message m))))
   unfolding takes_message stirring upsetting on
-  same-message = record {
+  same_message = record {
     run = λ x past s one c.
         let acts = takes true true from (Good (Message m)) x (alone past) in
         let after = abandons_going x (grown x (alone past) acts) in
-        let same = takes-alone from m (steers first_port x past) (in_charge first_port x past) x (alone past) (steers-alone x past s one)
-        (charge-alone x past s one) in
+        let same = takes_alone from m (steers first_port x past) (in_charge first_port x past) x (alone past) (steers_alone x past s one)
+        (charge_alone x past s one) in
         ap (λ zs. placed first_port zs ++ (if corrects zs then for_ports abandons_on (stirred_ports first_port m.kind past) x
         (spread x past (placed first_port zs)) else [])) same
         ∙ ap (λ ps. placed first_port acts ++ ps) (by_moved x past s one c (corrects acts) refl)
-        ∙ sym (placed-append acts (if corrects acts then after else []));
+        ∙ sym (placed_append acts (if corrects acts then after else []));
   } where
     by_moved : (x : ℕ) (past : NodePast) (s : PortSetup) → past.ports ≡ s ∷ [] → Open x (alone past) → (b : Bool) →
         corrects (takes true true from (Good (Message m)) x (alone past)) ≡ b →
         (if b then for_ports abandons_on (stirred_ports first_port m.kind past) x
         (spread x past (placed first_port (takes true true from (Good (Message m)) x (alone past)))) else [])
         ≡ placed first_port (if b then abandons_going x (grown x (alone past) (takes true true from (Good (Message m)) x (alone past))) else [])
-    by_moved x past s one h true e = ends-alike x past s one h e (sets_date m.kind) refl
+    by_moved x past s one h true e = ends_alike x past s one h e (sets_date m.kind) refl
     by_moved x past s one h false e = refl
 
   -- a LOOP is passed over
-  heeds-none : (b : Bool) (x : ℕ) (past : NodePast) (s : PortSetup) → past.ports ≡ s ∷ [] → heeds_loop first_port m b x past ≡ []
+  heeds_none : (b : Bool) (x : ℕ) (past : NodePast) (s : PortSetup) → past.ports ≡ s ∷ [] → heeds_loop first_port m b x past ≡ []
   unfolding heeds_loop judges takes_loop_step nothing_at_all
-  heeds-none true x past s one = ap (λ (ps : List PortSetup). takes_loop_step first_port (judge past.name (length ps) first_port m) x past) one
-  heeds-none false x past s one = refl
+  heeds_none true x past s one = ap (λ (ps : List PortSetup). takes_loop_step first_port (judge past.name (length ps) first_port m) x past) one
+  heeds_none false x past s one = refl
 
-  handles-none : (x : ℕ) (past : Past) → m.kind ≡ LoopKind → handles true true from (Good (Message m)) x past ≡ []
+  handles_none : (x : ℕ) (past : Past) → m.kind ≡ LoopKind → handles true true from (Good (Message m)) x past ≡ []
   unfolding handles either_by handles_kind nothing
-  handles-none x past e = ap (λ k. handles_kind true from m k x past) e
+  handles_none x past e = ap (λ k. handles_kind true from m k x past) e
 
-  loop-acts : (x : ℕ) (past : Past) → m.kind ≡ LoopKind → takes true true from (Good (Message m)) x past ≡ Took from (Good (Message m)) ∷ []
+  loop_acts : (x : ℕ) (past : Past) → m.kind ≡ LoopKind → takes true true from (Good (Message m)) x past ≡ Took from (Good (Message m)) ∷ []
   unfolding takes either_by ◌followed_by◌ puts nothing
-  loop-acts x past e =
+  loop_acts x past e =
       let next = grown x past (Took from (Good (Message m)) ∷ []) in
       let none : (if is_own from x next then [] else handles true true from (Good (Message m)) x next) ≡ [] =
-      ap (λ zs. if is_own from x next then [] else zs) (handles-none x next e) ∙ either (is_own from x next) in
+      ap (λ zs. if is_own from x next then [] else zs) (handles_none x next e) ∙ either (is_own from x next) in
       ap (λ zs. (Took from (Good (Message m)) ∷ []) ++ zs) none
     where
       no_acts : List Act
@@ -288,25 +288,25 @@ module _ (from : Place) (m : MessageValue) where
       either true = refl
       either false = refl
 
-  same-loop : m.kind ≡ LoopKind → Same Open (takes_loop first_port from m) (upsetting (takes true true from (Good (Message m))))
+  same_loop : m.kind ≡ LoopKind → Same Open (takes_loop first_port from m) (upsetting (takes true true from (Good (Message m))))
   unfolding takes_loop ◌and_then◌ reading_all upsetting puts on
-  same-loop e = record {
+  same_loop e = record {
     run = λ x past s one c.
         let took = Took from (Good (Message m)) ∷ [] in
         let mid = spread x past (placed first_port took) in
-        ap (λ ps. placed first_port took ++ ps) (heeds-none (hears_on from first_port x mid) x mid s one)
-        ∙ sym (ap (λ zs. placed first_port (zs ++ (if corrects zs then abandons_going x (grown x (alone past) zs) else []))) (loop-acts x (alone past) e));
+        ap (λ ps. placed first_port took ++ ps) (heeds_none (hears_on from first_port x mid) x mid s one)
+        ∙ sym (ap (λ zs. placed first_port (zs ++ (if corrects zs then abandons_going x (grown x (alone past) zs) else []))) (loop_acts x (alone past) e));
   }
 
-  same-kind : (k : Kind) → m.kind ≡ k → Same Open (takes_kind first_port from m k) (upsetting (takes true true from (Good (Message m))))
+  same_kind : (k : Kind) → m.kind ≡ k → Same Open (takes_kind first_port from m k) (upsetting (takes true true from (Good (Message m))))
   unfolding takes_kind
-  same-kind LoopKind e = same-loop e
-  same-kind _ e = same-message
+  same_kind LoopKind e = same_loop e
+  same_kind _ e = same_message
 
 -- what is no message
-same-still : (from : Place) (t : Taken) → is_message t ≡ false → Same Open (on first_port (takes true true from t)) (upsetting (takes true true from t))
+same_still : (from : Place) (t : Taken) → is_message t ≡ false → Same Open (on first_port (takes true true from t)) (upsetting (takes true true from t))
 unfolding on upsetting
-same-still from t e = record {
+same_still from t e = record {
   run = λ x past s one c.
       let acts = takes true true from t x (alone past) in
       let after = abandons_going x (grown x (alone past) acts) in
@@ -314,20 +314,20 @@ same-still from t e = record {
       ap (λ zs. placed first_port zs) (append-nil acts));
 }
 
-same-taken : (from : Place) (t : Taken) → Same Open (takes_on first_port from t) (upsetting (takes true true from t))
+same_taken : (from : Place) (t : Taken) → Same Open (takes_on first_port from t) (upsetting (takes true true from t))
 unfolding takes_on
-same-taken from (Good (Message m)) = same-kind from m m.kind refl
-same-taken from (Good (Stamp s)) = same-still from (Good (Stamp s)) refl
-same-taken from (Bad fault) = same-still from (Bad fault) refl
+same_taken from (Good (Message m)) = same_kind from m m.kind refl
+same_taken from (Good (Stamp s)) = same_still from (Good (Stamp s)) refl
+same_taken from (Bad fault) = same_still from (Bad fault) refl
 
 -- what is given comes on the only port
-same-input : (g : NodeGiven) → IsGivenOn 1 (NodeAnswers g) → Same Open (input_all g) (input_row (given_alone g))
+same_input : (g : NodeGiven) → IsGivenOn 1 (NodeAnswers g) → Same Open (input_all g) (input_row (given_alone g))
 unfolding input_all input_row nothing_at_all nothing
-same-input NodeTurn here = record { run = λ x past s one c. refl }
-same-input (GotOn q from t) here =
+same_input NodeTurn here = record { run = λ x past s one c. refl }
+same_input (GotOn q from t) here =
     let zero : q.0 ≡ 0 = omega (arith, here) in
     let first : first_port ≡ q = ap (λ n. let r : Port = record { 0 = n } in r) (sym zero) in
-    subst (λ r. Same Open (takes_on r from t) (upsetting (takes true true from t))) first (same-taken from t)
+    subst (λ r. Same Open (takes_on r from t) (upsetting (takes true true from t))) first (same_taken from t)
 
 -- a step
 pub same_answers : (g : NodeGiven) → IsGivenOn 1 (NodeAnswers g) → Same Fresh (answers_all g) (answers (given_alone g))
@@ -336,20 +336,20 @@ same_answers g here = record {
   run = λ x past s one c.
       let row = input_row (given_alone g) in
       let parts =
-      (same-then (reading_all all_ports (for_ports turns_on)) (input_all g) (due_sends followed_by due_alarms) row
-      (each-alone turns_on (due_sends followed_by due_alarms) same-turns)
-      (Leads_then due_sends due_alarms due_sends_lead (Leads_from (λ y z h. open_of h) due_alarms_lead)) (same-input g here)).run x past s one c in
+      (same_then (reading_all all_ports (for_ports turns_on)) (input_all g) (due_sends followed_by due_alarms) row
+      (each_alone turns_on (due_sends followed_by due_alarms) same_turns)
+      (Leads_then due_sends due_alarms due_sends_lead (Leads_from (λ y z h. open_of h) due_alarms_lead)) (same_input g here)).run x past s one c in
       parts ∙ ap (λ zs. placed first_port zs) (then_assoc due_sends due_alarms row x (alone past));
 }
 
-boots-on : {C : ℕ → Past → Type 0} → Same C (boots_on first_port) (puts (Become Starting) followed_by arms Quiet QUIET)
+boots_on_holds : {C : ℕ → Past → Type 0} → Same C (boots_on first_port) (puts (Become Starting) followed_by arms Quiet QUIET)
 unfolding boots_on on
-boots-on = record { run = λ x past s one c. refl }
+boots_on_holds = record { run = λ x past s one c. refl }
 
 -- a boot
 pub same_boots : Same (λ x past. Unit {0}) boots_all boots
 unfolding boots_all boots
 same_boots =
-    same-then {D = λ x past. Unit {0}} (on first_port (puts Boot)) (reading_all all_ports (for_ports boots_on)) (puts Boot)
-    (puts (Become Starting) followed_by arms Quiet QUIET) (same-on (puts Boot)) (record { run = λ x past c. tt {0} })
-    (each-alone boots_on (puts (Become Starting) followed_by arms Quiet QUIET) boots-on)
+    same_then {D = λ x past. Unit {0}} (on first_port (puts Boot)) (reading_all all_ports (for_ports boots_on)) (puts Boot)
+    (puts (Become Starting) followed_by arms Quiet QUIET) (same_on (puts Boot)) (record { run = λ x past c. tt {0} })
+    (each_alone boots_on (puts (Become Starting) followed_by arms Quiet QUIET) boots_on_holds)

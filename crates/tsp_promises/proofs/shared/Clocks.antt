@@ -4,8 +4,8 @@ use Rattle.tsp_promises.specs.Setting.{Setting}
 use Rattle.tsp_base.specs.Words.{width}
 use Rattle.tsp_base.proofs.TickLemmas.{Near}
 
-near-by : (p s x a b : ℕ) → p ≤ 1000 → a ≤ b → b ≤ a + x + (p * x + 999999) / 1000000 → a + x ≤ b + (p * x + 999999) / 1000000 → Near s (s + x) a b
-near-by p s x a b small rises fast slow =
+near_by : (p s x a b : ℕ) → p ≤ 1000 → a ≤ b → b ≤ a + x + (p * x + 999999) / 1000000 → a + x ≤ b + (p * x + 999999) / 1000000 → Near s (s + x) a b
+near_by p s x a b small rises fast slow =
     let m : x * p ≤ x * 1000 = mul-le-mul_left x small in
     record { most = omega (arith, fast); least = omega (arith, slow); mono = rises }
 
@@ -15,10 +15,10 @@ near setting n s t h =
     let k = setting.ticks n in
     let e : s + (t - s) ≡ t = omega arith in
     subst (λ w. Near s w (setting.tick n s) (setting.tick n w)) e
-    (near-by setting.drift s (t - s) (setting.tick n s) (setting.tick n (s + (t - s))) setting.small (k.rises s (t - s)) (k.fast s (t - s)) (k.slow s (t - s)))
+    (near_by setting.drift s (t - s) (setting.tick n s) (setting.tick n (s + (t - s))) setting.small (k.rises s (t - s)) (k.fast s (t - s)) (k.slow s (t - s)))
 
-pub tick-mono : (setting : Setting) (n s t : ℕ) → s ≤ t → setting.tick n s ≤ setting.tick n t
-tick-mono setting n s t h = let m = near setting n s t h in m.mono
+pub tick_mono : (setting : Setting) (n s t : ℕ) → s ≤ t → setting.tick n s ≤ setting.tick n t
+tick_mono setting n s t h = let m = near setting n s t h in m.mono
 
 -- the ticks between two true times
 pub ticks_over : (setting : Setting) (n a b : ℕ) → a ≤ b → (setting.tick n b ≤ setting.tick n a + (b - a) + width setting.drift (b - a)) ×

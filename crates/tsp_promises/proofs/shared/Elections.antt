@@ -22,13 +22,13 @@ in_among p (q ∷ rest) e = elim (or_cases (q.0 == p.0) (is_among p rest) e) [
   | inr h ↦ inr (in_among p rest h)
 ]
 
-among-in : (p : PeerId) (ps : List PeerId) → In p ps → is_among p ps ≡ true
-among-in p [] i = absurd i
-among-in p (q ∷ rest) (inl e) = (let same : (q.0 == p.0) ≡ true = eq-eqb q.0 p.0 (cc) in rw same refl)
-among-in p (q ∷ rest) (inr i) = (let later = among-in p rest i in rw later (or-true (q.0 == p.0)))
+among_in : (p : PeerId) (ps : List PeerId) → In p ps → is_among p ps ≡ true
+among_in p [] i = absurd i
+among_in p (q ∷ rest) (inl e) = (let same : (q.0 == p.0) ≡ true = eq-eqb q.0 p.0 (cc) in rw same refl)
+among_in p (q ∷ rest) (inr i) = (let later = among_in p rest i in rw later (or-true (q.0 == p.0)))
 
 pub not_among : (p : PeerId) (ps : List PeerId) → is_among p ps ≡ false → In p ps → ⊥
-not_among p ps e i = true≢false (sym (among-in p ps i) ∙ e)
+not_among p ps e i = true≢false (sym (among_in p ps i) ∙ e)
 
 -- an ELECTION that begins has the port's next own number
 pub record AskFits (before : List Seen) (number : ℕ) : Type 0 where
@@ -46,17 +46,17 @@ ElectFits who (Acts (Backer p)) here before = BackerFits who here before p
 ElectFits who (Acts (Become Master)) here before = LeadFits who here before
 ElectFits who _ here before = Unit {0}
 
-vote-fits : (who : Setup) (k : Kind) (here : Did) (before : List Seen) (p : PeerId) (m : MessageValue) → MessageFits who k here before p m →
+vote_fits : (who : Setup) (k : Kind) (here : Did) (before : List Seen) (p : PeerId) (m : MessageValue) → MessageFits who k here before p m →
     VoteFits k before p m
-vote-fits who Election here before p m f = record { next = f.numbered.next }
-vote-fits who Accept here before p m f = f
-vote-fits who _ here before p m f = tt
+vote_fits who Election here before p m f = record { next = f.numbered.next }
+vote_fits who Accept here before p m f = f
+vote_fits who _ here before p m f = tt
 
-elect-fits : (who : Setup) (deed : Deed) (here : Did) (before : List Seen) → DeedFits who deed here before → ElectFits who deed here before
-elect-fits who (Acts (Post (Peer p) (Message m))) here before f = vote-fits who m.kind here before p m f.fits
-elect-fits who (Acts (Backer p)) here before f = f
-elect-fits who (Acts (Become Master)) here before f = f
-elect-fits who _ here before f = tt
+elect_fits : (who : Setup) (deed : Deed) (here : Did) (before : List Seen) → DeedFits who deed here before → ElectFits who deed here before
+elect_fits who (Acts (Post (Peer p) (Message m))) here before f = vote_fits who m.kind here before p m f.fits
+elect_fits who (Acts (Backer p)) here before f = f
+elect_fits who (Acts (Become Master)) here before f = f
+elect_fits who _ here before f = tt
 
 abbrev pub ElectsAt : Setting → Line → List Line → Type 0
 ElectsAt setting l world = ElectFits (setup_of setting (node_of l) l.port) l.did.deed l.did (view l.port (of (node_of l) world))
@@ -68,7 +68,7 @@ Elects setting = Everywhere (ElectsAt setting)
 pub elects : (setting : Setting) (world : List Line) → Fits setting world → Elects setting world
 elects setting [] f = tt
 elects setting (l ∷ world) f = (
-  elect-fits (setup_of setting (node_of l) l.port) l.did.deed l.did (view l.port (of (node_of l) world))
+  elect_fits (setup_of setting (node_of l) l.port) l.did.deed l.did (view l.port (of (node_of l) world))
       (deed_fits setting l world l.did.deed refl f.0),
   elects setting world f.1,
 )
@@ -91,19 +91,19 @@ abbrev pub counted : (PeerId → Bool) → List PeerId → ℕ
 counted test [] = 0
 counted test (z ∷ rest) = if test z then counted test rest + 1 else counted test rest
 
-pub found-in : (xs : List PeerId) (z : PeerId) → among xs z ≡ true → In z xs
-found-in [] z e = absurd (true≢false (sym e))
-found-in (p ∷ rest) z e = by-case (p.0 == z.0) refl (found-in rest z) e where
-  by-case : (b : Bool) → (p.0 == z.0) ≡ b → (among rest z ≡ true → In z rest) → (b || among rest z) ≡ true → In z (p ∷ rest)
-  by-case true is h f = inl (same_peer p z is)
-  by-case false is h f = inr (h f)
+pub found_in : (xs : List PeerId) (z : PeerId) → among xs z ≡ true → In z xs
+found_in [] z e = absurd (true≢false (sym e))
+found_in (p ∷ rest) z e = by_case (p.0 == z.0) refl (found_in rest z) e where
+  by_case : (b : Bool) → (p.0 == z.0) ≡ b → (among rest z ≡ true → In z rest) → (b || among rest z) ≡ true → In z (p ∷ rest)
+  by_case true is h f = inl (same_peer p z is)
+  by_case false is h f = inr (h f)
 
 -- what one more peer adds to two counts, the second by a wider test
-count-step : (k m n : ℕ) (a b : Bool) → (a ≡ true → b ≡ true) → m + k ≤ n → (if a then m + 1 else m) + k ≤ (if b then n + 1 else n)
-count-step k m n true true i h = omega (arith, h)
-count-step k m n true false i h = absurd (true≢false (sym (i refl)))
-count-step k m n false true i h = omega (arith, h)
-count-step k m n false false i h = h
+count_step : (k m n : ℕ) (a b : Bool) → (a ≡ true → b ≡ true) → m + k ≤ n → (if a then m + 1 else m) + k ≤ (if b then n + 1 else n)
+count_step k m n true true i h = omega (arith, h)
+count_step k m n true false i h = absurd (true≢false (sym (i refl)))
+count_step k m n false true i h = omega (arith, h)
+count_step k m n false false i h = h
 
 either : (p z : PeerId) (rest : List PeerId) → among rest z ≡ true → among (p ∷ rest) z ≡ true
 either p z rest e = rw e (or-true (p.0 == z.0))
@@ -112,7 +112,7 @@ wider : (p : PeerId) (rest all : List PeerId) → counted (among rest) all ≤ c
 wider p rest [] = omega arith
 wider p rest (z ∷ all) =
     let h =
-    count-step 0 (counted (among rest) all) (counted (among (p ∷ rest)) all) (among rest z) (among (p ∷ rest) z) (either p z rest)
+    count_step 0 (counted (among rest) all) (counted (among (p ∷ rest)) all) (among rest z) (among (p ∷ rest) z) (either p z rest)
     (omega (arith, wider p rest all)) in
     omega (arith, h)
 
@@ -124,15 +124,15 @@ one-more p rest (z ∷ all) n (inl e) =
     rw (here, none (among rest z) refl) (omega (arith, wider p rest all))
   where
     none : (b : Bool) → among rest z ≡ b → among rest z ≡ false
-    none true b = absurd (n (found-in rest p (ap (among rest) (sym e) ∙ b)))
+    none true b = absurd (n (found_in rest p (ap (among rest) (sym e) ∙ b)))
     none false b = b
 one-more p rest (z ∷ all) n (inr i) =
-    count-step 1 (counted (among rest) all) (counted (among (p ∷ rest)) all) (among rest z) (among (p ∷ rest) z) (either p z rest) (one-more p rest all n i)
+    count_step 1 (counted (among rest) all) (counted (among (p ∷ rest)) all) (among rest z) (among (p ∷ rest) z) (either p z rest) (one-more p rest all n i)
 
 -- different ones are no more than pass their test
-few-in : (xs all : List PeerId) → Distinct xs → AllIn xs all → length xs ≤ counted (among xs) all
-few-in [] all d i = omega arith
-few-in (p ∷ rest) all d i = omega (arith, few-in rest all d.1 i.1, one-more p rest all d.0 i.0)
+few_in : (xs all : List PeerId) → Distinct xs → AllIn xs all → length xs ≤ counted (among xs) all
+few_in [] all d i = omega arith
+few_in (p ∷ rest) all d i = omega (arith, few_in rest all d.1 i.1, one-more p rest all d.0 i.0)
 
 -- one that is in both
 pub record Shared (xs ys : List PeerId) : Type 0 where
@@ -140,22 +140,22 @@ pub record Shared (xs ys : List PeerId) : Type 0 where
   pub one : In peer xs
   pub two : In peer ys
 
-shared-or-few : (xs ys all : List PeerId) → Shared xs ys ⊎ (counted (among xs) all + counted (among ys) all ≤ length all)
-shared-or-few xs ys [] = inr (omega arith)
-shared-or-few xs ys (z ∷ all) = elim (shared-or-few xs ys all) [
+shared_or_few : (xs ys all : List PeerId) → Shared xs ys ⊎ (counted (among xs) all + counted (among ys) all ≤ length all)
+shared_or_few xs ys [] = inr (omega arith)
+shared_or_few xs ys (z ∷ all) = elim (shared_or_few xs ys all) [
   | inl s ↦ inl s
-  | inr h ↦ by-case (among xs z) (among ys z) refl refl h
+  | inr h ↦ by_case (among xs z) (among ys z) refl refl h
 ] where
-  by-case : (a b : Bool) → among xs z ≡ a → among ys z ≡ b → counted (among xs) all + counted (among ys) all ≤ length all →
+  by_case : (a b : Bool) → among xs z ≡ a → among ys z ≡ b → counted (among xs) all + counted (among ys) all ≤ length all →
       Shared xs ys ⊎ ((if a then counted (among xs) all + 1 else counted (among xs) all) + (if b then counted (among ys) all + 1 else counted (among ys) all) ≤
       length (z ∷ all))
-  by-case true true a b h = inl (record { peer = z; one = found-in xs z a; two = found-in ys z b })
-  by-case true false a b h = inr (omega (arith, h))
-  by-case false true a b h = inr (omega (arith, h))
-  by-case false false a b h = inr (omega (arith, h))
+  by_case true true a b h = inl (record { peer = z; one = found_in xs z a; two = found_in ys z b })
+  by_case true false a b h = inr (omega (arith, h))
+  by_case false true a b h = inr (omega (arith, h))
+  by_case false false a b h = inr (omega (arith, h))
 
 pub shared : (xs ys all : List PeerId) → Distinct xs → Distinct ys → AllIn xs all → AllIn ys all → length all < length xs + length ys → Shared xs ys
-shared xs ys all dx dy ix iy more = elim (shared-or-few xs ys all) [
+shared xs ys all dx dy ix iy more = elim (shared_or_few xs ys all) [
   | inl s ↦ s
-  | inr h ↦ absurd (let a = few-in xs all dx ix in let b = few-in ys all dy iy in omega (arith, a, b, h, more))
+  | inr h ↦ absurd (let a = few_in xs all dx ix in let b = few_in ys all dy iy in omega (arith, a, b, h, more))
 ]

@@ -40,26 +40,26 @@ port_swap q r c e = grind (arith, nat_tests)
 without : Port → List Port → List Port
 without q ports = filter (λ r. not (r.0 == q.0)) ports
 
-ranged-without : (n : ℕ) (q : Port) (ports : List Port) → Ranged n ports → Ranged n (without q ports)
+ranged_without : (n : ℕ) (q : Port) (ports : List Port) → Ranged n ports → Ranged n (without q ports)
 unfolding without
-ranged-without n q [] h = tt
-ranged-without n q (r ∷ rest) h = by_case (ranged-without n q rest h.1) (r.0 == q.0) where
+ranged_without n q [] h = tt
+ranged_without n q (r ∷ rest) h = by_case (ranged_without n q rest h.1) (r.0 == q.0) where
   by_case : Ranged n (without q rest) → (b : Bool) → Ranged n (if not b then r ∷ without q rest else without q rest)
   by_case more true = more
   by_case more false = (h.0, more)
 
-others-without : (q : Port) (ports : List Port) → Others q (without q ports)
+others_without : (q : Port) (ports : List Port) → Others q (without q ports)
 unfolding without
-others-without q [] = tt
-others-without q (r ∷ rest) = by_case (others-without q rest) (r.0 == q.0) refl where
+others_without q [] = tt
+others_without q (r ∷ rest) = by_case (others_without q rest) (r.0 == q.0) refl where
   by_case : Others q (without q rest) → (b : Bool) → (r.0 == q.0) ≡ b → Others q (if not b then r ∷ without q rest else without q rest)
   by_case more true e = more
   by_case more false e = (port_swap r q false e, more)
 
-listed-without : (q r : Port) (ports : List Port) → (q.0 == r.0) ≡ false → listed r ports ≡ true → listed r (without q ports) ≡ true
+listed_without : (q r : Port) (ports : List Port) → (q.0 == r.0) ≡ false → listed r ports ≡ true → listed r (without q ports) ≡ true
 unfolding without
-listed-without q r [] n h = h
-listed-without q r (s ∷ rest) n h = by_case (λ k. listed-without q r rest n k) (s.0 == q.0) refl (s.0 == r.0) refl where
+listed_without q r [] n h = h
+listed_without q r (s ∷ rest) n h = by_case (λ k. listed_without q r rest n k) (s.0 == q.0) refl (s.0 == r.0) refl where
   by_case : (listed r rest ≡ true → listed r (without q rest) ≡ true) → (b : Bool) → (s.0 == q.0) ≡ b → (c : Bool) → (s.0 == r.0) ≡ c →
       listed r (if not b then s ∷ without q rest else without q rest) ≡ true
   by_case more true e true f =
@@ -73,7 +73,7 @@ listed-without q r (s ∷ rest) n h = by_case (λ k. listed-without q r rest n k
 -- the other ports of a node
 pub other_ranged : (q : Port) (past : NodePast) → Ranged (length past.ports) (other_ports q past)
 unfolding without
-other_ranged q past = ranged-without (length past.ports) q (ports_from 0 past.ports) (ranged_from (length past.ports) 0 past.ports (omega arith))
+other_ranged q past = ranged_without (length past.ports) q (ports_from 0 past.ports) (ranged_from (length past.ports) 0 past.ports (omega arith))
 
 each_ranged : (past : NodePast) → Ranged (length past.ports) (ports_from 0 past.ports)
 each_ranged past = ranged_from (length past.ports) 0 past.ports (omega arith)
@@ -87,11 +87,11 @@ listed_ranged past (StirredPorts q kind) = elim (sets_date kind) as (λ b. Range
 
 pub other_others : (q : Port) (past : NodePast) → Others q (other_ports q past)
 unfolding without
-other_others q past = others-without q (ports_from 0 past.ports)
+other_others q past = others_without q (ports_from 0 past.ports)
 
 pub other_listed : (q r : Port) (past : NodePast) → (q.0 == r.0) ≡ false → r.0 < length past.ports → listed r (other_ports q past) ≡ true
 unfolding without
-other_listed q r past n has = listed-without q r (ports_from 0 past.ports) n (listed_from r 0 past.ports (omega arith) (omega (arith, has)))
+other_listed q r past n has = listed_without q r (ports_from 0 past.ports) n (listed_from r 0 past.ports (omega arith) (omega (arith, has)))
 
 -- q isn't one of them
 pub unlisted : (q : Port) (ports : List Port) → Others q ports → listed q ports ≡ false

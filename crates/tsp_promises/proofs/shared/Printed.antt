@@ -22,36 +22,36 @@ sets_target x past d m tick time e = record {
 }
 
 -- nothing is slewed in no time
-eased-now : (r : ℤ) (x : ℕ) → eased r ((x - x) / SLEW) ≡ r
-eased-now r x = let none : (x - x) / SLEW ≡ 0 = omega arith in subst (λ n. eased r n ≡ r) (sym none) (eased_none r)
+eased_now : (r : ℤ) (x : ℕ) → eased r ((x - x) / SLEW) ≡ r
+eased_now r x = let none : (x - x) / SLEW ≡ 0 = omega arith in subst (λ n. eased r n ≡ r) (sym none) (eased_none r)
 
-moves-on : (c m a e f : ℤ) (x : ℕ) → e ≡ f → ((c +ℤ (m +ℤ a)) +ℤ pos x) -ℤ e ≡ (((c +ℤ m) +ℤ pos x) +ℤ a) -ℤ f
-moves-on c m a e f x h = omega (arith, ints)
+moves_on : (c m a e f : ℤ) (x : ℕ) → e ≡ f → ((c +ℤ (m +ℤ a)) +ℤ pos x) -ℤ e ≡ (((c +ℤ m) +ℤ pos x) +ℤ a) -ℤ f
+moves_on c m a e f x h = omega (arith, ints)
 
-less-none : (z : ℤ) → z -ℤ pos 0 ≡ z
-less-none z = omega (arith, ints)
+less_none : (z : ℤ) → z -ℤ pos 0 ≡ z
+less_none z = omega (arith, ints)
 
-leaves-as-it-was : (t a e : ℤ) → (t +ℤ a) -ℤ (e +ℤ a) ≡ t -ℤ e
-leaves-as-it-was t a e = omega (arith, ints)
+leaves_as_it_was : (t a e : ℤ) → (t +ℤ a) -ℤ (e +ℤ a) ≡ t -ℤ e
+leaves_as_it_was t a e = omega (arith, ints)
 
 -- after a Correct that is stepped the clock shows its new target
 pub after_step : (step : Step) (x : ℕ) (b : List Did) (amount value : ℤ) → shown (record { step = step; tick = x; deed = Acts (Correct amount true value) } ∷
     b) x ≡ target b x +ℤ amount
-after_step step x b amount value = moves-on (base b) (moved b) amount (eased (pos 0) ((x - x) / SLEW)) (pos 0) x (eased-now (pos 0) x) ∙
-    less-none (target b x +ℤ amount)
+after_step step x b amount value = moves_on (base b) (moved b) amount (eased (pos 0) ((x - x) / SLEW)) (pos 0) x (eased_now (pos 0) x) ∙
+    less_none (target b x +ℤ amount)
 
 pub shows_target : (step : Step) (x : ℕ) (b : List Did) (amount value : ℤ) → let ds : List Did =
     record { step = step; tick = x; deed = Acts (Correct amount true value) } ∷ b in shown ds x ≡ target ds x
 shows_target step x b amount value =
     let ds : List Did = record { step = step; tick = x; deed = Acts (Correct amount true value) } ∷ b in
-    ap (λ e. target ds x -ℤ e) (eased-now (pos 0) x) ∙ less-none (target ds x)
+    ap (λ e. target ds x -ℤ e) (eased_now (pos 0) x) ∙ less_none (target ds x)
 
 -- after one that is slewed it shows what it showed
 pub after_slew : (step : Step) (x : ℕ) (b : List Did) (amount value : ℤ) → shown (record { step = step; tick = x; deed = Acts (Correct amount false value) } ∷
     b) x ≡ shown b x
 after_slew step x b amount value =
-    moves-on (base b) (moved b) amount (eased (rest_at b x +ℤ amount) ((x - x) / SLEW)) (rest_at b x +ℤ amount) x (eased-now (rest_at b x +ℤ amount) x) ∙
-    leaves-as-it-was (target b x) amount (rest_at b x)
+    moves_on (base b) (moved b) amount (eased (rest_at b x +ℤ amount) ((x - x) / SLEW)) (rest_at b x +ℤ amount) x (eased_now (rest_at b x +ℤ amount) x) ∙
+    leaves_as_it_was (target b x) amount (rest_at b x)
 
 -- a clock that is moved by an amount
 pub adjusts_prints : (x : ℕ) (past : Past) (amount : ℤ) (b : Bool) →

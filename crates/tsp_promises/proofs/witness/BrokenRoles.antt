@@ -5,22 +5,22 @@ use Rattle.tsp_rules.specs.Values.{Boot, Took, Post, Become, Ring, Back, Close, 
 use Rattle.tsp_rules.specs.Values.{Election, MasterReq, Msite, QuitKind, Nothing, TimeBody, PeerId, Peer, Stranger, Follow, Candidate, Master, Reply, ELECT_MIN}
 use Rattle.tsp_rules.specs.Values.{Datagram, Taken, Test, Place, Loose, Request}
 use Rattle.tsp_base.specs.Words.{Booted, Came, Handed, Turned, Line, of, view, MessageValue, Received, message_in, ReplyValue, peer_of}
-use Rattle.tsp_promises.proofs.witness.Spots.{too-many}
+use Rattle.tsp_promises.proofs.witness.Spots.{too_many}
 use Rattle.tsp_promises.proofs.witness.Histories.{begins, does, line, msg, step_at, still}
 use Rattle.tsp_promises.specs.{Answered.AnswersAsked, Answered.AnswersWith, Broken.breaks, Broken.RolesBreak, Broken.AnswersBreak}
-use Rattle.tsp_promises.{proofs.witness.Debts.not-same, proofs.witness.StepChecks.port0, proofs.witness.StepChecks.port1, specs.Resolved.TakesQuit}
+use Rattle.tsp_promises.{proofs.witness.Debts.not_same, proofs.witness.StepChecks.port0, proofs.witness.StepChecks.port1, specs.Resolved.TakesQuit}
 
-one-two : peer_of 1 ≡ peer_of 2 → ⊥
-one-two e = not-same 1 2 (omega arith) (ap (λ (p : PeerId). p.0) e)
+one_two : peer_of 1 ≡ peer_of 2 → ⊥
+one_two e = not_same 1 2 (omega arith) (ap (λ (p : PeerId). p.0) e)
 
 abbrev stands : List Line
 stands = does 10 0 Turned (Become Candidate) ∷ []
 
-follow-same : (p q : PeerId) → Follow p ≡ Follow q → p ≡ q
-follow-same p q e = cc
+follow_same : (p q : PeerId) → Follow p ≡ Follow q → p ≡ q
+follow_same p q e = cc
 
-two-one : Follow (peer_of 2) ≡ Follow (peer_of 1) → ⊥
-two-one e = one-two (sym (follow-same (peer_of 2) (peer_of 1) e))
+two_one : Follow (peer_of 2) ≡ Follow (peer_of 1) → ⊥
+two_one e = one_two (sym (follow_same (peer_of 2) (peer_of 1) e))
 
 abbrev ring : Line
 ring = does 10 0 Turned (Ring ResolveAlarm)
@@ -58,19 +58,19 @@ takes = record {
 abbrev idle : ReplyValue
 idle = record { ticket = 0; word = 5; counter = 0; reading = pos 10 }
 
-abbrev number-of : Option MessageValue → ℕ
-number-of None = 0
-number-of (Some m) = m.number
+abbrev number_of : Option MessageValue → ℕ
+number_of None = 0
+number_of (Some m) = m.number
 
-abbrev number-in : Option Received → ℕ
-number-in None = 0
-number-in (Some r) = number-of (message_in r.taken)
+abbrev number_in : Option Received → ℕ
+number_in None = 0
+number_in (Some r) = number_of (message_in r.taken)
 
 pub roles_break : RolesBreak (still false)
 roles_break = record {
   holds = breaks (does 20 0 Turned (Back (peer_of 2)) ∷ (does 10 0 Turned (Back (peer_of 1)) ∷ []))
       (λ h. elim (h.holds.0 (peer_of 2) (peer_of 1) (does 10 0 Turned (Back (peer_of 1))) [] refl (inl refl) refl refl refl) [
-        | inl e ↦ one-two e
+        | inl e ↦ one_two e
         | inr k ↦ omega arith
       ]);
   accepts = breaks (does 10 0 Turned (Post (Peer (peer_of 1)) (Message (msg Accept 5 Nothing))) ∷ [])
@@ -99,7 +99,7 @@ roles_break = record {
       (does 10 0 Handed (Took Stranger (Good (Message (msg Msite 3 Nothing)))) ∷ (does 0 0 (Booted 7 (pos 0)) Boot ∷ [])))
       (λ h. elim (h.0.posts Stranger (Message (msg Ack 4 Nothing)) refl) [
         | inl late ↦ omega arith
-        | inr early ↦ (let same : 3 ≡ early.1.message.number = ap number-in early.1.took in let is = early.1.number_is in omega
+        | inr early ↦ (let same : 3 ≡ early.1.message.number = ap number_in early.1.took in let is = early.1.number_is in omega
             (arith, same, is))
       ]);
   corrects_early = breaks (does 10 0 Turned (Correct (pos 5) true (pos 0)) ∷ (does 0 0 (Booted 7 (pos 0)) Boot ∷ []))
@@ -109,20 +109,20 @@ roles_break = record {
       (λ h. cc (h.0.corrects (does 20 0 Turned (Close 1 (pos 0) (pos 0) (pos 5))) (does 10 0 Turned (Become Master) ∷ []) 1 (pos 0)
       (pos 0) (pos 5) (pos 5) false (pos 0) refl refl refl));
   winners = breaks (does 20 1 Turned (Become Master) ∷ (does 10 0 Turned (Become Master) ∷ []))
-      (λ h. let k : 10 + 50000000 < 20 = h.0 (does 10 0 Turned (Become Master)) [] refl (inl refl) refl (not-same 0 1
+      (λ h. let k : 10 + 50000000 < 20 = h.0 (does 10 0 Turned (Become Master)) [] refl (inl refl) refl (not_same 0 1
       (omega arith)) refl in omega arith);
   yields = breaks (does 20 0 Turned (Quit (peer_of 1)) ∷ (does 10 0 Turned (Become Master) ∷ []))
       (λ h. cc (h.ends 0 port0 (peer_of 1) refl));
   -- of two peers whose QUITs a master took, it can follow one alone
   yields_twice = breaks (does 30 0 Turned (Become (Follow (peer_of 2))) ∷ (does 30 0 Turned (Quit (peer_of 2)) ∷
       (does 30 0 Turned (Quit (peer_of 1)) ∷ (does 10 0 Turned (Become Master) ∷ []))))
-      (λ h. two-one (h.ends 0 port0 (peer_of 1) refl));
+      (λ h. two_one (h.ends 0 port0 (peer_of 1) refl));
   -- nor is it enough to have followed the first for a while
   yields_again = breaks (does 30 0 Turned (Become (Follow (peer_of 2))) ∷ (does 30 0 Turned (Quit (peer_of 2)) ∷
       (does 30 0 Turned (Become Master) ∷
       (does 30 0 Turned (Become (Follow (peer_of 1))) ∷ (does 30 0 Turned (Quit (peer_of 1)) ∷
       (does 10 0 Turned (Become Master) ∷ []))))))
-      (λ h. two-one (h.ends 0 port0 (peer_of 1) refl));
+      (λ h. two_one (h.ends 0 port0 (peer_of 1) refl));
   -- it takes the QUIT, and does nothing
   only_takes = breaks (does 20 0 Handed (Took (Peer (peer_of 1)) (Good (Message (msg QuitKind 32770 Nothing)))) ∷ (begins 20 0 Handed ∷
       (does 10 0 Turned (Become Master) ∷ [])))
@@ -149,41 +149,41 @@ quits = does 10 0 Handed (Took (Peer (peer_of 1)) (Good (Message (msg QuitKind 3
 abbrev pub tested : List Line
 tested = does 10 0 Handed (Took Stranger (Good (Message (msg Test 5 Nothing)))) ∷ []
 
-abbrev datagram-in : Taken → Option Datagram
-datagram-in (Good d) = Some d
-datagram-in _ = None
+abbrev datagram_in : Taken → Option Datagram
+datagram_in (Good d) = Some d
+datagram_in _ = None
 
-abbrev datagram-taken : Option Received → Option Datagram
-datagram-taken None = None
-datagram-taken (Some r) = datagram-in r.taken
+abbrev datagram_taken : Option Received → Option Datagram
+datagram_taken None = None
+datagram_taken (Some r) = datagram_in r.taken
 
 -- one datagram is taken
-pub same-datagram : {from : Place} (o : Option Received) (d e : Datagram) → o ≡ Some (record { from = from; taken = Good d }) →
+pub same_datagram : {from : Place} (o : Option Received) (d e : Datagram) → o ≡ Some (record { from = from; taken = Good d }) →
     o ≡ Some (record { from = from; taken = Good e }) → e ≡ d
-same-datagram o d e x y =
-    let both : Some d ≡ Some e = ap datagram-taken (sym x ∙ y) in
+same_datagram o d e x y =
+    let both : Some d ≡ Some e = ap datagram_taken (sym x ∙ y) in
     cc
 
-abbrev number-at : Place → ℕ
-number-at (Peer p) = p.0
-number-at Stranger = 0
+abbrev number_at : Place → ℕ
+number_at (Peer p) = p.0
+number_at Stranger = 0
 
-abbrev sender-number : Option Received → ℕ
-sender-number None = 0
-sender-number (Some r) = number-at r.from
+abbrev sender_number : Option Received → ℕ
+sender_number None = 0
+sender_number (Some r) = number_at r.from
 
 -- an ACK with the number after that of the QUIT
 abbrev next : MessageValue
 next = msg Ack 32771 Nothing
 
-no-answer : (asked : Datagram) → asked ≡ Message (msg QuitKind 32770 Nothing) → AnswersWith asked (Message next) → ⊥
-no-answer asked e answer =
+no_answer : (asked : Datagram) → asked ≡ Message (msg QuitKind 32770 Nothing) → AnswersWith asked (Message next) → ⊥
+no_answer asked e answer =
     let k = subst (λ d. AnswersWith d (Message next)) e answer in
     let same = k.1 in
     omega (arith, same)
 
 by_asked : AnswersAsked (Peer (peer_of 1)) (does 10 0 Handed (Post (Peer (peer_of 1)) (Message next))) quits (Message next) → ⊥
-by_asked a = no-answer a.asked (same-datagram _ (Message (msg QuitKind 32770 Nothing)) a.asked refl a.took) a.answer
+by_asked a = no_answer a.asked (same_datagram _ (Message (msg QuitKind 32770 Nothing)) a.asked refl a.took) a.answer
 
 pub answers_break : AnswersBreak (still false)
 answers_break = record {
@@ -201,14 +201,14 @@ answers_break = record {
       (λ h. true≢false (h.strangers.0 (Stamp (Reply reply)) refl).first);
   nameless = breaks (does 10 0 Handed (Post Stranger (Message (msg Ack 5 Nothing))) ∷ tested) (λ h.
       let a = h.strangers.0 (Message (msg Ack 5 Nothing)) refl in
-      cc (a.named (msg Ack 5 Nothing) (msg Test 5 Nothing) refl (same-datagram _ (Message
+      cc (a.named (msg Ack 5 Nothing) (msg Test 5 Nothing) refl (same_datagram _ (Message
       (msg Test 5 Nothing)) a.asked refl a.took)));
-  unasked = breaks (does 10 0 Handed (Post Stranger (Stamp (Reply reply))) ∷ []) (λ h. too-many 1 0 refl (h.one_for_one.0));
+  unasked = breaks (does 10 0 Handed (Post Stranger (Stamp (Reply reply))) ∷ []) (λ h. too_many 1 0 refl (h.one_for_one.0));
   unasked_peer = breaks (does 10 0 Handed (Post (Peer (peer_of 1)) (Stamp (Reply reply))) ∷ [])
       (λ h. let k = (h.answers.0 (Peer (peer_of 1)) (Stamp (Reply reply)) refl refl).took in cc);
   misnumbered = breaks (does 10 0 Handed (Post (Peer (peer_of 1)) (Message next)) ∷ quits)
       (λ h. by_asked (h.answers.0 (Peer (peer_of 1)) (Message next) refl refl));
   misled = breaks (does 10 0 Handed (Post (Peer (peer_of 2)) (Message (msg Ack 32770 Nothing))) ∷ quits) (λ h.
-      let same = ap sender-number (h.answers.0 (Peer (peer_of 2)) (Message (msg Ack 32770 Nothing)) refl refl).took in
+      let same = ap sender_number (h.answers.0 (Peer (peer_of 2)) (Message (msg Ack 32770 Nothing)) refl refl).took in
       omega (arith, same));
 }

@@ -6,7 +6,7 @@ use Rattle.tsp_base.specs.Words.{Cause, Booted, Step, Begins, Acts, Deed, Line, 
 use Rattle.tsp_base.specs.Words.{Within, heard, peer_of, posted}
 use Rattle.tsp_promises.specs.{DeedFits.ActFits, DeedFits.DeedFits, Fits.Alive, Fits.Sees, Fits.TookFits}
 use Rattle.tsp_promises.specs.Setting.{Network, Named, Alone, Setting, setup_of}
-use Rattle.tsp_base.proofs.{PlaceLemmas.Within-all, ViewPlaces.port-same, ViewPlaces.or-false}
+use Rattle.tsp_base.proofs.{PlaceLemmas.Within_all, ViewPlaces.port_same, ViewPlaces.or-false}
 
 -- nodes 0, 1 and 2 are on one network by port 0; nodes 1 and 3 on another, by the ports 1 and 0; nodes 3 and 2 on a third, by their ports 1
 abbrev pub net_of : ℕ → ℕ → Network
@@ -50,11 +50,11 @@ back (suc (suc (suc zero))) (suc zero) = (refl, refl)
 back (suc (suc (suc zero))) (suc (suc q)) = (refl, refl)
 back (suc (suc (suc (suc n)))) q = (refl, alone (suc (suc (suc (suc n)))))
 
-pub nets-apart : (n : ℕ) (p q : Port) → net_of n p.0 ≡ net_of n q.0 → p ≡ q
-nets-apart n p q e = ap (λ k. let r : Port = record { 0 = k } in r) (sym (back n p.0).0 ∙ (ap (port_back n) e ∙ (back n q.0).0))
+pub nets_apart : (n : ℕ) (p q : Port) → net_of n p.0 ≡ net_of n q.0 → p ≡ q
+nets_apart n p q e = ap (λ k. let r : Port = record { 0 = k } in r) (sym (back n p.0).0 ∙ (ap (port_back n) e ∙ (back n q.0).0))
 
-pub in-own : (n q : ℕ) → is_among (peer_of n) (members_of (net_of n q)) ≡ true
-in-own n q = (back n q).1
+pub in_own : (n q : ℕ) → is_among (peer_of n) (members_of (net_of n q)) ≡ true
+in_own n q = (back n q).1
 
 -- clocks that run alike, and whether elections are strict
 abbrev pub still : Bool → Setting
@@ -68,8 +68,8 @@ still strict = record {
   members = members_of;
   small = omega arith;
   ticks = λ n. record { rises = λ s x. omega arith; fast = λ s x. omega arith; slow = λ s x. omega arith };
-  apart = nets-apart;
-  own = λ n q. in-own n q.0;
+  apart = nets_apart;
+  own = λ n q. in_own n q.0;
 }
 
 abbrev pub msg : Kind → ℕ → Body → MessageValue
@@ -106,7 +106,7 @@ skip (suc n) [] = []
 skip (suc n) (l ∷ t) = skip n t
 
 pub skipped : (n : ℕ) (h : List Line) → Within (skip n h) h
-skipped zero h = Within-all h
+skipped zero h = Within_all h
 skipped (suc n) [] = refl
 skipped (suc n) (l ∷ t) = inr (skipped n t)
 
@@ -135,27 +135,27 @@ abbrev pub ActsOk : Bool → Step → List Placed → List Line → Type 0
 ActsOk strict step [] h = Unit {0}
 ActsOk strict step (p ∷ rest) h = ActOk strict step p.port p.act h × ActsOk strict step rest (line_of step step.at p.port (Acts p.act) ∷ h)
 
-pub alive-of : (strict : Bool) (step : Step) (port : Port) (a : Act) (h : List Line) → ActOk strict step port a h →
+pub alive_of : (strict : Bool) (step : Step) (port : Port) (a : Act) (h : List Line) → ActOk strict step port a h →
     Alive (still strict) (Acts a) (line_of step step.at port (Acts a)).did (dids (of step.node h))
-alive-of strict step port Boot h ok = ok
-alive-of strict step port _ h ok = ok.0
+alive_of strict step port Boot h ok = ok
+alive_of strict step port _ h ok = ok.0
 
-same-took : (f g : Place) (t u : Taken) → Acts (Took f t) ≡ Acts (Took g u) → (f ≡ g) × (t ≡ u)
-same-took f g t u e = (cc, cc)
+same_took : (f g : Place) (t u : Taken) → Acts (Took f t) ≡ Acts (Took g u) → (f ≡ g) × (t ≡ u)
+same_took f g t u e = (cc, cc)
 
-pub took-of : (strict : Bool) (step : Step) (port : Port) (a : Act) (h : List Line) → ActOk strict step port a h → (from : Place) (taken : Taken) → Acts a ≡
+pub took_of : (strict : Bool) (step : Step) (port : Port) (a : Act) (h : List Line) → ActOk strict step port a h → (from : Place) (taken : Taken) → Acts a ≡
     Acts (Took from taken) → TookFits step.cause (still strict) (line_of step step.at port (Acts a)) h from taken
-took-of strict step port (Took f t) h ok from taken e =
-    let s = same-took f from t taken e in
+took_of strict step port (Took f t) h ok from taken e =
+    let s = same_took f from t taken e in
     subst₂ (λ x y. TookFits step.cause (still strict) (line_of step step.at port (Acts (Took f t))) h x y) s.0 s.1 ok.1.1
-took-of strict step port _ h ok from taken e = let bad : ⊥ = cc in absurd bad
+took_of strict step port _ h ok from taken e = let bad : ⊥ = cc in absurd bad
 
-pub deeds-of : (strict : Bool) (step : Step) (port : Port) (a : Act) (h : List Line) → ActOk strict step port a h → (q : Port) →
+pub deeds_of : (strict : Bool) (step : Step) (port : Port) (a : Act) (h : List Line) → ActOk strict step port a h → (q : Port) →
     Sees q (line_of step step.at port (Acts a)) →
     DeedFits (setup_of (still strict) step.node q) (Acts a) (line_of step step.at port (Acts a)).did (view q (of step.node h))
-deeds-of strict step port Boot h ok q sees = tt
-deeds-of strict step port (Took from taken) h ok q sees = subst (λ p. heard (plain (view p (of step.node h))) ≡
-    None) (port-same port q (or-false (port.0 == q.0) false sees refl)) ok.1.0
-deeds-of strict step port a h ok q sees =
+deeds_of strict step port Boot h ok q sees = tt
+deeds_of strict step port (Took from taken) h ok q sees = subst (λ p. heard (plain (view p (of step.node h))) ≡
+    None) (port_same port q (or-false (port.0 == q.0) false sees refl)) ok.1.0
+deeds_of strict step port a h ok q sees =
     subst (λ p. ActFits (setup_of (still strict) step.node p) a (line_of step step.at port (Acts a)).did (view p (of step.node h)))
-    (port-same port q (or-false (port.0 == q.0) false sees refl)) ok.1
+    (port_same port q (or-false (port.0 == q.0) false sees refl)) ok.1

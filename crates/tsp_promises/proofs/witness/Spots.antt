@@ -8,15 +8,15 @@ use Rattle.tsp_base.specs.Words.{Within, Sampled, best, begun_to, is_numbered, h
 use Rattle.tsp_promises.specs.{Agreed.FromRound, Agreed.ReadingOf, Agreed.Unchanged, Agreed.UnchangedBut, Fits.node_of, StepFacts.closed}
 use Rattle.tsp_promises.specs.{Chained.Hop, Estimates.CloseBegins, Estimates.Estimate, Kept.Spot}
 use Rattle.tsp_promises.proofs.witness.Debts.{behind, line_in, message_or, sample_in, shown_in, stepped_in}
-use Rattle.tsp_promises.proofs.{witness.Histories.post_at, witness.Histories.skip, witness.Histories.skipped, witness.HistoriesFit.post-found}
+use Rattle.tsp_promises.proofs.{witness.Histories.post_at, witness.Histories.skip, witness.Histories.skipped, witness.HistoriesFit.post_found}
 pub use Rattle.std.proofs.Common.{arith}
 
 -- a number that isn't as small as this one
-pub too-many : (a b : ℕ) → nat_lt b a ≡ true → a ≤ b → ⊥
-too-many a b e k = let less = ltb-true b a e in omega (arith, less, k)
+pub too_many : (a b : ℕ) → nat_lt b a ≡ true → a ≤ b → ⊥
+too_many a b e k = let less = ltb-true b a e in omega (arith, less, k)
 
-pub too-far : (a b : ℤ) → int_lt b a ≡ true → a ≤ℤ b → ⊥
-too-far a b e k = grind (arith, ints)
+pub too_far : (a b : ℤ) → int_lt b a ≡ true → a ≤ℤ b → ⊥
+too_far a b e k = grind (arith, ints)
 
 -- the line behind so many of the newest lines
 abbrev pub spot : (k : ℕ) (h : List Line) → skip k h ≡ line_in (skip k h) ∷ behind (skip k h) → Spot h
@@ -72,9 +72,9 @@ pub record Reads (m : ℕ) (q : Port) (place : List Seen) (line : Line) (before 
   pub takes : line.did.step.cause ≡ Came (posted (dids older))
   pub deed : r.did.deed ≡ Acts (Post (place_in r.did.deed) (posted_in r.did.deed))
 
-pub reading-at : {m : ℕ} {q : Port} {place : List Seen} {h : List Line} {r : Line} {older : List Line} (s : Spot h) →
+pub reading_at : {m : ℕ} {q : Port} {place : List Seen} {h : List Line} {r : Line} {older : List Line} (s : Spot h) →
     Reads m q place s.line s.before r older → ReadingOf m q place h r older
-reading-at {r = r} {older = older} s c = record {
+reading_at {r = r} {older = older} s c = record {
   line = s.line;
   before = s.before;
   at = s.within;
@@ -88,13 +88,13 @@ reading-at {r = r} {older = older} s c = record {
   deed = c.deed;
 }
 
-pub estimate-at : {m k : ℕ} {close : Line} {cpast : List Line} {x : Sampled} {r : Line} {older h : List Line} (s : Spot cpast) →
+pub estimate_at : {m k : ℕ} {close : Line} {cpast : List Line} {x : Sampled} {r : Line} {older h : List Line} (s : Spot cpast) →
     Reads m close.port x.place s.line s.before r older → best (peer_of k) (view close.port (of m cpast)) ≡ Some x →
     all_corrects (dids (of k (r ∷ older))) ≡ all_corrects (dids (of k h)) → lives (dids (of k (r ∷ older))) ≡ lives (dids (of k h)) →
     Estimate m k close cpast x r older h
-estimate-at s c best_is corrects lives = record {
+estimate_at s c best_is corrects lives = record {
   best_is = best_is;
-  reading = reading-at s c;
+  reading = reading_at s c;
   unchanged = record { corrects = corrects; lives = lives };
 }
 
@@ -175,12 +175,12 @@ abbrev pub Computed : (m : ℕ) (x : Hop) → Spot x.past → Type 0
 Computed m x s = Computes m x (line_in (taken_at x)) (behind (taken_at x)) (message_or (message_of (line_in (taken_at x)).did.deed))
     (sample_of m x) s.line s.before
 
-abbrev pub corrects-at : {m : ℕ} (x : Hop) (s : Spot x.past) → Computed m x s → Corrects m x
-corrects-at {m} x s c =
+abbrev pub corrects_at : {m : ℕ} (x : Hop) (s : Spot x.past) → Computed m x s → Corrects m x
+corrects_at {m} x s c =
     let post = line_in (taken_at x) in
     let before = behind (taken_at x) in
     let message = message_or (message_of post.did.deed) in
-    let f = post-found (number_in x.correct.did.step.cause) x.past post before c.found in
+    let f = post_found (number_in x.correct.did.step.cause) x.past post before c.found in
     record {
       post = post;
       before = before;
@@ -206,5 +206,5 @@ corrects-at {m} x s c =
       sample = sample_of m x;
       best_is = c.best_is;
       err_is = c.err_is;
-      reading = reading-at s c.reads;
+      reading = reading_at s c.reads;
     }

@@ -4,11 +4,13 @@ use Rattle.std.proofs.Common.{ap, arith, ℕ, true, false, pos, negsuc, List, []
 use Rattle.tsp_rules.specs.Values.{Post, Arm, Ring, Close, Correct, Round, CloseAlarm, Message, Stamp, AdjTime, SetTime, TimeBody, Peer, Port, Request}
 use Rattle.tsp_base.specs.Words.{Line, ReplyValue, peer_of}
 use Rattle.tsp_group.specs.Groups.{better, goes_before, group_from}
-use Rattle.tsp_promises.proofs.witness.HistoriesFit.{Stage, after, at, stages-fit, ◌also◌, boots, turns, stands, wins, follows, sets_up, obeys, acked, replies, samples}
+use Rattle.tsp_promises.proofs.witness.HistoriesFit.{Stage, after, at, stages_fit, ◌also◌, boots, turns, stands, wins, follows, sets_up, obeys, acked, replies}
+use Rattle.tsp_promises.proofs.witness.HistoriesFit.{samples}
 use Rattle.tsp_promises.specs.{Chained.Hop, Chained.IsChain, Fits.Fits, RoundUses.ChainUse, RoundUses.Relays}
-use Rattle.tsp_promises.proofs.witness.Spots.{Corrects, but_for, corrects-at, hop_in, spot, untouched}
-use Rattle.tsp_promises.proofs.{witness.Debts.debts, witness.Debts.not-same, witness.Histories.msg, witness.Histories.skip, witness.Histories.skipped, witness.Histories.still}
-use Rattle.tsp_promises.proofs.witness.PremiseChecks.{kept-by}
+use Rattle.tsp_promises.proofs.witness.Spots.{Corrects, but_for, corrects_at, hop_in, spot, untouched}
+use Rattle.tsp_promises.proofs.{witness.Debts.debts, witness.Debts.not_same, witness.Histories.msg, witness.Histories.skip, witness.Histories.skipped}
+use Rattle.tsp_promises.proofs.{witness.Histories.still}
+use Rattle.tsp_promises.proofs.witness.PremiseChecks.{kept_by}
 
 abbrev near : ReplyValue
 near = record { ticket = 10; word = 7; counter = 0; reading = pos 400000298 }
@@ -53,38 +55,38 @@ relay_steps =
 abbrev pub relay : ℕ → List Line
 relay k = after k relay_steps []
 
-relay-fits : Fits (still false) (relay 27)
+relay_fits : Fits (still false) (relay 27)
 unfolding group_from goes_before better
-relay-fits =
-    stages-fit false 27 relay_steps [] tt refl ((search debts) also (search debts) also (search debts) also (search debts) also
+relay_fits =
+    stages_fit false 27 relay_steps [] tt refl ((search debts) also (search debts) also (search debts) also (search debts) also
     (search debts) also (search debts) also
     (search debts) also (search debts) also (search debts) also (search debts) also (search debts) also (search debts) also
     (search debts) also (search debts) also (search debts))
 
-abbrev pub near-hop : Hop
-near-hop = hop_in (relay 27) 25 30 36 (pos 401)
+abbrev pub near_hop : Hop
+near_hop = hop_in (relay 27) 25 30 36 (pos 401)
 
-abbrev pub far-hop : Hop
-far-hop = hop_in (relay 27) 4 8 14 (pos 401)
+abbrev pub far_hop : Hop
+far_hop = hop_in (relay 27) 4 8 14 (pos 401)
 
-pub near-round : Corrects 0 near-hop
-near-round = corrects-at near-hop (spot 7 (skip 26 (relay 27)) refl) (search arith)
+pub near_round : Corrects 0 near_hop
+near_round = corrects_at near_hop (spot 7 (skip 26 (relay 27)) refl) (search arith)
 
-far-round : Corrects 1 far-hop
-far-round = corrects-at far-hop (spot 6 (skip 5 (relay 27)) refl) (search arith)
+far_round : Corrects 1 far_hop
+far_round = corrects_at far_hop (spot 6 (skip 5 (relay 27)) refl) (search arith)
 
 -- a gateway relays its master's clock
 pub relays : Relays
 relays = record {
-  history = kept-by false (relay 27) relay-fits refl refl refl refl;
+  history = kept_by false (relay 27) relay_fits refl refl refl refl;
   gateway = 1;
   master = 0;
-  first = near-hop;
-  last = far-hop;
-  corrected = record { from_round = near-round; unchanged = untouched refl refl refl };
-  relayed = record { from_round = far-round; unchanged = untouched refl refl refl };
+  first = near_hop;
+  last = far_hop;
+  corrected = record { from_round = near_round; unchanged = untouched refl refl refl };
+  relayed = record { from_round = far_round; unchanged = untouched refl refl refl };
   node = refl;
-  ports = λ e. not-same 0 1 (omega arith) (ap (λ (p : Port). p.0) e);
+  ports = λ e. not_same 0 1 (omega arith) (ap (λ (p : Port). p.0) e);
   before = skipped 16 (skip 9 (relay 27));
   unchanged_but = but_for (spot 29 (relay 27) refl) refl refl refl refl refl;
 }
@@ -110,23 +112,23 @@ row_steps =
     acked (at 1008000700 3 1) 20 2 14 ∷
     []
 
-abbrev last-hop : Hop
-last-hop = hop_in (after 13 row_steps (relay 27)) 4 8 14 (pos 401)
+abbrev last_hop : Hop
+last_hop = hop_in (after 13 row_steps (relay 27)) 4 8 14 (pos 401)
 
-two : IsChain near-hop (far-hop ∷ []) (after 13 row_steps (relay 27))
-two = (record { from_round = far-round; unchanged = untouched refl refl refl }, skipped 16 (skip 9 (relay 27)), tt)
+two : IsChain near_hop (far_hop ∷ []) (after 13 row_steps (relay 27))
+two = (record { from_round = far_round; unchanged = untouched refl refl refl }, skipped 16 (skip 9 (relay 27)), tt)
 
 -- a row of four nodes
 pub chain_use : ChainUse
 chain_use = record {
-  history = kept-by false (after 13 row_steps (relay 27)) (stages-fit false 13 row_steps (relay 27) relay-fits refl (search debts)) refl refl refl refl;
+  history = kept_by false (after 13 row_steps (relay 27)) (stages_fit false 13 row_steps (relay 27) relay_fits refl (search debts)) refl refl refl refl;
   master = 0;
-  first = near-hop;
-  rest = last-hop ∷ (far-hop ∷ []);
-  begins = record { from_round = near-round; unchanged = untouched refl refl refl };
+  first = near_hop;
+  rest = last_hop ∷ (far_hop ∷ []);
+  begins = record { from_round = near_round; unchanged = untouched refl refl refl };
   chain = (
     record {
-      from_round = corrects-at last-hop (spot 6 (skip 5 (after 13 row_steps (relay 27))) refl) (search arith);
+      from_round = corrects_at last_hop (spot 6 (skip 5 (after 13 row_steps (relay 27))) refl) (search arith);
       unchanged = untouched refl refl refl;
     },
     skipped 38 (skip 9 (after 13 row_steps (relay 27))),
@@ -134,7 +136,7 @@ chain_use = record {
   );
   long = omega arith;
   left_alone = but_for (spot 72 (after 13 row_steps (relay 27)) refl) refl refl refl refl refl;
-  other = far-hop ∷ [];
+  other = far_hop ∷ [];
   other_chain = two;
-  apart = not-same 2 3 (omega arith);
+  apart = not_same 2 3 (omega arith);
 }

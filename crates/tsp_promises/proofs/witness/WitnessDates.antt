@@ -8,12 +8,14 @@ use Rattle.tsp_rules.specs.Values.{Nothing, TimeBody, PeerId, Peer, Stranger, Lo
 use Rattle.tsp_base.specs.Words.{Acts, Came, Did, Handed, Here, Turned, Line, MessageValue, Seen, Setup, Dating, Receives, is_date_request, last_date, plain}
 use Rattle.tsp_base.specs.Words.{role, sets_date, taken, target, time_in, of, view, peer_of}
 use Rattle.tsp_promises.proofs.witness.Histories.{does, line, msg, named_msg, on, skip, skipped, step_at, still}
-use Rattle.tsp_promises.proofs.witness.HistoriesFit.{Stage, after, at, stages-fit, skip-fits, ◌also◌, boots, turns, takes, hands, stands, wins, all-finished}
+use Rattle.tsp_promises.proofs.witness.HistoriesFit.{Stage, after, at, stages_fit, skip_fits, ◌also◌, boots, turns, takes, hands, stands, wins, all_finished}
 use Rattle.tsp_promises.specs.{CorrectFits.ByDate, CorrectFits.WhyCorrect, Uses.DateUse, Uses.DatedUse, Uses.ForgedDate, Uses.LoopUse}
 use Rattle.tsp_promises.specs.{DateFits.AnswersPassedOn, Fits.Fits, Fits.node_of, Looped.LoopPost, Once.ActsOn, Once.OfSend}
 use Rattle.tsp_promises.{proofs.witness.StepChecks.port0, proofs.witness.StepChecks.port1, specs.Premises.NamesApart}
-use Rattle.tsp_promises.proofs.{witness.Debts.debts, witness.Debts.did_in, witness.Debts.heard_in, witness.Debts.not-same, witness.Debts.rest_of, witness.WitnessUse.led, witness.WitnessUse.lead}
-use Rattle.tsp_promises.proofs.{witness.PremiseChecks.few-by, witness.PremiseChecks.kept-by, witness.PremiseChecks.life-by, witness.PremiseChecks.words-by, witness.Spots.spot}
+use Rattle.tsp_promises.proofs.{witness.Debts.debts, witness.Debts.did_in, witness.Debts.heard_in, witness.Debts.not_same, witness.Debts.rest_of}
+use Rattle.tsp_promises.proofs.{witness.WitnessUse.led, witness.WitnessUse.lead}
+use Rattle.tsp_promises.proofs.{witness.PremiseChecks.few_by, witness.PremiseChecks.kept_by, witness.PremiseChecks.life_by, witness.PremiseChecks.words_by}
+use Rattle.tsp_promises.proofs.{witness.Spots.spot}
 
 -- whether the date that was set last has another number
 abbrev is_new : Option Dating → ℕ → Bool
@@ -21,20 +23,20 @@ is_new None n = true
 is_new (Some d) n = cond (d.number == n) false true
 
 -- what is asked then
-not-again : {p q : PeerId} {n at : ℕ} (seen : List Seen) → is_new (last_date p seen) n ≡ true → (d : Dating) → Peer p ≡ Peer q →
+not_again : {p q : PeerId} {n at : ℕ} (seen : List Seen) → is_new (last_date p seen) n ≡ true → (d : Dating) → Peer p ≡ Peer q →
     last_date q seen ≡ Some d → d.number ≡ n → d.at + DATEHOLD ≤ at
-not-again {p} {q} {n} seen new d from is same =
+not_again {p} {q} {n} seen new d from is same =
     let own : q ≡ p = cc in
     let k : is_new (Some d) n ≡ true = subst (λ z. is_new z n ≡ true) (ap (λ r. last_date r seen) (sym own) ∙ is) new in
     absurd (true≢false (sym (subst (λ b. cond b false true ≡ true) (eq-eqb d.number n same) k)))
 
 -- a Correct that takes a date which node 1 passes on
-by-date : {setup : Setup} {here : Did} {before : List Seen} {amount : ℤ} → before ≡ Here (did_in before) ∷ rest_of before →
+by_date : {setup : Setup} {here : Did} {before : List Seen} {amount : ℤ} → before ≡ Here (did_in before) ∷ rest_of before →
     (did_in before).deed ≡ Acts (Took (Peer (peer_of 1)) (Good (Message (heard_in (taken before))))) →
     sets_date (heard_in (taken before)).kind ≡ true → role before ≡ Master →
     amount ≡ time_in (heard_in (taken before)).body -ℤ target (plain before) here.tick →
     is_new (last_date (peer_of 1) before) (heard_in (taken before)).number ≡ true → WhyCorrect setup here before amount
-by-date {before = before} is deed kind leads amount_is new = ByDate (record {
+by_date {before = before} is deed kind leads amount_is new = ByDate (record {
   from = Peer (peer_of 1);
   message = _;
   took = _;
@@ -44,7 +46,7 @@ by-date {before = before} is deed kind leads amount_is new = ByDate (record {
   kind = kind;
   leads = leads;
   amount_is = amount_is;
-  again = λ p d from request last same. not-again before new d from last same;
+  again = λ p d from request last same. not_again before new d from last same;
 })
 
 abbrev dating_in : Option Dating → Dating
@@ -52,11 +54,11 @@ dating_in None = record { at = 0; number = 0 }
 dating_in (Some d) = d
 
 -- its answer
-date-acks : {here : Did} {before : List Seen} {p : PeerId} {number : ℕ} → Receives before p (Message (heard_in (taken before))) →
+date_acks : {here : Did} {before : List Seen} {p : PeerId} {number : ℕ} → Receives before p (Message (heard_in (taken before))) →
     is_date_request (heard_in (taken before)).kind ≡ true → (heard_in (taken before)).number ≡ number →
     last_date p before ≡ Some (dating_in (last_date p before)) → (dating_in (last_date p before)).number ≡ number →
     here.tick < (dating_in (last_date p before)).at + DATEHOLD → AnswersPassedOn here before p number
-date-acks {before = before} took kind number last same fresh = record {
+date_acks {before = before} took kind number last same fresh = record {
   message = heard_in (taken before);
   took = took;
   kind = kind;
@@ -85,11 +87,11 @@ passing_steps =
 abbrev passing : ℕ → List Line
 passing k = after (k - 5) passing_steps (lead 5)
 
-passing-fits : Fits (still false) (passing 11)
-passing-fits = stages-fit false 6 passing_steps (lead 5) led refl (search (debts, by-date, date-acks))
+passing_fits : Fits (still false) (passing 11)
+passing_fits = stages_fit false 6 passing_steps (lead 5) led refl (search (debts, by_date, date_acks))
 
 dates : Fits (still false) (passing 9)
-dates = skip-fits false 8 (passing 11) passing-fits
+dates = skip_fits false 8 (passing 11) passing_fits
 
 abbrev renewed_steps : List Stage
 renewed_steps =
@@ -106,8 +108,8 @@ renewed_steps =
 abbrev passes : Line
 passes = does 310000000 1 Handed (Post (Peer (peer_of 0)) (Message (msg SetDateReq 32777 (TimeBody (pos 600000000)))))
 
-abbrev dates-at : ActsOn (does 310000001 0 (Came 1) (Correct (pos 289999999) true (pos 600000000))) (skip 2 (passing 8)) passes (skip 1 (passing 7))
-dates-at = record {
+abbrev dates_at : ActsOn (does 310000001 0 (Came 1) (Correct (pos 289999999) true (pos 600000000))) (skip 2 (passing 8)) passes (skip 1 (passing 7))
+dates_at = record {
   amount = pos 289999999;
   stepped = true;
   shown = pos 600000000;
@@ -121,8 +123,8 @@ dates-at = record {
   took = refl;
 }
 
-abbrev dated-again : ActsOn (does 314000000 0 (Came 1) (Correct (pos 98000000) true (pos 600000000))) (skip 2 (passing 11)) passes (skip 1 (passing 7))
-dated-again = record {
+abbrev dated_again : ActsOn (does 314000000 0 (Came 1) (Correct (pos 98000000) true (pos 600000000))) (skip 2 (passing 11)) passes (skip 1 (passing 7))
+dated_again = record {
   amount = pos 98000000;
   stepped = true;
   shown = pos 600000000;
@@ -145,8 +147,8 @@ resends = does 710000000 1 Handed (Post (Peer (peer_of 0)) (Message (msg SetDate
 -- a date is passed on, set and acknowledged, and in the master's next life another
 pub date_use : DateUse
 date_use = record {
-  history = kept-by false (after 6 renewed_steps (passing 9)) (stages-fit false 6 renewed_steps (passing 9) dates refl
-      (search (debts, by-date, date-acks))) refl refl refl refl;
+  history = kept_by false (after 6 renewed_steps (passing 9)) (stages_fit false 6 renewed_steps (passing 9) dates refl
+      (search (debts, by_date, date_acks))) refl refl refl refl;
   later = record {
     correct = spot 4 (after 6 renewed_steps (passing 9)) refl;
     post = resends;
@@ -171,7 +173,7 @@ date_use = record {
     correct = spot 19 (skip 5 (after 6 renewed_steps (passing 9))) refl;
     post = passes;
     older = skip 1 (passing 7);
-    acts = dates-at;
+    acts = dates_at;
     kind =
         refl;
   };
@@ -184,22 +186,22 @@ pub forged_date : ForgedDate
 forged_date = record {
   setting = still false;
   world = passing 11;
-  fits = passing-fits;
-  finished = all-finished false (passing 11) refl;
-  life = life-by (passing 11) refl;
-  words = words-by (passing 11) refl;
+  fits = passing_fits;
+  finished = all_finished false (passing 11) refl;
+  life = life_by (passing 11) refl;
+  words = words_by (passing 11) refl;
   twice = λ h.
       h.1.0 passes (does 310000001 0 (Came 1) (Correct (pos 289999999) true (pos 600000000))) passes (skip 1 (passing 7))
       (skip 2 (passing 8))
-      (skip 1 (passing 7)) passes.did (view port0 (of 1 (skip 1 (passing 7)))) dated-again refl (skipped 10 (skip 2 (passing 11)))
-      dates-at sends sends;
+      (skip 1 (passing 7)) passes.did (view port0 (of 1 (skip 1 (passing 7)))) dated_again refl (skipped 10 (skip 2 (passing 11)))
+      dates_at sends sends;
 }
 
 -- the first date is set, and acknowledged to the one who passed it on
 pub dated_use : DatedUse
 dated_use = record {
-  history = kept-by false (passing 9) dates refl refl refl refl;
-  few = few-by (passing 9) refl;
+  history = kept_by false (passing 9) dates refl refl refl refl;
+  few = few_by (passing 9) refl;
   acked = spot 0 (passing 9) refl;
   correct = spot 3 (skip 1 (passing 9)) refl;
   amount = pos 289999999;
@@ -225,15 +227,15 @@ dated_use = record {
 abbrev pub loop_with : ℕ → MessageValue
 loop_with hops = record { kind = LoopKind; number = 0; body = Hops hops; name = 1 ∷ [] }
 
-names-differ : (x y : ℕ) → x < y → y ∷ [] ≢ x ∷ []
-names-differ x y l e = let same : y ≡ x = cc in not-same x y l (sym same)
+names_differ : (x y : ℕ) → x < y → y ∷ [] ≢ x ∷ []
+names_differ x y l e = let same : y ≡ x = cc in not_same x y l (sym same)
 
 -- in these settings each node has a name of its own
-pub names-by : (strict : Bool) (h : List Line) → NamesApart (still strict) h
-names-by strict [] = tt
-names-by strict (l ∷ t) = (
+pub names_by : (strict : Bool) (h : List Line) → NamesApart (still strict) h
+names_by strict [] = tt
+names_by strict (l ∷ t) = (
   λ other older w e. let named : node_of other ∷ [] ≡ node_of l ∷ [] = e in let same : node_of other ≡ node_of l = cc in same,
-  names-by strict t,
+  names_by strict t,
 )
 
 abbrev circle_steps : List Stage
@@ -269,9 +271,9 @@ circle_steps =
 abbrev circle : ℕ → List Line
 circle k = after k circle_steps []
 
-circle-fits : Fits (still false) (circle 9)
-circle-fits =
-    stages-fit false 9 circle_steps [] tt refl ((search debts) also (search debts) also (search debts) also (search debts) also
+circle_fits : Fits (still false) (circle 9)
+circle_fits =
+    stages_fit false 9 circle_steps [] tt refl ((search debts) also (search debts) also (search debts) also (search debts) also
     (search debts) also (search debts) also (
       search debts,
       (
@@ -286,7 +288,7 @@ circle-fits =
               kind = refl;
               name = refl;
               number = refl;
-              other = λ e. names-differ 1 2 (omega arith) (sym e);
+              other = λ e. names_differ 1 2 (omega arith) (sym e);
               left = 9;
               came = refl;
               goes = refl;
@@ -310,7 +312,7 @@ circle-fits =
               kind = refl;
               name = refl;
               number = refl;
-              other = λ e. names-differ 1 3 (omega arith) (sym e);
+              other = λ e. names_differ 1 3 (omega arith) (sym e);
               left = 8;
               came = refl;
               goes = refl;
@@ -324,8 +326,8 @@ circle-fits =
     (search debts, ((refl, λ leads. record { from = peer_of 3; message = loop_with 8; took = refl; kind = refl; name = refl; number = omega arith }), tt)) also
     tt)
 
-abbrev sets-out : LoopPost
-sets-out = record {
+abbrev sets_out : LoopPost
+sets_out = record {
   post = does 310000000 1 Turned (Post (Peer (peer_of 2)) (Message (loop_with 10)));
   older = skip 1 (circle 6);
   to = peer_of 2;
@@ -336,8 +338,8 @@ sets-out = record {
   hops_is = refl;
 }
 
-abbrev goes-on : LoopPost
-goes-on = record {
+abbrev goes_on : LoopPost
+goes_on = record {
   post = line (step_at 310000001 2 (Came 0)) port1 (Post (Peer (peer_of 3)) (Message (loop_with 9)));
   older = skip 1 (circle 7);
   to = peer_of 3;
@@ -348,8 +350,8 @@ goes-on = record {
   hops_is = refl;
 }
 
-abbrev comes-back : LoopPost
-comes-back = record {
+abbrev comes_back : LoopPost
+comes_back = record {
   post = does 310000002 3 (Came 1) (Post (Peer (peer_of 1)) (Message (loop_with 8)));
   older = skip 1 (circle 8);
   to = peer_of 1;
@@ -362,14 +364,14 @@ comes-back = record {
 
 pub loop_use : LoopUse
 loop_use = record {
-  history = kept-by false (circle 9) circle-fits refl refl refl refl;
-  names = names-by false (circle 9);
+  history = kept_by false (circle 9) circle_fits refl refl refl refl;
+  names = names_by false (circle 9);
   loose = spot 0 (circle 9) refl;
   deed = refl;
   leads = refl;
   gives_up = record {
-    last = comes-back;
-    rest = goes-on ∷ (sets-out ∷ []);
+    last = comes_back;
+    rest = goes_on ∷ (sets_out ∷ []);
     takes = record { brings = record { place = skipped 2 (skip 1 (circle 9)); cause = refl; message = loop_with 8; deed = refl }; took = refl };
     chain = (
       record { brings = record { place = skipped 2 (skip 1 (circle 8)); cause = refl; message = loop_with 9; deed = refl }; took = refl },
@@ -378,7 +380,7 @@ loop_use = record {
         (record { brings = record { place = skipped 2 (skip 1 (circle 7)); cause = refl; message = loop_with 10; deed = refl }; took = refl }, (refl, refl)),
       ),
     );
-    sent = ((λ e. not-same 1 3 (omega arith) (sym e)), ((λ e. not-same 1 2 (omega arith) (sym e)), (refl, omega arith)));
+    sent = ((λ e. not_same 1 3 (omega arith) (sym e)), ((λ e. not_same 1 2 (omega arith) (sym e)), (refl, omega arith)));
   };
   by_two = refl;
   lower = port0;

@@ -5,10 +5,11 @@ use Rattle.tsp_rules.specs.Values.{Stamp, Msite, Request, Reply, Post, Become, R
 use Rattle.tsp_rules.specs.Values.{Election, QuitKind, Test, Nothing, PeerId, Peer, Stranger, Follow, Candidate}
 use Rattle.tsp_base.specs.Words.{ReplyValue, Turned, Line, MessageValue, of, view, peer_of}
 use Rattle.tsp_promises.proofs.witness.Histories.{line, msg, named_msg, skip, skipped, step_at, still}
-use Rattle.tsp_promises.proofs.witness.HistoriesFit.{Stage, after, at, stages-fit, hands, ◌also◌, boots, turns, takes, stands, wins, acked}
+use Rattle.tsp_promises.proofs.witness.HistoriesFit.{Stage, after, at, stages_fit, hands, ◌also◌, boots, turns, takes, stands, wins, acked}
 use Rattle.tsp_promises.specs.{Fits.Fits, Uses.AnsweredUse, Uses.QuietUse, Uses.RivalsMeet, Uses.StrictElections, Uses.ThriceUse}
-use Rattle.tsp_promises.proofs.{witness.PremiseChecks.few-by, witness.PremiseChecks.kept-by, witness.StepChecks.port0, witness.WitnessUse.booted, witness.WitnessUse.lead}
-use Rattle.tsp_promises.proofs.{witness.Debts.debts, witness.Debts.not-same, witness.Spots.spot}
+use Rattle.tsp_promises.proofs.{witness.PremiseChecks.few_by, witness.PremiseChecks.kept_by, witness.StepChecks.port0, witness.WitnessUse.booted}
+use Rattle.tsp_promises.proofs.{witness.WitnessUse.lead}
+use Rattle.tsp_promises.proofs.{witness.Debts.debts, witness.Debts.not_same, witness.Spots.spot}
 
 -- an election, two backings a hold apart, a resolution, and a second election
 abbrev rivals_steps : List Stage
@@ -33,12 +34,12 @@ abbrev rivals : ℕ → List Line
 rivals k = after k rivals_steps []
 
 met : Fits (still false) (rivals 12)
-met = stages-fit false 12 rivals_steps [] tt refl (search debts)
+met = stages_fit false 12 rivals_steps [] tt refl (search debts)
 
 -- rivals meet: (rivals 9) ends with Follow, ACK, Quit, Took and the mark, and (rivals 8) with QUIT, Ring and the mark
 pub rivals_meet : RivalsMeet
 rivals_meet = record {
-  history = kept-by false (rivals 12) met refl refl refl refl;
+  history = kept_by false (rivals 12) met refl refl refl refl;
   ring = spot 16 (rivals 12) refl;
   rings = refl;
   rival = spot 12 (rivals 12) refl;
@@ -85,7 +86,7 @@ tested_steps =
 
 pub answered_use : AnsweredUse
 answered_use = record {
-  history = kept-by false (after 1 tested_steps (rivals 12)) (stages-fit false 1 tested_steps (rivals 12) met refl (search debts)) refl refl refl refl;
+  history = kept_by false (after 1 tested_steps (rivals 12)) (stages_fit false 1 tested_steps (rivals 12) met refl (search debts)) refl refl refl refl;
   quit = spot 15 (after 1 tested_steps (rivals 12)) refl;
   from = peer_of 0;
   quits = refl;
@@ -115,15 +116,15 @@ votes_steps =
     wins (at 370000000 1 0) ∷
     []
 
-votes-fit : Fits (still true) (after 11 votes_steps [])
-votes-fit =
-    stages-fit true 11 votes_steps [] tt refl ((search debts) also (search debts) also (search debts) also (search debts) also
+votes_fit : Fits (still true) (after 11 votes_steps [])
+votes_fit =
+    stages_fit true 11 votes_steps [] tt refl ((search debts) also (search debts) also (search debts) also (search debts) also
     (search debts) also
     ((search debts) also (search debts) also (
       refl,
       record {
         peer = refl;
-        other = λ e. not-same 0 1 (omega arith) (ap (λ (p : PeerId). p.0) (sym e));
+        other = λ e. not_same 0 1 (omega arith) (ap (λ (p : PeerId). p.0) (sym e));
         new = refl;
         answer = (msg Accept 32775 Nothing);
         took = refl;
@@ -147,7 +148,7 @@ votes-fit =
       refl,
       record {
         peer = refl;
-        other = λ e. not-same 1 2 (omega arith) (ap (λ (p : PeerId). p.0) (sym e));
+        other = λ e. not_same 1 2 (omega arith) (ap (λ (p : PeerId). p.0) (sym e));
         new = refl;
         answer = (msg Accept 32777 Nothing);
         took = refl;
@@ -170,14 +171,14 @@ votes-fit =
 -- two nodes win strict elections, 65 s apart
 pub strict_elections : StrictElections
 strict_elections = record {
-  history = kept-by true (after 11 votes_steps []) votes-fit refl refl refl refl;
+  history = kept_by true (after 11 votes_steps []) votes_fit refl refl refl refl;
   strict = refl;
-  few = few-by (after 11 votes_steps []) refl;
+  few = few_by (after 11 votes_steps []) refl;
   later = spot 0 (after 11 votes_steps []) refl;
   earlier = spot 15 (skip 1 (after 11 votes_steps [])) refl;
   wins = refl;
   wins_later = refl;
-  apart = not-same 0 1 (omega arith);
+  apart = not_same 0 1 (omega arith);
   net = refl;
 }
 
@@ -195,7 +196,7 @@ repeats_steps =
 pub thrice_use : ThriceUse
 thrice_use =
     record {
-      history = kept-by false (after 3 repeats_steps (lead 3)) (stages-fit false 3 repeats_steps (lead 3) booted refl (search debts)) refl refl refl refl;
+      history = kept_by false (after 3 repeats_steps (lead 3)) (stages_fit false 3 repeats_steps (lead 3) booted refl (search debts)) refl refl refl refl;
       post = spot 0 (after 3 repeats_steps (lead 3)) refl;
       peer = peer_of 1;
       message = asks;
@@ -217,7 +218,7 @@ early_on_steps =
 
 pub quiet_use : QuietUse
 quiet_use = record {
-  history = kept-by false (after 3 early_on_steps []) (stages-fit false 3 early_on_steps [] tt refl (search debts)) refl refl refl refl;
+  history = kept_by false (after 3 early_on_steps []) (stages_fit false 3 early_on_steps [] tt refl (search debts)) refl refl refl refl;
   reply = spot 3 (after 3 early_on_steps []) refl;
   to = Stranger;
   value = early;

@@ -7,12 +7,13 @@ use Rattle.tsp_base.specs.Words.{Came, Turned, Line, of, view, ReplyValue, best,
 use Rattle.tsp_group.specs.Groups.{better, goes_before, group_from}
 use Rattle.tsp_promises.specs.Moderate.{Agrees, Majority, PeerAgrees, PeerCorrects, estimates_of}
 use Rattle.tsp_promises.proofs.witness.Histories.{does, line, msg, skip, skipped, step_at, still}
-use Rattle.tsp_promises.proofs.witness.Spots.{Computed, but_for, close_begins, corrects-at, estimate-at, hop_in, sample_of, spot, untouched}
-use Rattle.tsp_promises.proofs.witness.HistoriesFit.{Stage, after, at, stages-fit, turns, follows, sets_up, obeys, acked, replies, samples}
-use Rattle.tsp_promises.proofs.witness.WitnessUse.{asked, first-hop, first-round, fits, lead, led, ordinary, reply1, second-hop, second-round, usual}
+use Rattle.tsp_promises.proofs.witness.Spots.{Computed, but_for, close_begins, corrects_at, estimate_at, hop_in, sample_of, spot, untouched}
+use Rattle.tsp_promises.proofs.witness.HistoriesFit.{Stage, after, at, stages_fit, turns, follows, sets_up, obeys, acked, replies, samples}
+use Rattle.tsp_promises.proofs.witness.WitnessUse.{asked, first_hop, first_round, fits, lead, led, ordinary, reply1, second_hop, second_round, usual}
 use Rattle.tsp_promises.specs.{RoundUses.EndedUse, RoundUses.EstimatesUse, RoundUses.ModerateUse, RoundUses.RoundsUse, StepFacts.closed}
 use Rattle.tsp_promises.specs.{Chained.Hop, Estimates.Moves, Fits.node_of, OneError.Taking}
-use Rattle.tsp_promises.proofs.{witness.Debts.debts, witness.Debts.not-same, witness.Debts.sample_in, promised.TakingProof.taking_of, witness.PremiseChecks.kept-by}
+use Rattle.tsp_promises.proofs.{witness.Debts.debts, witness.Debts.not_same, witness.Debts.sample_in, promised.TakingProof.taking_of}
+use Rattle.tsp_promises.proofs.{witness.PremiseChecks.kept_by}
 use Rattle.tsp_promises.proofs.witness.StepChecks.{port0}
 
 -- both followers of ordinary use, as its round estimates them
@@ -22,24 +23,24 @@ estimates_use = record {
   master = 0;
   one = 1;
   other = 2;
-  apart = not-same 1 2 (omega arith);
-  close = first-hop.close;
-  cpast = first-hop.cpast;
+  apart = not_same 1 2 (omega arith);
+  close = first_hop.close;
+  cpast = first_hop.cpast;
   mean = negsuc 83;
   first = spot 15 (usual 23) refl;
   begins = close_begins refl refl (skipped 1 (skip 16 (usual 23))) refl refl refl refl refl refl;
-  x = sample_of 0 first-hop;
-  reading = first-hop.reading;
-  older = first-hop.older;
-  estimate = estimate-at (spot 5 (skip 18 (usual 23)) refl) (search arith) refl refl refl;
-  y = sample_of 0 second-hop;
-  reading_other = second-hop.reading;
-  older_other = second-hop.older;
-  estimate_other = estimate-at (spot 2 (skip 18 (usual 23)) refl) (search arith) refl refl refl;
+  x = sample_of 0 first_hop;
+  reading = first_hop.reading;
+  older = first_hop.older;
+  estimate = estimate_at (spot 5 (skip 18 (usual 23)) refl) (search arith) refl refl refl;
+  y = sample_of 0 second_hop;
+  reading_other = second_hop.reading;
+  older_other = second_hop.older;
+  estimate_other = estimate_at (spot 2 (skip 18 (usual 23)) refl) (search arith) refl refl refl;
   here = usual 19;
   here_in = skipped 14 (usual 23);
   first_here = skipped 1 (usual 19);
-  still = estimate-at (spot 5 (skip 18 (usual 23)) refl) (search arith) refl refl refl;
+  still = estimate_at (spot 5 (skip 18 (usual 23)) refl) (search arith) refl refl refl;
   left_alone = but_for (spot 2 (usual 19) refl) refl refl refl refl refl;
 }
 
@@ -58,10 +59,10 @@ unheard_steps =
 pub ended_use : EndedUse
 unfolding group_from goes_before better
 ended_use = record {
-  history = kept-by false (after 7 unheard_steps (lead 5)) (stages-fit false 7 unheard_steps (lead 5) led refl (search debts)) refl refl refl refl;
+  history = kept_by false (after 7 unheard_steps (lead 5)) (stages_fit false 7 unheard_steps (lead 5) led refl (search debts)) refl refl refl refl;
   master = 0;
   other = 1;
-  apart = not-same 0 1 (omega arith);
+  apart = not_same 0 1 (omega arith);
   close = does 408000000 0 Turned (Close 2 (negsuc 100) (pos 101) (negsuc 50));
   correct = does 408000000 0 Turned (Correct (negsuc 50) false (pos 408000000));
   cpast = skip 2 (after 7 unheard_steps (lead 5));
@@ -83,7 +84,7 @@ ended_use = record {
   sample = sample_in (best (peer_of 1) (view port0 (of 0 (skip 2 (after 7 unheard_steps (lead 5))))));
   reading = does 400000300 1 (Came 3) (Post (Peer (peer_of 0)) (Stamp (Reply reply1)));
   older = skip 1 (after 5 unheard_steps (lead 5));
-  estimate = estimate-at (spot 2 (skip 2 (after 7 unheard_steps (lead 5))) refl) (search arith) refl refl refl;
+  estimate = estimate_at (spot 2 (skip 2 (after 7 unheard_steps (lead 5))) refl) (search arith) refl refl refl;
 }
 
 abbrev next : ReplyValue
@@ -104,12 +105,12 @@ twice_steps =
 pub rounds_use : RoundsUse
 unfolding group_from goes_before better
 rounds_use = record {
-  history = kept-by false (after 6 twice_steps (usual 23)) (stages-fit false 6 twice_steps (usual 23) fits refl (search debts)) refl refl refl refl;
+  history = kept_by false (after 6 twice_steps (usual 23)) (stages_fit false 6 twice_steps (usual 23) fits refl (search debts)) refl refl refl refl;
   master = 0;
   mean = negsuc 83;
-  one = first-hop;
+  one = first_hop;
   since = record {
-    from_round = first-round;
+    from_round = first_round;
     within = skipped 33 (after 6 twice_steps (usual 23));
     count = 3;
     lo = negsuc 150;
@@ -118,9 +119,9 @@ rounds_use = record {
     one_life = refl;
     one_life_master = refl;
   };
-  other = second-hop;
-  other_since = record { from_round = second-round; within = skipped 29 (after 6 twice_steps (usual 23)); one_life = refl };
-  apart = not-same 1 2 (omega arith);
+  other = second_hop;
+  other_since = record { from_round = second_round; within = skipped 29 (after 6 twice_steps (usual 23)); one_life = refl };
+  apart = not_same 1 2 (omega arith);
   again = spot 9 (after 6 twice_steps (usual 23)) refl;
   later = skipped 29 (skip 10 (after 6 twice_steps (usual 23)));
   node = refl;
@@ -158,53 +159,53 @@ abbrev pub outlier : ℕ → List Line
 outlier k = after k outlier_steps (usual 15)
 
 -- its Close, with this mean
-abbrev pub shut-by : ℤ → Line
-shut-by mean = line (step_at 408000000 0 Turned) port0 (Close 2 (negsuc 100) (pos 101) mean)
+abbrev pub shut_by : ℤ → Line
+shut_by mean = line (step_at 408000000 0 Turned) port0 (Close 2 (negsuc 100) (pos 101) mean)
 
-abbrev pub moves-own : Line
-moves-own = line (step_at 408000000 0 Turned) port0 (Correct (negsuc 50) false (pos 408000000))
+abbrev pub moves_own : Line
+moves_own = line (step_at 408000000 0 Turned) port0 (Correct (negsuc 50) false (pos 408000000))
 
 -- it corrects node 1
-abbrev pub mild-hop : Hop
-mild-hop = hop_in (outlier 8) 11 17 29 (pos 401)
+abbrev pub mild_hop : Hop
+mild_hop = hop_in (outlier 8) 11 17 29 (pos 401)
 
-mild-computed : Computed 0 mild-hop (spot 14 (skip 12 (outlier 8)) refl)
-mild-computed = search arith
+mild_computed : Computed 0 mild_hop (spot 14 (skip 12 (outlier 8)) refl)
+mild_computed = search arith
 
 -- whether a value is within a millisecond
 abbrev pub is_small : ℤ → Bool
 is_small x = nat_le (nat_abs x) 1000
 
-two-of-three : (xs : List ℤ) → length xs ≡ 3 → count_by is_small xs ≡ 2 → Majority xs is_small
-two-of-three xs all two = record {
+two_of_three : (xs : List ℤ) → length xs ≡ 3 → count_by is_small xs ≡ 2 → Majority xs is_small
+two_of_three xs all two = record {
   more = omega (arith, all, two);
   agrees = λ x y c d s t.
       let a = leb-true (nat_abs x) 1000 s in let b = leb-true (nat_abs y) 1000 t in record { low = omega (arith, ints); high = omega (arith, ints) };
 }
 
 -- a small value of the round's estimates is one of the majority
-pub small-agrees : (mean value : ℤ) → Contains (estimates_of (still false) 0 port0 mild-hop.cpast) value → is_small value ≡ true →
-    Agrees (still false) 0 (shut-by mean) mild-hop.cpast value
-small-agrees mean value among small = record {
+pub small_agrees : (mean value : ℤ) → Contains (estimates_of (still false) 0 port0 mild_hop.cpast) value → is_small value ≡ true →
+    Agrees (still false) 0 (shut_by mean) mild_hop.cpast value
+small_agrees mean value among small = record {
   test = is_small;
-  majority = two-of-three (estimates_of (still false) 0 port0 mild-hop.cpast) refl refl;
+  majority = two_of_three (estimates_of (still false) 0 port0 mild_hop.cpast) refl refl;
   among = among;
   passes = small;
 }
 
 -- the master's own estimate, and that of the peer
-pub own-agrees : (mean : ℤ) → Agrees (still false) 0 (shut-by mean) mild-hop.cpast (pos 0)
-own-agrees mean = small-agrees mean (pos 0) (0, omega arith, refl) refl
+pub own_agrees : (mean : ℤ) → Agrees (still false) 0 (shut_by mean) mild_hop.cpast (pos 0)
+own_agrees mean = small_agrees mean (pos 0) (0, omega arith, refl) refl
 
-abbrev pub near-agrees : (mean : ℤ) → PeerAgrees (still false) 0 (peer_of 1) (shut-by mean) mild-hop.cpast
-near-agrees mean = record {
-  sample = sample_of 0 mild-hop;
+abbrev pub near_agrees : (mean : ℤ) → PeerAgrees (still false) 0 (peer_of 1) (shut_by mean) mild_hop.cpast
+near_agrees mean = record {
+  sample = sample_of 0 mild_hop;
   best_is = refl;
-  agrees = small-agrees mean (negsuc 100) (1, omega arith, refl) refl;
+  agrees = small_agrees mean (negsuc 100) (1, omega arith, refl) refl;
 }
 
-pub moves-little : Moves 0 mild-hop.close moves-own (negsuc 50)
-moves-little = record {
+pub moves_little : Moves 0 mild_hop.close moves_own (negsuc 50)
+moves_little = record {
   count = 2;
   lo = negsuc 100;
   size = pos 101;
@@ -218,11 +219,11 @@ moves-little = record {
 }
 
 -- what a peer that agrees takes, where the round ended with this Correct
-abbrev pub peer-corrects : {m : ℕ} {close c l : Line} {cpast past : List Line} {amount : ℤ} → Moves m close c amount →
+abbrev pub peer_corrects : {m : ℕ} {close c l : Line} {cpast past : List Line} {amount : ℤ} → Moves m close c amount →
     Within (c ∷ (close ∷ cpast)) past → (taking : Taking m l past) → taking.acts.brings.message.kind ≡ AdjTime →
     closed taking.begun ≡ Here close.did ∷ view taking.post.port (of m cpast) → close.port ≡ taking.post.port →
     PeerAgrees (still false) m (peer_of (node_of l)) close cpast → PeerCorrects (still false) l past
-peer-corrects moves ends taking kind close_is port agrees = record {
+peer_corrects moves ends taking kind close_is port agrees = record {
   m = _;
   close = _;
   c = _;
@@ -241,19 +242,19 @@ peer-corrects moves ends taking kind close_is port agrees = record {
 pub moderate_use : ModerateUse
 unfolding group_from goes_before better
 moderate_use = record {
-  history = kept-by false (outlier 8) (stages-fit false 8 outlier_steps (usual 15) asked refl (search debts)) refl refl refl refl;
+  history = kept_by false (outlier 8) (stages_fit false 8 outlier_steps (usual 15) asked refl (search debts)) refl refl refl refl;
   master = 0;
   near = 1;
   far = 2;
-  close = mild-hop.close;
-  cpast = mild-hop.cpast;
-  correct = moves-own;
+  close = mild_hop.close;
+  cpast = mild_hop.cpast;
+  correct = moves_own;
   amount = negsuc 50;
-  moves = moves-little;
+  moves = moves_little;
   moved = skipped 16 (outlier 8);
-  own = own-agrees (negsuc 50);
-  peer = near-agrees (negsuc 50);
-  sample = sample_in (best (peer_of 2) (view port0 (of 0 mild-hop.cpast)));
+  own = own_agrees (negsuc 50);
+  peer = near_agrees (negsuc 50);
+  sample = sample_in (best (peer_of 2) (view port0 (of 0 mild_hop.cpast)));
   best_is = refl;
   counted = (2, omega arith, refl);
   off = omega (arith, ints);
@@ -264,8 +265,8 @@ moderate_use = record {
   later = inl refl;
   taker = spot 11 (outlier 8) refl;
   taker_node = refl;
-  taken = peer-corrects moves-little (skipped 4 (skip 12 (outlier 8)))
-      (taking_of (corrects-at mild-hop (spot 14 (skip 12 (outlier 8)) refl) mild-computed) refl) refl refl refl (near-agrees (negsuc 50));
+  taken = peer_corrects moves_little (skipped 4 (skip 12 (outlier 8)))
+      (taking_of (corrects_at mild_hop (spot 14 (skip 12 (outlier 8)) refl) mild_computed) refl) refl refl refl (near_agrees (negsuc 50));
   of_round = refl;
   rested = refl;
   jump = spot 7 (outlier 8) refl;
@@ -278,7 +279,7 @@ moderate_use = record {
   here = outlier 4;
   here_in = skipped 14 (outlier 8);
   unchanged = untouched refl refl refl;
-  reading = mild-hop.reading;
-  older = mild-hop.older;
-  estimate = estimate-at (spot 8 mild-hop.cpast refl) (search arith) refl refl refl;
+  reading = mild_hop.reading;
+  older = mild_hop.older;
+  estimate = estimate_at (spot 8 mild_hop.cpast refl) (search arith) refl refl refl;
 }

@@ -7,12 +7,15 @@ use Rattle.tsp_rules.specs.Values.{Request}
 use Rattle.tsp_base.specs.Words.{Came, Turned, Line, ReplyValue, dids, of, view, Within, heard, peer_of}
 use Rattle.tsp_group.specs.Groups.{better, goes_before, group_from}
 use Rattle.tsp_promises.specs.RoundUses.{OrdinaryUse, PrintsUse, SetUse, ShownUse}
-use Rattle.tsp_promises.proofs.witness.HistoriesFit.{Stage, after, at, stages-fit, skip-fits, boots, turns, stands, wins, follows, sets_up, obeys, acked, replies}
+use Rattle.tsp_promises.proofs.witness.HistoriesFit.{Stage, after, at, stages_fit, skip_fits, boots, turns, stands, wins, follows, sets_up, obeys, acked}
+use Rattle.tsp_promises.proofs.witness.HistoriesFit.{replies}
 use Rattle.tsp_promises.proofs.witness.HistoriesFit.{samples}
-use Rattle.tsp_promises.proofs.witness.Spots.{Computed, Corrects, but_for, corrects-at, hop_in, spot, untouched}
+use Rattle.tsp_promises.proofs.witness.Spots.{Computed, Corrects, but_for, corrects_at, hop_in, spot, untouched}
 use Rattle.tsp_promises.specs.{Chained.Hop, Fits.Fits, Kept.Example, OneError.FromSlaveUp, OneError.Taking}
-use Rattle.tsp_promises.proofs.{witness.Histories.does, witness.Histories.msg, witness.Histories.skip, witness.Histories.skipped, witness.Histories.still, witness.PremiseChecks.kept-by}
-use Rattle.tsp_promises.proofs.{witness.Debts.debts, witness.Debts.not-same, witness.PremiseChecks.read-by, witness.PremiseChecks.read_at-by, witness.PremiseChecks.unstepped-by}
+use Rattle.tsp_promises.proofs.{witness.Histories.does, witness.Histories.msg, witness.Histories.skip, witness.Histories.skipped, witness.Histories.still}
+use Rattle.tsp_promises.proofs.{witness.PremiseChecks.kept_by}
+use Rattle.tsp_promises.proofs.{witness.Debts.debts, witness.Debts.not_same, witness.PremiseChecks.read_by, witness.PremiseChecks.read_at_by}
+use Rattle.tsp_promises.proofs.{witness.PremiseChecks.unstepped_by}
 use Rattle.tsp_promises.proofs.{promised.TakingProof.reading_of, promised.TakingProof.taking_of, witness.StepChecks.port0}
 
 abbrev lead_steps : List Stage
@@ -29,10 +32,10 @@ abbrev pub lead : ℕ → List Line
 lead k = after k lead_steps []
 
 pub led : Fits (still false) (lead 5)
-led = stages-fit false 5 lead_steps [] tt refl (search debts)
+led = stages_fit false 5 lead_steps [] tt refl (search debts)
 
 pub booted : Fits (still false) (lead 3)
-booted = skip-fits false 7 (lead 5) led
+booted = skip_fits false 7 (lead 5) led
 
 abbrev pub reply1 : ReplyValue
 reply1 = record { ticket = 10; word = 7; counter = 0; reading = pos 400000299 }
@@ -70,30 +73,30 @@ usual k = after (k - 5) usual_steps (lead 5)
 
 pub fits : Fits (still false) (usual 23)
 unfolding group_from goes_before better
-fits = stages-fit false 18 usual_steps (lead 5) led refl (search debts)
+fits = stages_fit false 18 usual_steps (lead 5) led refl (search debts)
 
 -- up to the first reply
 pub asked : Fits (still false) (usual 15)
-asked = skip-fits false 29 (usual 23) fits
+asked = skip_fits false 29 (usual 23) fits
 
 abbrev pub ordinary : Example
-ordinary = kept-by false (usual 23) fits refl refl refl refl
+ordinary = kept_by false (usual 23) fits refl refl refl refl
 
 -- the round corrects nodes 1 and 2
-abbrev pub first-hop : Hop
-first-hop = hop_in (usual 23) 11 17 29 (pos 401)
+abbrev pub first_hop : Hop
+first_hop = hop_in (usual 23) 11 17 29 (pos 401)
 
-abbrev pub second-hop : Hop
-second-hop = hop_in (usual 23) 7 17 26 (pos 450)
+abbrev pub second_hop : Hop
+second_hop = hop_in (usual 23) 7 17 26 (pos 450)
 
-pub first-computed : Computed 0 first-hop (spot 11 (skip 12 (usual 23)) refl)
-first-computed = search arith
+pub first_computed : Computed 0 first_hop (spot 11 (skip 12 (usual 23)) refl)
+first_computed = search arith
 
-abbrev pub first-round : Corrects 0 first-hop
-first-round = corrects-at first-hop (spot 11 (skip 12 (usual 23)) refl) first-computed
+abbrev pub first_round : Corrects 0 first_hop
+first_round = corrects_at first_hop (spot 11 (skip 12 (usual 23)) refl) first_computed
 
-pub second-round : Corrects 0 second-hop
-second-round = corrects-at second-hop (spot 12 (skip 8 (usual 23)) refl) (search arith)
+pub second_round : Corrects 0 second_hop
+second_round = corrects_at second_hop (spot 12 (skip 8 (usual 23)) refl) (search arith)
 
 -- ordinary use keeps every premise
 pub ordinary_use : OrdinaryUse
@@ -111,18 +114,18 @@ ordinary_use = record {
     kind = refl;
   };
   master = 0;
-  one = first-hop;
-  other = second-hop;
+  one = first_hop;
+  other = second_hop;
   one_close = refl;
   one_past = refl;
-  hops = record { from_round = first-round; unchanged = untouched refl refl refl };
-  hops_other = record { from_round = second-round; unchanged = untouched refl refl refl };
-  apart = not-same 1 2 (omega arith);
+  hops = record { from_round = first_round; unchanged = untouched refl refl refl };
+  hops_other = record { from_round = second_round; unchanged = untouched refl refl refl };
+  apart = not_same 1 2 (omega arith);
   unchanged_but = but_for (spot 16 (usual 23) refl) refl refl refl refl refl;
 }
 
-some-left : pos 17 ≢ pos 0
-some-left e = omega (arith, ints)
+some_left : pos 17 ≢ pos 0
+some_left e = omega (arith, ints)
 
 -- node 1 is read before its round's Correct, which slews it by 17, and 50 ms after it
 pub shown_use : ShownUse
@@ -132,22 +135,22 @@ shown_use = record {
   place = usual 19;
   early = 408000000;
   late = 408050400;
-  unstepped = unstepped-by 1 14 (usual 23) refl refl;
-  read = read-by 1 14 (usual 23) 408000000 408050400 (omega arith) refl (omega arith) (omega arith);
+  unstepped = unstepped_by 1 14 (usual 23) refl refl;
+  read = read_by 1 14 (usual 23) 408000000 408050400 (omega arith) refl (omega arith) (omega arith);
   correct = spot 11 (usual 23) refl;
   after = skipped 2 (skip 12 (usual 23));
   node_is = refl;
   amount = pos 17;
   value = pos 408000399;
   slews = refl;
-  left = some-left;
+  left = some_left;
   met = omega arith;
   other = 0;
-  apart = not-same 0 1 (omega arith);
+  apart = not_same 0 1 (omega arith);
   at = 408000300;
   wait = 100000;
   bound = pos 0;
-  reads = read_at-by 1 14 (usual 23) 408000300 408100300 (omega arith) refl (omega arith) (omega arith);
+  reads = read_at_by 1 14 (usual 23) 408000300 408100300 (omega arith) refl (omega arith) (omega arith);
   near = omega (arith, ints);
   enough = omega (arith, ints);
 }
@@ -166,8 +169,8 @@ prints_use = record {
   amount = pos 17;
   shown_now = pos 408000399;
   slews = refl;
-  moves = some-left;
-  unstepped = unstepped-by 1 40 (skip 11 (usual 23)) refl refl;
+  moves = some_left;
+  unstepped = unstepped_by 1 40 (skip 11 (usual 23)) refl refl;
 }
 
 abbrev settime : Line
@@ -177,12 +180,12 @@ abbrev pub slaveup : Line
 slaveup = does 305000000 1 Turned (Post (Peer (peer_of 0)) (Message (msg SlaveUp 9 Nothing)))
 
 -- a Correct of node 1 that takes the SETTIME
-abbrev pub set-by : ℤ → Bool → ℤ → Line
-set-by amount stepped shown = does 305000002 1 (Came 2) (Correct amount stepped shown)
+abbrev pub set_by : ℤ → Bool → ℤ → Line
+set_by amount stepped shown = does 305000002 1 (Came 2) (Correct amount stepped shown)
 
-abbrev pub set-taking : (amount : ℤ) (stepped : Bool) (shown : ℤ) (past : List Line) → Within (settime ∷ skip 1 (usual 8)) past →
-    is_some (heard (dids (of 1 past))) ≡ true → Taking 0 (set-by amount stepped shown) past
-set-taking amount stepped shown past place took = record {
+abbrev pub set_taking : (amount : ℤ) (stepped : Bool) (shown : ℤ) (past : List Line) → Within (settime ∷ skip 1 (usual 8)) past →
+    is_some (heard (dids (of 1 past))) ≡ true → Taking 0 (set_by amount stepped shown) past
+set_taking amount stepped shown past place took = record {
   post = settime;
   before = skip 1 (usual 8);
   acts = record {
@@ -200,10 +203,10 @@ set-taking amount stepped shown past place took = record {
   of_send = record { message = msg SetTime 9 (TimeBody (pos 305000001)); deed = refl; numbered = refl; is = refl };
 }
 
-abbrev pub set-source : (amount : ℤ) (stepped : Bool) (shown : ℤ) (past : List Line) (place : Within (settime ∷ skip 1 (usual 8)) past)
+abbrev pub set_source : (amount : ℤ) (stepped : Bool) (shown : ℤ) (past : List Line) (place : Within (settime ∷ skip 1 (usual 8)) past)
     (took : is_some (heard (dids (of 1 past))) ≡ true) → Within (slaveup ∷ skip 1 (usual 6)) past →
-    FromSlaveUp 0 (set-by amount stepped shown) past (set-taking amount stepped shown past place took) slaveup (skip 1 (usual 6))
-set-source amount stepped shown past place took up = record {
+    FromSlaveUp 0 (set_by amount stepped shown) past (set_taking amount stepped shown past place took) slaveup (skip 1 (usual 6))
+set_source amount stepped shown past place took up = record {
   message = msg SlaveUp 9 Nothing;
   kind = refl;
   took = refl;
@@ -220,25 +223,25 @@ pub set_use : SetUse
 set_use = record {
   history = ordinary;
   master = 0;
-  correct = set-by (negsuc 0) true (pos 305000001);
+  correct = set_by (negsuc 0) true (pos 305000001);
   past = skip 2 (usual 9);
   here = skip 37 (usual 23);
   here_in = skipped 37 (usual 23);
   set = record {
-    taking = set-taking (negsuc 0) true (pos 305000001) (skip 2 (usual 9)) (skipped 2 (skip 2 (usual 9))) refl;
+    taking = set_taking (negsuc 0) true (pos 305000001) (skip 2 (usual 9)) (skipped 2 (skip 2 (usual 9))) refl;
     sets = refl;
     unchanged = untouched refl refl refl;
     unchanged_master = record { corrects = refl; lives = refl };
   };
   slaveup = slaveup;
   older = skip 1 (usual 6);
-  answers = set-source (negsuc 0) true (pos 305000001) (skip 2 (usual 9)) (skipped 2 (skip 2 (usual 9))) refl (skipped 8 (skip 2 (usual 9)));
+  answers = set_source (negsuc 0) true (pos 305000001) (skip 2 (usual 9)) (skipped 2 (skip 2 (usual 9))) refl (skipped 8 (skip 2 (usual 9)));
   later = spot 11 (usual 23) refl;
-  taking = taking_of first-round refl;
+  taking = taking_of first_round refl;
   adjusts = refl;
-  close = first-hop.close;
-  cpast = first-hop.cpast;
-  reading = first-hop.reading;
-  rolder = first-hop.older;
-  rests = reading_of first-round refl;
+  close = first_hop.close;
+  cpast = first_hop.cpast;
+  reading = first_hop.reading;
+  rolder = first_hop.older;
+  rests = reading_of first_round refl;
 }

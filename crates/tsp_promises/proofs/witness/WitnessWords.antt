@@ -6,15 +6,18 @@ use Rattle.std.proofs.Common.{sym, arith, subst, inl, ℕ, zero, suc, ◌≡◌,
 use Rattle.tsp_rules.specs.Values.{Post, Arm, Ring, Close, Correct, Round, CloseAlarm, Message, Stamp, AdjTime, SetTime, TimeBody, Peer, Request, Reply}
 use Rattle.tsp_base.specs.Words.{Came, Did, Here, Line, ReplyValue, Seen, dids, peer_of, posted}
 use Rattle.tsp_group.specs.Groups.{better, goes_before, group_from}
-use Rattle.tsp_promises.proofs.witness.Spots.{too-far}
+use Rattle.tsp_promises.proofs.witness.Spots.{too_far}
 use Rattle.tsp_promises.proofs.witness.Histories.{line, msg, skip, skipped, step_at, still}
-use Rattle.tsp_promises.proofs.witness.HistoriesFit.{Stage, after, at, stages-fit, boots, turns, takes, stands, wins, follows, sets_up, obeys, acked, replies, samples}
-use Rattle.tsp_promises.proofs.witness.WitnessUse.{asked, first-hop, first-round, fits, lead, led, ordinary, reply1, usual}
+use Rattle.tsp_promises.proofs.witness.HistoriesFit.{Stage, after, at, stages_fit, boots, turns, takes, stands, wins, follows, sets_up, obeys, acked, replies}
+use Rattle.tsp_promises.proofs.witness.HistoriesFit.{samples}
+use Rattle.tsp_promises.proofs.witness.WitnessUse.{asked, first_hop, first_round, fits, lead, led, ordinary, reply1, usual}
 use Rattle.tsp_promises.specs.{Looked.Look, Looked.LooksNeedRest, Looked.LooksUse, Uses.MeasuresWrongly, Uses.SameWords}
 use Rattle.tsp_promises.specs.{Chained.Hop, ClockAt.clock, Fits.Fits, Measured.Measured, Uses.LateReply}
-use Rattle.tsp_promises.proofs.{witness.Debts.adjusts-at, witness.Debts.debts, witness.Spots.corrects-at, witness.Spots.hop_in, witness.Spots.spot, witness.Spots.untouched}
-use Rattle.tsp_promises.proofs.{witness.HistoriesFit.all-finished, witness.PremiseChecks.honest-by, witness.PremiseChecks.kept-by, witness.PremiseChecks.life-by}
-use Rattle.tsp_promises.proofs.{shared.SendPlaces.post_unique, shared.SendPlaces.same-number, witness.StepChecks.port0}
+use Rattle.tsp_promises.proofs.{witness.Debts.adjusts_at, witness.Debts.debts, witness.Spots.corrects_at, witness.Spots.hop_in, witness.Spots.spot}
+use Rattle.tsp_promises.proofs.{witness.Spots.untouched}
+use Rattle.tsp_promises.proofs.{witness.HistoriesFit.all_finished, witness.PremiseChecks.honest_by, witness.PremiseChecks.kept_by}
+use Rattle.tsp_promises.proofs.{witness.PremiseChecks.life_by}
+use Rattle.tsp_promises.proofs.{shared.SendPlaces.post_unique, shared.SendPlaces.same_number, witness.StepChecks.port0}
 
 abbrev again : ReplyValue
 again = record { ticket = 12; word = 7; counter = 0; reading = pos 1000000298 }
@@ -42,9 +45,9 @@ anew_steps =
 abbrev anew : ℕ → List Line
 anew k = after k anew_steps (usual 23)
 
-again-fits : Fits (still false) (anew 13)
+again_fits : Fits (still false) (anew 13)
 unfolding group_from goes_before better
-again-fits = stages-fit false 13 anew_steps (usual 23) fits refl (
+again_fits = stages_fit false 13 anew_steps (usual 23) fits refl (
   search debts,
   (
     search debts,
@@ -76,7 +79,7 @@ again-fits = stages-fit false 13 anew_steps (usual 23) fits refl (
                                 refl,
                                 record {
                                   rested = inl (omega arith);
-                                  fits = adjusts-at (omega arith) refl refl refl refl (search debts) refl refl (omega arith) (record {
+                                  fits = adjusts_at (omega arith) refl refl refl refl (search debts) refl refl (omega arith) (record {
                                     corrects = refl;
                                     lives = refl;
                                   }) refl refl refl
@@ -101,18 +104,18 @@ again-fits = stages-fit false 13 anew_steps (usual 23) fits refl (
   ),
 )
 
-abbrev again-hop : Hop
-again-hop = hop_in (anew 13) 4 9 15 (pos 401)
+abbrev again_hop : Hop
+again_hop = hop_in (anew 13) 4 9 15 (pos 401)
 
 -- in both lives of the master a round corrects node 1
 pub same_words : SameWords
 same_words = record {
   setting = still false;
   world = anew 13;
-  fits = again-fits;
-  finished = all-finished false (anew 13) refl;
-  honest = honest-by (anew 13) refl;
-  life = life-by (anew 13) refl;
+  fits = again_fits;
+  finished = all_finished false (anew 13) refl;
+  honest = honest_by (anew 13) refl;
+  life = life_by (anew 13) refl;
   repeats = record {
     again = spot 42 (anew 13) refl;
     once = spot 75 (skip 43 (anew 13)) refl;
@@ -125,8 +128,8 @@ same_words = record {
     word_is = refl;
     word_once = refl;
   };
-  before = record { hop = first-hop; correct_in = skipped 12 (skip 43 (anew 13)); from_round = first-round };
-  after = record { hop = again-hop; correct_in = skipped 4 (anew 13); from_round = corrects-at again-hop (spot 7 (skip 5 (anew 13)) refl) (search arith) };
+  before = record { hop = first_hop; correct_in = skipped 12 (skip 43 (anew 13)); from_round = first_round };
+  after = record { hop = again_hop; correct_in = skipped 4 (anew 13); from_round = corrects_at again_hop (spot 7 (skip 5 (anew 13)) refl) (search arith) };
   begins = skipped 32 (skip 10 (anew 13));
 }
 
@@ -145,11 +148,11 @@ told = line (step_at 400000300 1 (Came 6)) port0 (Post (Peer (peer_of 0)) (Stamp
 wrongly : Measured (still false) (after 5 reboot_steps (usual 15)) → ⊥
 wrongly h =
     let r = h.0 (peer_of 1) 0 (negsuc 600000100) (pos 401) 10 refl in
-    let number : posted (dids r.older) ≡ 8 = same-number (posted (dids r.older)) 8 (sym r.takes) in
+    let number : posted (dids r.older) ≡ 8 = same_number (posted (dids r.older)) 8 (sym r.takes) in
     let same : r.post ∷ r.older ≡ told ∷ skip 1 (usual 15) = post_unique (skip 1 (after 5 reboot_steps (usual 15))) r.post told r.older (skip 1 (usual 15))
     (Peer (peer_of 0)) (Peer (peer_of 0)) (Stamp (Reply r.reply)) (Stamp (Reply reply1)) r.place
     (skipped 15 (skip 1 (after 5 reboot_steps (usual 15)))) r.deed refl number in
-    too-far (pos 600000100) (pos 401) refl (subst
+    too_far (pos 600000100) (pos 401) refl (subst
     (λ z. pos (nat_abs (negsuc 600000100 -ℤ (clock (still false) 1 z -ℤ clock (still false) 0 z))) ≤ℤ pos 401) same r.near)
 
 -- a reply of the first life, taken in the second
@@ -157,9 +160,9 @@ pub measures_wrongly : MeasuresWrongly
 measures_wrongly = record {
   setting = still false;
   world = after 5 reboot_steps (usual 15);
-  fits = stages-fit false 5 reboot_steps (usual 15) asked refl (search debts);
-  finished = all-finished false (after 5 reboot_steps (usual 15)) refl;
-  honest = honest-by (after 5 reboot_steps (usual 15)) refl;
+  fits = stages_fit false 5 reboot_steps (usual 15) asked refl (search debts);
+  finished = all_finished false (after 5 reboot_steps (usual 15)) refl;
+  honest = honest_by (after 5 reboot_steps (usual 15)) refl;
   repeats = record {
     again = spot 14 (after 5 reboot_steps (usual 15)) refl;
     once = spot 46 (skip 15 (after 5 reboot_steps (usual 15))) refl;
@@ -190,7 +193,7 @@ reborn_steps =
 -- the exchange ended with the life
 pub late_reply : LateReply
 late_reply = record {
-  history = kept-by false (after 4 reborn_steps (lead 5)) (stages-fit false 4 reborn_steps (lead 5) led refl (search debts)) refl refl refl refl;
+  history = kept_by false (after 4 reborn_steps (lead 5)) (stages_fit false 4 reborn_steps (lead 5) led refl (search debts)) refl refl refl refl;
   took = spot 0 (after 4 reborn_steps (lead 5)) refl;
   request = spot 6 (skip 1 (after 4 reborn_steps (lead 5))) refl;
   peer = peer_of 1;
@@ -200,19 +203,19 @@ late_reply = record {
   node = refl;
   port = refl;
   booted = omega arith;
-  no_trip = λ err t. none-open t.request t.older t.exchange_is;
+  no_trip = λ err t. none_open t.request t.older t.exchange_is;
 } where
-  none-open : (d : Did) (older : List Seen) → [] ≡ Here d ∷ older → ⊥
-  none-open d older e = cc
+  none_open : (d : Did) (older : List Seen) → [] ≡ Here d ∷ older → ⊥
+  none_open d older e = cc
 
 -- node 0 gains 100 parts in a million, and all others lose as much
 abbrev rate_of : ℕ → ℤ
 rate_of zero = pos 100
 rate_of (suc n) = negsuc 99
 
-rates-small : (n : ℕ) → nat_abs (rate_of n) ≤ 100
-rates-small zero = omega arith
-rates-small (suc n) = omega arith
+rates_small : (n : ℕ) → nat_abs (rate_of n) ≤ 100
+rates_small zero = omega arith
+rates_small (suc n) = omega arith
 
 -- all three readings are at the beginning
 abbrev at_once : (k m : ℕ) → Look k m [] 16000000
@@ -237,7 +240,7 @@ looks_use = record {
     drift = 100;
     tick = λ n. tick_at (rate_of n);
     small = omega arith;
-    ticks = λ n. keeps_time (rate_of n) 100 (rates-small n) (omega arith);
+    ticks = λ n. keeps_time (rate_of n) 100 (rates_small n) (omega arith);
   };
   fits = tt;
   drifts = refl;

@@ -3,8 +3,8 @@ use Rattle.tsp_rules.specs.Values.{Port}
 use Rattle.tsp_base.specs.Words.{Line, of, view}
 use Rattle.tsp_promises.specs.StepFacts.{is_unbacked}
 use Rattle.tsp_history.specs.{Histories.line_of, Histories.history_of, declared.line.HistoryLine.HistoryLine}
-use Rattle.tsp_audit.{proofs.BackLemmas.neither, proofs.BackLemmas.unbacked-more, specs.Backing.concerns, specs.Backing.is_stand}
-use Rattle.tsp_history.proofs.HistoryLemmas.{history-more}
+use Rattle.tsp_audit.{proofs.BackLemmas.neither, proofs.BackLemmas.unbacked_more, specs.Backing.concerns, specs.Backing.is_stand}
+use Rattle.tsp_history.proofs.HistoryLemmas.{history_more}
 use Rattle.tsp_audit.proofs.backing.settles.Goals as goal
 use Rattle.tsp_audit.proofs.backing.settles.Goals.{else-stands-via-then-stands+else-is_unbacked_at, else-stands-via-else-stands}
 
@@ -15,8 +15,8 @@ loop-i-preserved c old n q meant e =
     let i : ℕ = c.loop-i.i in
     let here : get_or lines i line ≡ line = search rules in
     let lt : i < length lines = omega arith in
-    let more : history_of (take (i + 1) lines) ≡ line_of line ∷ history_of (take i lines) = history-more lines i line lt here in
-    elim (unbacked-more (line_of line) (history_of (take i lines)) n q (subst (λ (h : List Line). is_unbacked (view q (of n h)) ≡ true) more e)) [
+    let more : history_of (take (i + 1) lines) ≡ line_of line ∷ history_of (take i lines) = history_more lines i line lt here in
+    elim (unbacked_more (line_of line) (history_of (take i lines)) n q (subst (λ (h : List Line). is_unbacked (view q (of n h)) ≡ true) more e)) [
       | inl k ↦ c.loop-i.invariant old n q meant k
       | inr k ↦
           let node : line.node ≡ n = k.node in

@@ -1,7 +1,7 @@
 use Rattle.std.proofs.Common.{length, arith}
 use Rattle.tsp_audit.specs.Parts.{Acting, Agreeing, Backing, Leading, Measuring}
 use Rattle.tsp_history.specs.Histories.{history_of}
-use Rattle.tsp_audit.proofs.JudgeLemmas.{all-keep, fails}
+use Rattle.tsp_audit.proofs.JudgeLemmas.{all_keep, fails}
 use Rattle.tsp_audit.proofs.judging.judge.Goals as goal
 
 pub returns-then-not-keeps_backing-clause-judges : goal.returns-then-not-keeps_backing-clause-judges
@@ -41,7 +41,7 @@ returns-then-not-keeps_agreeing_if-clause-judges c setting has timely numbered r
 
 pub returns-clause-judges : goal.returns-clause-judges
 returns-clause-judges c setting has timely numbered room notes old =
-    all-keep c.args.premises setting (history_of c.args.lines.now) (rw c.if-not-keeps_backing.false at (c.keeps_backing.ensures (old Backing)))
+    all_keep c.args.premises setting (history_of c.args.lines.now) (rw c.if-not-keeps_backing.false at (c.keeps_backing.ensures (old Backing)))
     (rw c.if-not-keeps_leading.false at (c.keeps_leading.ensures (old Leading)))
     (rw c.if-not-keeps_acting.false at (c.keeps_acting.ensures.keeps setting has timely room.acted notes.acted (old Acting)))
     (rw c.if-not-keeps_measuring_if.false at (c.keeps_measuring_if.ensures setting has timely (old Measuring)))

@@ -10,12 +10,12 @@ use Rattle.tsp_claims.specs.Fitting.{ActMayStand, AllFit, FitsAfter, LineFitsIn,
 use Rattle.tsp_claims.specs.Fitting.{IsPosted, TakesClaimedPost, TakingFits, untold}
 use Rattle.tsp_claims.specs.{declared.claimed.Claimed.Claimed, declared.tally.Tally.Tally, Listed.booted}
 use Rattle.tsp_audit.specs.AuditedRuns.{number_or_zero, traced, RunsFitClaims, claims_of, last_lines}
-use Rattle.tsp_audit.proofs.RunClaims.{AreOf, takes-at, told_are, length-claims, SamePost, get-ArePosts, length-ArePosts}
+use Rattle.tsp_audit.proofs.RunClaims.{AreOf, takes_at, told_are, length_claims, SamePost, get_ArePosts, length_ArePosts}
 use Rattle.tsp_run.specs.Run.{number_of, posts_by, step_tick, told_from, Happening, boot_step, happening, posts, run, told_of}
-use Rattle.tsp_run.proofs.Happens.{acts_by, boot_acts, got_acts, ports_in, steps-are, taken_in, takes-or, taking, taking_row, taking_step, turn_acts}
+use Rattle.tsp_run.proofs.Happens.{acts_by, boot_acts, got_acts, ports_in, steps_are, taken_in, takes_or, taking, taking_row, taking_step, turn_acts}
 use Rattle.tsp_run.{proofs.CalmPorts.AreCalm, specs.Networks.networks, specs.Networks.ports_on, specs.Ranges.Accepted}
 use Rattle.tsp_run.{specs.Refusals.refusal, specs.Refusals.scene, specs.declared.address.Address.Address, proofs.CalmPorts.TakesOnce}
-use Rattle.tsp_run.proofs.{RefusalLemmas.allowed, RefusalLemmas.handed-port, RefusalLemmas.refusal-none, RunPromises.posted-read}
+use Rattle.tsp_run.proofs.{RefusalLemmas.allowed, RefusalLemmas.handed_port, RefusalLemmas.refusal_none, RunPromises.posted_read}
 use Rattle.tsp_run.{proofs.SealedRun.accepted_before, specs.declared.posted.Posted.Posted}
 use Rattle.tsp_codec.specs.Taken.{taken_of}
 use Rattle.tsp_networks.proofs.MemberLemmas.{some_port}
@@ -157,7 +157,7 @@ module _ {header : HeaderValue} (whole : is_whole header ≡ true) (before : Lis
   fits-by e step acts at f =
       subst (λ n. AllFit (FitsAfter header cs ups number) e untold (map traced (told_from number step.node (step_tick header step) n acts)))
       (let e : length (posts (run header before)) + 0 ≡ length (posts (run header before)) = omega arith in e)
-      (told_fit header cs ups number e step (length (posts (run header before))) at (sym (length-ArePosts cs (posts (run header before)) known.posts_are))
+      (told_fit header cs ups number e step (length (posts (run header before))) at (sym (length_ArePosts cs (posts (run header before)) known.posts_are))
       untold acts f)
 
   -- acts that take once fit
@@ -184,7 +184,7 @@ module _ {header : HeaderValue} (whole : is_whole header ≡ true) (before : Lis
       let b = boot_acts accepted.header_is (run header before) step in
       let boot : Placed = record { port = first_port; act = Boot } in
       let has : 0 < n = (let some = some_port header whole node (allowed (scene header before) e none).node in omega (arith, some)) in
-      subst (λ h. Fits e (Some h)) (sym (steps-are header (run header before) boots_all step))
+      subst (λ h. Fits e (Some h)) (sym (steps_are header (run header before) boots_all step))
       (fits-by e step (acts_by header (run header before) boots_all step) refl
       (subst (λ l. ActsFit header cs ups n e untold l) (sym b.is) (
         has,
@@ -196,7 +196,7 @@ module _ {header : HeaderValue} (whole : is_whole header ≡ true) (before : Lis
       let e = Turn at node in
       let step : Step = record { at = at; node = node; cause = Turned } in
       let acts = acts_by header (run header before) (answers_all NodeTurn) step in
-      subst (λ h. Fits e (Some h)) (sym (steps-are header (run header before) (answers_all NodeTurn) step))
+      subst (λ h. Fits e (Some h)) (sym (steps_are header (run header before) (answers_all NodeTurn) step))
       (fits-by e step acts refl (calm_fit_all header cs ups (ports_in header step) false e untold acts (turn_acts accepted.header_is (run header before) step)
       refl refl))
   fits-of (Bytes at node port from octets) none =
@@ -204,32 +204,32 @@ module _ {header : HeaderValue} (whole : is_whole header ≡ true) (before : Lis
       let step : Step = record { at = at; node = node; cause = Handed } in
       let row = answers_all (GotOn port from (taken_of octets)) in
       let acts = acts_by header (run header before) row step in
-      let has = handed-port (scene header before) at node port from octets (refusal-none (scene header before) e none).node in
-      subst (λ h. Fits e (Some h)) (sym (steps-are header (run header before) row step))
+      let has = handed_port (scene header before) at node port from octets (refusal_none (scene header before) e none).node in
+      subst (λ h. Fits e (Some h)) (sym (steps_are header (run header before) row step))
       (fits-by e step acts refl (once-fits e step port from (taken_of octets) _ acts (got_acts accepted.header_is (run header before) step port from
       (taken_of octets) has) has refl (λ u took. not_from_true u.took took) (refl, refl)))
-  fits-of (Take at k) none = elim (takes-or header (run header before) at k) [
+  fits-of (Take at k) none = elim (takes_or header (run header before) at k) [
     | inl a ↦
         let e = Take at k in
         let step = taking_step at k a.to in
         let acts = acts_by header (run header before) (taking_row a.post a.to) step in
         let from = Peer (peer_of a.post.from) in
-        let taker_is = takes-at accepted.header_is before claims known at k none a in
-        let same = subst (λ o. SamePost (slice_get cs k) o) a.there (get-ArePosts cs (posts (run header before)) k known.posts_are) in
+        let taker_is = takes_at accepted.header_is before claims known at k none a in
+        let same = subst (λ o. SamePost (slice_get cs k) o) a.there (get_ArePosts cs (posts (run header before)) k known.posts_are) in
         subst (λ o. Fits e o) (sym (taking header (run header before) at k a))
         (fits-by e step acts (ap (λ o. takes_step at k o) taker_is)
         (once-fits e step a.to.port from (taken_in a.post) _ acts (got_acts accepted.header_is (run header before) step a.to.port from (taken_in a.post) a.has)
         a.has refl
         (λ u took. and_right u.begun (not u.took) (not_from_true u.took took))
         (takes-post (slice_get cs k) a.post a.to (taker header cs ups k) (taken_in a.post) same taker_is
-        (posted-read header before accepted k a.post a.there))))
+        (posted_read header before accepted k a.post a.there))))
     | inr nothing ↦ subst (λ o. Fits (Take at k) o) (sym nothing.1) refl
   ]
 
   -- the lines of one event
   pub event-fits : (e : Event) → refusal (scene header before) e ≡ None → Fit header claims e (last_lines header (e ∷ before))
   event-fits e none =
-      subst (λ n. AllFit (FitsAfter header cs ups n) e untold (last_lines header (e ∷ before))) (ap (λ n. n + 1) (sym (length-claims header before)))
+      subst (λ n. AllFit (FitsAfter header cs ups n) e untold (last_lines header (e ∷ before))) (ap (λ n. n + 1) (sym (length_claims header before)))
       (fits-of e none)
 
 -- those of each

@@ -3,14 +3,14 @@ use Rattle.std.specs.List.{list_any}
 use Rattle.std.proofs.lemmas.Bool.{and_parts, eqb-false, leb-true, not-true, or_parts}
 use Rattle.tsp_audit.specs.Premised.{boots_with, forges, in_life, is_honest, keeps_life, repeats_word, takes_early, words_differ}
 use Rattle.tsp_audit.specs.Parts.{Acting, Agreeing, AllKeep, Backing, Leading, Measuring}
-use Rattle.tsp_audit.proofs.RunClaims.{SamePost, get-ArePosts, told_are, events-claims}
+use Rattle.tsp_audit.proofs.RunClaims.{SamePost, get_ArePosts, told_are, events_claims}
 use Rattle.tsp_audit.specs.{declared.verdict.Verdict.TheVariants.Holds, declared.verdict.Verdict.TheVariants.Fails, Premised.premises_of}
 use Rattle.tsp_audit.specs.{declared.premises.Premises.Premises, declared.verdict.Verdict.Verdict, Verdicts.AllHold, Verdicts.IsVerdict}
 use Rattle.tsp_audit.specs.AuditedRuns.{claims_of, RunsHold}
 use Rattle.tsp_base.specs.Words.{HeaderValue, Line}
 use Rattle.tsp_claims.specs.{ClaimedHistory.posts_of, ClaimedHistory.Claim, ClaimedHistory.claimed, declared.claimed.Claimed.Claimed}
 use Rattle.tsp_run.specs.Premised.{AllBootOtherwise, Apart, BootsOtherwise, IsApart, IsPrompt, IsSealed, Prompt, Sealed}
-use Rattle.tsp_run.{proofs.RunPremises.runs_keep_premises, proofs.RunPromises.runs-keep-promises, specs.declared.posted.Posted.Posted}
+use Rattle.tsp_run.{proofs.RunPremises.runs_keep_premises, proofs.RunPromises.runs_keep_promises_holds, specs.declared.posted.Posted.Posted}
 use Rattle.tsp_run.{proofs.SealedRun.accepted_before, specs.Ranges.Accepted, specs.Run.posts, specs.Run.run, specs.Setting.SetBy}
 use Rattle.tsp_promises.specs.{Premises.Honest, Premises.Life, Premises.Words, Safe.Safe, Setting.Setting}
 use Rattle.tsp_promises.proofs.promised.WordsProof.{own_words}
@@ -56,7 +56,7 @@ is-prompt : (header : HeaderValue) (before : List Event) → Accepted header bef
     true → IsPrompt header before e
 is-prompt header before a (Take at k) early = λ q there.
     let claims = posts_of header (claims_of header before) in
-    let same = get-ArePosts claims (posts (run header before)) k (told_are header before a).posts_are in
+    let same = get_ArePosts claims (posts (run header before)) k (told_are header before a).posts_are in
     early-post (slice_get claims k) q at (subst (λ o. SamePost (slice_get claims k) o) there same) early
 is-prompt header before a _ early = tt
 
@@ -119,7 +119,7 @@ run-keeps : (premises : Premises) (setting : Setting) (header : HeaderValue) (ev
     Covered premises header events → AllKeep premises setting (claimed header (claims_of header events))
 run-keeps premises setting header events set a p =
     subst (λ h. AllKeep premises setting h) (sym (told_are header events a).history_is)
-    (keeps premises setting (run header events) (granted premises header events a p) (runs-keep-promises header setting events set a).safe)
+    (keeps premises setting (run header events) (granted premises header events a p) (runs_keep_promises_holds header setting events set a).safe)
 
 -- and of each beginning
 runs-hold : (premises : Premises) (setting : Setting) (header : HeaderValue) (events : List Event) → SetBy header setting → Accepted header events →
@@ -142,7 +142,7 @@ only-holds premises setting header claims all (Fails number) is =
 verdict-holds : RunsHold
 verdict-holds header setting events set a =
     let claims = claims_of header events in
-    let same = events-claims header events in
+    let same = events_claims header events in
     let all = runs-hold (premises_of header claims) setting header events set a (record {
       honest = λ h. subst (λ es. is_honest es ≡ true) same h;
       life = λ h. h;

@@ -1,7 +1,7 @@
 use Rattle.std.proofs.Common.{rules}
 use Rattle.tsp_promises.specs.Measured.{TripAt}
 use Rattle.tsp_history.specs.Histories.{history_of, line_of}
-use Rattle.tsp_audit.proofs.MeasureLemmas.{measures-decide}
+use Rattle.tsp_audit.proofs.MeasureLemmas.{measures_decide}
 use Rattle.tsp_audit.proofs.measuring.measures.Goals as goal
 
 pub returns-then-not-trips_well : goal.returns-then-not-trips_well
@@ -12,4 +12,4 @@ returns-then-not-trips_well c setting has timely m =
 pub returns : goal.returns
 returns c setting has timely =
     let trip : TripAt (line_of c.args.line.now) (history_of c.args.lines.now) = search rules in
-    measures-decide setting (line_of c.args.line.now) (history_of c.args.lines.now) c.errs_little.result trip (c.errs_little.ensures setting has timely)
+    measures_decide setting (line_of c.args.line.now) (history_of c.args.lines.now) c.errs_little.result trip (c.errs_little.ensures setting has timely)

@@ -1,5 +1,5 @@
 use Rattle.std.proofs.Common.{◌≡◌, rules, Some}
-use Rattle.tsp_audit.proofs.NearLemmas.{pair-told}
+use Rattle.tsp_audit.proofs.NearLemmas.{pair_told}
 use Rattle.tsp_audit.proofs.nearness.pair_agrees.Goals as goal
 
 pub returns-then-c-d-2 : goal.returns-then-c-d-2
@@ -10,5 +10,5 @@ returns-then-c-d-2 c header at spare first second own other fsum ssum =
     let bd : c.args.b.now.from_round ≡ Some y = search rules in
     let masters : x.master ≡ y.master = search rules in
     let closes : x.close ≡ y.close = search rules in
-    pair-told header at spare first second c.args.a.now c.args.b.now x y c.pair_near.result ac bd masters closes
+    pair_told header at spare first second c.args.a.now c.args.b.now x y c.pair_near.result ac bd masters closes
     (c.pair_near.ensures c.args.a.now c.args.b.now x y ac bd header at spare first second own other fsum ssum)

@@ -1,7 +1,7 @@
 -- What the clock shows is its wall, its corrections and its tick.
 use Rattle.std.proofs.Common.{◌≡◌, ◌∙◌, ◌+ℤ◌, ◌-ℤ◌, ap, subst, sym, rules, to_z, of_z, ℤ}
 use Rattle.std.specs.Int.{w64, w128}
-use Rattle.tsp_audit.proofs.NearLemmas.{sums-same}
+use Rattle.tsp_audit.proofs.NearLemmas.{sums_same}
 use Rattle.tsp_base.specs.Words.{tick_at}
 use Rattle.tsp_history.specs.Clocks.{IsSumOf}
 use Rattle.tsp_run.specs.Setup.{node_line}
@@ -24,7 +24,7 @@ returns c soon =
           let wall : to_z w64 (of_z w64 c.clock_of-rate.result.1) ≡ line.wall = (let w : to_z w64 (of_z w64 c.clock_of-rate.result.1) ≡
           c.clock_of-rate.result.1 = search rules in w ∙ c.clock_of-rate.ensures.wall) in
           let tick : c.tick_of.result ≡ tick_at line.rate c.args.at = search rules in
-          same ∙ (c.add-clock.ensures.sum ∙ sums-same _ _ _ _ _ _ wall (same-b ∙ moved) tick));
+          same ∙ (c.add-clock.ensures.sum ∙ sums_same _ _ _ _ _ _ wall (same-b ∙ moved) tick));
       low_is = λ x is.
           (let whole : to_z w128 (of_z w128 (at -ℤ by)) ≡ at -ℤ by = search rules in whole ∙
           ap (λ (z : ℤ). at -ℤ z) (same-r ∙ c.reach_of-reach.ensures.reach soon x is));

@@ -1,7 +1,7 @@
 use Rattle.std.proofs.Common.{◌≡◌, ◌<◌, ℕ, sym, subst, subst₂, arith, inl, inr, get_or, length, set, List, ◌∙◌, ap}
 use Rattle.std.proofs.lemmas.{Bool.cases_lt, List.get_or-set_other, List.get_or-set_same, List.length-set}
 use Rattle.tsp_audit.specs.{Standings.StandsAs, declared.round_correction.NodeState.NodeState, declared.shown.Standing.Standing}
-use Rattle.tsp_audit.proofs.AgreementLemmas.{no_state, state-at}
+use Rattle.tsp_audit.proofs.AgreementLemmas.{no_state, state_at}
 use Rattle.tsp_audit.proofs.standing.standings.Goals as goal
 
 pub loop-node-preserved : goal.loop-node-preserved
@@ -16,7 +16,7 @@ loop-node-preserved c soon k a s lt kat below =
           (c.loop-node.invariant soon k a s less kat short)
       | inr le ↦
           let e : i ≡ k = omega (arith, lt, le) in
-          let here : get_or c.args.states.now i no_state ≡ a = state-at c.args.states.now i k a kat e in
+          let here : get_or c.args.states.now i no_state ≡ a = state_at c.args.states.now i k a kat e in
           let new : c.stand_of.result ≡ get_or (set old i c.stand_of.result) k s = sym (ap (λ (j : ℕ). get_or (set old i c.stand_of.result) j s) (sym e) ∙
           get_or-set_same old i c.stand_of.result s (omega (arith, e, short))) in
           subst₂ (λ (b : NodeState) (u : Standing). StandsAs c.args.header.now c.args.at c.args.spare k b u) here new

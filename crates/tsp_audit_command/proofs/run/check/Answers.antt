@@ -1,10 +1,10 @@
 use Rattle.std.proofs.Common.{◌∙◌, subst, inl, inr, sym, refl, ◌≡◌, ◌⊎◌, ℕ, ◌≤◌, List, [], length, reverse, Option, Some}
 use Rattle.tsp_audit_command.specs.Readings.{Claimed, IsWanting, ReachesReading, Reading, Scheduling}
 use Rattle.tsp_audit_command.specs.{ClaimReaders.ClaimReaderValue, ClaimReaders.passes_all, Meaning.IsAuditText, Meaning.auditing}
-use Rattle.tsp_audit_command.proofs.{Definites.definite_auditing, Definites.Reaches-one, PassLemmas.none-some}
+use Rattle.tsp_audit_command.proofs.{Definites.definite_auditing, Definites.Reaches_one, PassLemmas.none-some}
 use Rattle.tsp_lines.specs.declared.treat.Outcome.TheVariants.{Ok as Done, Bad, ReadFault, WriteFault, Limit, OutOfMemory}
 use Rattle.tsp_lines.specs.{Answers.Agrees, Answers.IsAnswer, Definite.IsDefinite, Gatherings.ComesGathered, Meanings.Meaning}
-use Rattle.tsp_lines.{proofs.OneAnswer.Comes-answers, specs.declared.treat.Outcome.Outcome, specs.declared.limits.TheConstants.MOST_INPUT}
+use Rattle.tsp_lines.{proofs.OneAnswer.Comes_answers, specs.declared.treat.Outcome.Outcome, specs.declared.limits.TheConstants.MOST_INPUT}
 use Rattle.tsp_audit_command.proofs.run.check.Goals as goal
 
 -- the same lines, where nothing is handed over at their end
@@ -27,7 +27,7 @@ silent = record {
   refused_within = definite_auditing.refused_within;
   one_lack = definite_auditing.one_lack;
   one_end = λ lines more other a b. a.4 ∙ sym b.4;
-  ended_whole = λ lines more cause a (r, s, f). ended_whole r a.0 a.1 cause (Reaches-one (reverse lines) (Claimed a.0) r a.2 s) a.3 f;
+  ended_whole = λ lines more cause a (r, s, f). ended_whole r a.0 a.1 cause (Reaches_one (reverse lines) (Claimed a.0) r a.2 s) a.3 f;
 }
 
 -- what may be audited has an answer
@@ -48,13 +48,13 @@ complete : (limit : ℕ) (input left written now : Option (List ℕ)) (octets : 
     (result ≡ ReadFault → ⊥) → (result ≡ WriteFault → ⊥) → (result ≡ Done) ⊎ (result ≡ OutOfMemory)
 complete limit input left written now octets Done told short text comes read write = inl refl
 complete limit input left written now octets Bad told short text comes read write =
-    let agrees : Agrees Done [] written now Bad = Comes-answers silently silent limit input left written now Bad comes octets Done [] told
+    let agrees : Agrees Done [] written now Bad = Comes_answers silently silent limit input left written now Bad comes octets Done [] told
     (answer limit octets short text) in
     inl (sym agrees.0)
 complete limit input left written now octets ReadFault told short text comes read write = absurd (read refl)
 complete limit input left written now octets WriteFault told short text comes read write = absurd (write refl)
 complete limit input left written now octets Limit told short text comes read write =
-    let agrees : Agrees Done [] written now Limit = Comes-answers silently silent limit input left written now Limit comes octets Done [] told
+    let agrees : Agrees Done [] written now Limit = Comes_answers silently silent limit input left written now Limit comes octets Done [] told
     (answer limit octets short text) in
     inl (sym agrees.0)
 complete limit input left written now octets OutOfMemory told short text comes read write = inr refl

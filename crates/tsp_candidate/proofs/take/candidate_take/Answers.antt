@@ -4,8 +4,8 @@ use Rattle.tsp_rules.specs.Values.{Accept, Ack, Election, QuitKind, Refuse}
 use Rattle.tsp_base.{proofs.PerformsLemmas.Performs_nothing, specs.Words.name_in, specs.Words.nothing}
 use Rattle.tsp_rules.specs.{CandidateRows.candidate_takes, CandidateRows.candidate_takes_kind, CommonRows.follow_row}
 use Rattle.tsp_slave.proofs.{BesideLemmas.Performs_station, SlaveLemmas.AlsoStands_posts, SlaveLemmas.AlsoStands_acknowledges}
-use Rattle.tsp_candidate.proofs.{AlsoLemmas.AlsoStands_accepted_by, AlsoLemmas.AlsoStands_refused_by, RowCases.candidate_takes_kind-master}
-use Rattle.tsp_rules.proofs.RowsOther.{candidate_takes_kind-other}
+use Rattle.tsp_candidate.proofs.{AlsoLemmas.AlsoStands_accepted_by, AlsoLemmas.AlsoStands_refused_by, RowCases.candidate_takes_kind_master}
+use Rattle.tsp_rules.proofs.RowsOther.{candidate_takes_kind_other}
 use Rattle.tsp_candidate.proofs.take.candidate_take.Goals as goal
 
 pub returns-in-MasterUp-clause-row : goal.returns-in-MasterUp-clause-row
@@ -13,7 +13,7 @@ unfolding candidate_takes
 returns-in-MasterUp-clause-row g c took e =
     let m = c.args.m.now in
     let k : candidate_takes_kind c.args.from m m.kind ≡ follow_row c.args.from =
-    ap (candidate_takes_kind c.args.from m) (sym c.kind.ensures) ∙ candidate_takes_kind-master c.args.from m c.kind.result c.in-MasterUp.is in
+    ap (candidate_takes_kind c.args.from m) (sym c.kind.ensures) ∙ candidate_takes_kind_master c.args.from m c.kind.result c.in-MasterUp.is in
     rw k (c.follow.ensures.row took (ap name_in e ∙ sym c.name.ensures))
 
 pub returns-in-Election-clause-row : goal.returns-in-Election-clause-row
@@ -53,5 +53,5 @@ returns-in_default-clause-row g c took e =
     let o = c.in_default in
     let k : candidate_takes_kind c.args.from m m.kind ≡ nothing =
     ap (candidate_takes_kind c.args.from m) (sym c.kind.ensures)
-    ∙ candidate_takes_kind-other c.args.from m c.kind.result o.not-MasterUp o.not-MasterAck o.not-Election o.not-Accept o.not-Refuse o.not-Quit o.not-Ack in
+    ∙ candidate_takes_kind_other c.args.from m c.kind.result o.not-MasterUp o.not-MasterAck o.not-Election o.not-Accept o.not-Refuse o.not-Quit o.not-Ack in
     rw k Performs_nothing

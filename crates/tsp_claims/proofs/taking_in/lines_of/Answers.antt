@@ -1,9 +1,9 @@
 -- The mark is noted, and then one line more.
 use Rattle.std.proofs.Common.{◌+◌, ◌++◌, ◌∷◌, [], ◌∙◌, ap, arith, drop, sym}
 use Rattle.tsp_base.specs.Words.{Line, joined, first_port, line_of as line_in}
-use Rattle.tsp_claims.{proofs.StepLemmas.note-next, specs.Fitting.acts_of, specs.Steps.step_by}
+use Rattle.tsp_claims.{proofs.StepLemmas.note_next, specs.Fitting.acts_of, specs.Steps.step_by}
 use Rattle.tsp_claims.proofs.taking_in.lines_of.Goals as goal
-use Rattle.tsp_history.{proofs.HistoryLemmas.noted-append, specs.Histories.deed_of, specs.Histories.line_of, specs.Histories.noted_after}
+use Rattle.tsp_history.{proofs.HistoryLemmas.noted_append, specs.Histories.deed_of, specs.Histories.line_of, specs.Histories.noted_after}
 
 pub loop-line-init : goal.loop-line-init
 loop-line-init c =
@@ -24,8 +24,8 @@ loop-line-preserved c =
     record {
       lines = λ h. ap (λ ls. joined (step_by step) step.tick (acts_of (drop (i + 1) c.args.acts.now)) (noted_after h ls)) c.in_ok-push-2.ensures.items
           ∙ ap (λ k. joined (step_by step) step.tick (acts_of (drop (i + 1) c.args.acts.now)) k)
-          (noted-append h c.loop-line.lines.items (c.noted-in-loop-line.result ∷ []))
-          ∙ note-next (step_by step) step.tick c.args.acts.now i item (line_of c.noted-in-loop-line.result) (noted_after h c.loop-line.lines.items)
+          (noted_append h c.loop-line.lines.items (c.noted-in-loop-line.result ∷ []))
+          ∙ note_next (step_by step) step.tick c.args.acts.now i item (line_of c.noted-in-loop-line.result) (noted_after h c.loop-line.lines.items)
           (omega arith) (sym c.line-item.is)
           (c.noted-in-loop-line.ensures ∙ ap (λ a. line_in (step_by step) step.tick item.placed.port (deed_of a)) c.in_ok-act.ensures)
           ∙ c.loop-line.invariant.lines h;

@@ -1,9 +1,9 @@
 use Rattle.std.proofs.Common.{arith, inl, inr, refl}
-use Rattle.tsp_query.proofs.FaultLemmas.{Counts-same}
+use Rattle.tsp_query.proofs.FaultLemmas.{Counts_same}
 use Rattle.tsp_args.specs.declared.command.Command.TheVariants.{Replay}
 use Rattle.tsp_cli.proofs.CommandLemmas.{command_same, does_as, untouched_as, command_read, command_none, words_link, said_counts, said_unlinked, said_unread}
-use Rattle.tsp_cli.proofs.CommandLemmas.{Untouched-same, Says-nothing, Replay_prints, Replay_so_far}
-use Rattle.tsp_cli.{proofs.RunLemmas.unused_link, proofs.SoFarLemmas.nothing-so-far, specs.Commands.now_of}
+use Rattle.tsp_cli.proofs.CommandLemmas.{Untouched_same, Says_nothing, Replay_prints, Replay_so_far}
+use Rattle.tsp_cli.{proofs.RunLemmas.unused_link, proofs.SoFarLemmas.nothing_so_far, specs.Commands.now_of}
 use Rattle.tsp_cli.proofs.run.run.Goals as goal
 
 pub run_command-requires-clause-command : goal.run_command-requires-clause-command
@@ -38,13 +38,13 @@ returns-in-Ok-Some g c =
 pub returns-in-Ok-None : goal.returns-in-Ok-None
 returns-in-Ok-None g c = record {
   link = unused_link _ _ _ _ (said_unlinked _ _ _ c.say.ensures.says);
-  read = Counts-same _ _ _ refl (said_unread _ _ _ c.say.ensures.says);
+  read = Counts_same _ _ _ refl (said_unread _ _ _ c.say.ensures.says);
   unended = λ e. absurd (said_unread _ _ _ c.say.ensures.says e);
   write = said_counts _ _ _ c.say.ensures.later c.say.ensures.write c.say.ensures.still;
   does = λ command is words. absurd (command_none _ _ c.in-Ok-None.field-0-is c.in-Ok-None.ensures.reads command is words);
   headline = λ words ok. absurd (command_none _ _ c.in-Ok-None.field-0-is c.in-Ok-None.ensures.reads Replay tt words);
   so_far = λ words. absurd (command_none _ _ c.in-Ok-None.field-0-is c.in-Ok-None.ensures.reads Replay tt words);
-  untouched = λ command is words. Untouched-same command _ _ _;
+  untouched = λ command is words. Untouched_same command _ _ _;
   exact = λ e. command_none _ _ c.in-Ok-None.field-0-is c.in-Ok-None.ensures.reads;
   last = omega arith;
   usage = λ none. (c.say.ensures.says, refl, refl, refl);
@@ -53,12 +53,12 @@ returns-in-Ok-None g c = record {
 pub returns-in-Err : goal.returns-in-Err
 returns-in-Err g c = record {
   link = unused_link _ _ _ _ (λ e. cc);
-  read = Counts-same _ _ _ refl (λ e. cc);
-  write = Counts-same _ _ _ refl (λ e. cc);
+  read = Counts_same _ _ _ refl (λ e. cc);
+  write = Counts_same _ _ _ refl (λ e. cc);
   does = λ command is words. inl (refl, refl);
-  usage = λ unbuilt. (Says-nothing _, refl, refl, refl);
-  so_far = λ words. nothing-so-far _ _;
-  untouched = λ command is words. Untouched-same command _ _ _;
+  usage = λ unbuilt. (Says_nothing _, refl, refl, refl);
+  so_far = λ words. nothing_so_far _ _;
+  untouched = λ command is words. Untouched_same command _ _ _;
   exact = λ e. cc;
   headline = λ words ok. cc;
   last = omega arith;

@@ -1,13 +1,13 @@
 use Rattle.std.proofs.Common.{◌∙◌, arith, sym, refl}
-use Rattle.tsp_query.proofs.FaultLemmas.{Counts-same}
-use Rattle.tsp_cli.proofs.RunLemmas.{Runs-treated, status_by, read_counts, read_open, write_counts, unused_link, daemon_link, question_link}
-use Rattle.tsp_cli.{specs.Lines.Replay, specs.Lines.Show, specs.Lines.Pack, specs.Lines.Icmp, proofs.AuditLemmas.RunsAudit-treated}
+use Rattle.tsp_query.proofs.FaultLemmas.{Counts_same}
+use Rattle.tsp_cli.proofs.RunLemmas.{Runs_treated, status_by, read_counts, read_open, write_counts, unused_link, daemon_link, question_link}
+use Rattle.tsp_cli.{specs.Lines.Replay, specs.Lines.Show, specs.Lines.Pack, specs.Lines.Icmp, proofs.AuditLemmas.RunsAudit_treated}
 use Rattle.tsp_cli.proofs.run.run_command.Goals as goal
 
 pub returns-in-Replay : goal.returns-in-Replay
 returns-in-Replay g c = let r = c.replay.ensures in record {
   does = rw c.in-Replay.is
-      (Runs-treated Replay _ _ _ _ _ _ _ _ _ c.replay.result c.of.result c.of.ensures r.comes r.answers r.keeps_up r.complete
+      (Runs_treated Replay _ _ _ _ _ _ _ _ _ c.replay.result c.of.result c.of.ensures r.comes r.answers r.keeps_up r.complete
       (λ e. (r.leaves.read e).0) r.leaves.write r.leaves.ended);
   used = λ e. (status_by c.replay.result).2 (sym c.of.ensures ∙ e);
   untouched = rw c.in-Replay.is (refl, refl);
@@ -21,7 +21,7 @@ returns-in-Replay g c = let r = c.replay.ensures in record {
 pub returns-in-Show : goal.returns-in-Show
 returns-in-Show g c = let r = c.show.ensures in record {
   does = rw c.in-Show.is
-      (Runs-treated Show _ _ _ _ _ _ _ _ _ c.show.result c.of-in-Show.result c.of-in-Show.ensures r.comes r.answers r.keeps_up r.complete
+      (Runs_treated Show _ _ _ _ _ _ _ _ _ c.show.result c.of-in-Show.result c.of-in-Show.ensures r.comes r.answers r.keeps_up r.complete
       (λ e. (r.leaves.read e).0) r.leaves.write r.leaves.ended);
   used = λ e. (status_by c.show.result).2 (sym c.of-in-Show.ensures ∙ e);
   untouched = rw c.in-Show.is (refl, refl);
@@ -35,7 +35,7 @@ returns-in-Show g c = let r = c.show.ensures in record {
 pub returns-in-Pack : goal.returns-in-Pack
 returns-in-Pack g c = let r = c.pack.ensures in record {
   does = rw c.in-Pack.is
-      (Runs-treated Pack _ _ _ _ _ _ _ _ _ c.pack.result c.of-in-Pack.result c.of-in-Pack.ensures r.comes r.answers r.keeps_up r.complete
+      (Runs_treated Pack _ _ _ _ _ _ _ _ _ c.pack.result c.of-in-Pack.result c.of-in-Pack.ensures r.comes r.answers r.keeps_up r.complete
       (λ e. (r.leaves.read e).0) r.leaves.write r.leaves.ended);
   used = λ e. (status_by c.pack.result).2 (sym c.of-in-Pack.ensures ∙ e);
   untouched = rw c.in-Pack.is (refl, refl);
@@ -49,7 +49,7 @@ returns-in-Pack g c = let r = c.pack.ensures in record {
 pub returns-in-Icmp : goal.returns-in-Icmp
 returns-in-Icmp g c = let r = c.average.ensures in record {
   does = rw c.in-Icmp.is
-      (Runs-treated Icmp _ _ _ _ _ _ _ _ _ c.average.result c.of-in-Icmp.result c.of-in-Icmp.ensures r.comes r.answers r.keeps_up r.complete
+      (Runs_treated Icmp _ _ _ _ _ _ _ _ _ c.average.result c.of-in-Icmp.result c.of-in-Icmp.ensures r.comes r.answers r.keeps_up r.complete
       (λ e. (r.leaves.read e).0) r.leaves.write r.leaves.ended);
   used = λ e. (status_by c.average.result).2 (sym c.of-in-Icmp.ensures ∙ e);
   untouched = rw c.in-Icmp.is (refl, refl);
@@ -63,7 +63,7 @@ returns-in-Icmp g c = let r = c.average.ensures in record {
 pub returns-in-Audit : goal.returns-in-Audit
 returns-in-Audit g c = let r = c.check.ensures in record {
   does = rw c.in-Audit.is
-      (RunsAudit-treated _ _ _ _ _ _ _ _ _ c.check.result c.of-in-Audit.result c.of-in-Audit.ensures r.treats.comes r.answers r.complete r.treats.gathered
+      (RunsAudit_treated _ _ _ _ _ _ _ _ _ c.check.result c.of-in-Audit.result c.of-in-Audit.ensures r.treats.comes r.answers r.complete r.treats.gathered
       (λ e. (r.treats.leaves.read e).0) r.treats.leaves.write r.treats.leaves.ended);
   used = λ e. (status_by c.check.result).2 (sym c.of-in-Audit.ensures ∙ e);
   untouched = rw c.in-Audit.is (refl, refl);
@@ -83,7 +83,7 @@ returns-in-Serve g c = let r = c.run_daemon.ensures in record {
   used = r.used;
   untouched = rw c.in-Serve.is refl;
   link = daemon_link _ _ _ _ _ r.link r.later.0;
-  read = Counts-same _ _ _ refl r.unread;
+  read = Counts_same _ _ _ refl r.unread;
   unended = λ e. absurd (r.unread e);
   write = r.write;
   last = r.later.1;
@@ -95,7 +95,7 @@ returns-in-Ask g c = let r = c.run_query.ensures in record {
   used = r.used;
   untouched = rw c.in-Ask.is refl;
   link = question_link _ _ _ _ _ (rw c.in-Ask.is tt) r.faults;
-  read = Counts-same _ _ _ refl r.unread;
+  read = Counts_same _ _ _ refl r.unread;
   unended = λ e. absurd (r.unread e);
   write = r.write;
   last = r.last;
@@ -110,7 +110,7 @@ returns-in-Storm g c = let r = c.run_storm.ensures in record {
   used = r.used;
   untouched = rw c.in-Storm.is (refl, refl, refl);
   link = unused_link _ _ _ _ r.unlinked;
-  read = Counts-same _ _ _ refl r.unread;
+  read = Counts_same _ _ _ refl r.unread;
   unended = λ e. absurd (r.unread e);
   write = r.write;
   last = omega arith;

@@ -1,5 +1,5 @@
-use Rattle.tsp_convert.proofs.Conversions.{IsHexLineOf-one}
+use Rattle.tsp_convert.proofs.Conversions.{IsHexLineOf_one}
 use Rattle.tsp_convert.proofs.laws.one_datagram_in_hex.Goals as goal
 
 pub returns : goal.returns
-returns c = IsHexLineOf-one
+returns c = IsHexLineOf_one

@@ -1,5 +1,5 @@
 use Rattle.std.proofs.Common.{◌≡◌, ◌∙◌, ap, sym, inl, inr, refl, subst, ℤ, ℕ, false, rules, w64, to_z, of_z}
-use Rattle.tsp_query.proofs.{AskLemmas.of_some, FaultLemmas.Counts-from, FaultLemmas.Counts-same, OutsideLemmas.Says_from}
+use Rattle.tsp_query.proofs.{AskLemmas.of_some, FaultLemmas.Counts_from, FaultLemmas.Counts_same, OutsideLemmas.Says_from}
 use Rattle.tsp_query.specs.Outside.{observed, paged}
 use Rattle.tsp_rules.specs.Guards.{is_clock_value}
 use Rattle.tsp_daemon.{proofs.NodeLemmas.turns_fit, specs.Nodes.first_past, specs.Serving.served_of, specs.declared.end.ServeEnd.ServeEnd}
@@ -40,24 +40,24 @@ returns-in-Ok-clause-serves g c = λ o wall word written k.
     wall_is) word_is c.in-Ok.ensures.wall c.in-Ok.ensures.stands read.0 k.written_is c.of.ensures c.requires.serve c.serve.ensures.serves page keeps))
 
 pub returns-in-Ok-clause-link : goal.returns-in-Ok-clause-link
-returns-in-Ok-clause-link g c = Counts-from _ _ _ _ _ refl (λ e. served_linked c.serve.result (sym c.of.ensures ∙ e)) (λ e. c.of.ensures ∙
+returns-in-Ok-clause-link g c = Counts_from _ _ _ _ _ refl (λ e. served_linked c.serve.result (sym c.of.ensures ∙ e)) (λ e. c.of.ensures ∙
     ap (λ (x : ServeEnd). served_of x) e) c.serve.ensures.link
 
 pub returns-in-Ok-clause-write : goal.returns-in-Ok-clause-write
-returns-in-Ok-clause-write g c = Counts-from _ _ _ _ _ refl (λ e. served_written c.serve.result (sym c.of.ensures ∙ e)) (λ e. c.of.ensures ∙
+returns-in-Ok-clause-write g c = Counts_from _ _ _ _ _ refl (λ e. served_written c.serve.result (sym c.of.ensures ∙ e)) (λ e. c.of.ensures ∙
     ap (λ (x : ServeEnd). served_of x) e) c.serve.ensures.write
 
 pub returns-in-Ok-clause-wall : goal.returns-in-Ok-clause-wall
 returns-in-Ok-clause-wall g c = λ e. absurd (served_in_time c.serve.result (sym c.of.ensures ∙ e))
 
 pub returns-in-Err-BadWall-clause-link : goal.returns-in-Err-BadWall-clause-link
-returns-in-Err-BadWall-clause-link g c = Counts-same _ _ _ refl c.say_bad_wall.ensures.link
+returns-in-Err-BadWall-clause-link g c = Counts_same _ _ _ refl c.say_bad_wall.ensures.link
 
 pub returns-in-Err-OutOfMemory-clause-link : goal.returns-in-Err-OutOfMemory-clause-link
-returns-in-Err-OutOfMemory-clause-link g c = Counts-same _ _ _ refl (λ e. cc)
+returns-in-Err-OutOfMemory-clause-link g c = Counts_same _ _ _ refl (λ e. cc)
 
 pub returns-in-Err-OutOfMemory-clause-write : goal.returns-in-Err-OutOfMemory-clause-write
-returns-in-Err-OutOfMemory-clause-write g c = Counts-same _ _ _ refl (λ e. cc)
+returns-in-Err-OutOfMemory-clause-write g c = Counts_same _ _ _ refl (λ e. cc)
 
 pub returns-in-Err-BadWall-clause-serves : goal.returns-in-Err-BadWall-clause-serves
 returns-in-Err-BadWall-clause-serves g c = λ o wall word written k.

@@ -1,7 +1,7 @@
 use Rattle.std.proofs.Common.{◌≡◌, inl, inr, refl, rules, subst, List, ◌∷◌}
 use Rattle.tsp_args.specs.Ports.{all_peers}
 use Rattle.tsp_io.specs.{Links.NotesReceive, declared.addr.Addr.Addr}
-use Rattle.tsp_query.{proofs.FaultLemmas.Counts-from, proofs.FaultLemmas.Counts-same, specs.Outside.after_bind}
+use Rattle.tsp_query.{proofs.FaultLemmas.Counts_from, proofs.FaultLemmas.Counts_same, specs.Outside.after_bind}
 use Rattle.tsp_query.proofs.OutsideLemmas.{NotesBind_failed, NotesBind_made, NotesBind_refused, Notes_same, Tells_bound}
 use Rattle.tsp_daemon.proofs.command.serve_words.Goals as goal
 
@@ -63,10 +63,10 @@ returns-in_default-clause-serves g c = λ o wall word written k. inl (
 )
 
 pub returns-in-Bound-clause-link : goal.returns-in-Bound-clause-link
-returns-in-Bound-clause-link g c = Counts-from _ _ _ _ _ (c.bind.ensures.still (λ e. cc)) (λ e. e) (λ e. e) c.serve_bound.ensures.link
+returns-in-Bound-clause-link g c = Counts_from _ _ _ _ _ (c.bind.ensures.still (λ e. cc)) (λ e. e) (λ e. e) c.serve_bound.ensures.link
 
 pub returns-in-Failed-clause-link : goal.returns-in-Failed-clause-link
 returns-in-Failed-clause-link g c = record { later = c.bind.ensures.later.0; cause = λ e. c.bind.ensures.cause c.in-Failed.is; still = λ h. absurd (h refl) }
 
 pub returns-clause-link : goal.returns-clause-link
-returns-clause-link g c = Counts-same _ _ _ (c.bind.ensures.still (λ e. cc)) (λ e. cc)
+returns-clause-link g c = Counts_same _ _ _ (c.bind.ensures.still (λ e. cc)) (λ e. cc)

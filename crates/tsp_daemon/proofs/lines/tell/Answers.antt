@@ -1,6 +1,6 @@
 use Rattle.std.proofs.Common.{rules, arith, ◌≡◌, ◌∙◌, ◌++◌, ◌+◌, ap, sym, append_assoc, get_or, length, drop}
 use Rattle.tsp_rules.specs.Values.{Placed}
-use Rattle.tsp_lines.proofs.Outputs.{Grows-trans}
+use Rattle.tsp_lines.proofs.Outputs.{Grows_trans}
 use Rattle.tsp_daemon.specs.Posts.{line_of, act_lines, send_of}
 use Rattle.tsp_daemon.proofs.LineLemmas.{lines_here, tells_until}
 use Rattle.tsp_daemon.proofs.lines.tell.Goals as goal
@@ -18,7 +18,7 @@ loop-placed-preserved g c =
     record {
       told = (
         told.0 ++ c.as_slice.result.now,
-        Grows-trans _ _ _ told.0 c.as_slice.result.now told.1 c.in_default.ensures.ok,
+        Grows_trans _ _ _ told.0 c.as_slice.result.now told.1 c.in_default.ensures.ok,
         told.2 ∙ ap (λ xs. told.0 ++ xs) here ∙ sym (append_assoc told.0 c.as_slice.result.now _),
       );
       few = omega (arith, c.loop-placed.invariant.few, c.posts_by-number.ensures.one);

@@ -1,6 +1,6 @@
 use Rattle.std.proofs.Common.{rules, arith, ◌≡◌, ◌∙◌, ◌++◌, ap, sym, append_assoc, get_or}
 use Rattle.tsp_rules.specs.Values.{Placed}
-use Rattle.tsp_daemon.{proofs.SendLemmas.TriesAll-trans, proofs.SendLemmas.sends_here, specs.Posts.send_of}
+use Rattle.tsp_daemon.{proofs.SendLemmas.TriesAll_trans, proofs.SendLemmas.sends_here, specs.Posts.send_of}
 use Rattle.tsp_daemon.proofs.sends.send_all.Goals as goal
 
 pub loop-placed-preserved : goal.loop-placed-preserved
@@ -13,7 +13,7 @@ loop-placed-preserved g c =
     record {
       tried = (
         tried.0 ++ send_of item.act,
-        TriesAll-trans _ _ _ tried.0 (send_of item.act) tried.1 e.ok,
+        TriesAll_trans _ _ _ tried.0 (send_of item.act) tried.1 e.ok,
         tried.2 ∙ ap (λ ps. tried.0 ++ ps) here ∙ sym (append_assoc tried.0 (send_of item.act) _),
       );
       arrivals = e.only.arrivals ∙ c.loop-placed.invariant.arrivals;

@@ -1,7 +1,7 @@
 use Rattle.std.proofs.Common.{◌≡◌, ◌∙◌, ◌+◌, ap, arith, refl, List}
 use Rattle.tsp_rules.specs.Values.{PeerId}
 use Rattle.tsp_gateway.specs.Rooms.{ports_in, room_of_ports}
-use Rattle.tsp_query.proofs.FaultLemmas.{Counts-from, Counts-same}
+use Rattle.tsp_query.proofs.FaultLemmas.{Counts_from, Counts_same}
 use Rattle.tsp_daemon.specs.declared.end.ServeEnd.TheVariants.{LinkFault, WriteFault}
 use Rattle.tsp_daemon.proofs.SessionLemmas.{at_on, rises_more, serves_until, turns_more}
 use Rattle.tsp_daemon.proofs.TurnLemmas.{le_is, le_on, le_same, le_self, posts_more, went_on, done_unlinked, done_unwritten, end_as, same_end}
@@ -52,8 +52,8 @@ returns-in-Err g c = record {
     walled = c.turn.ensures.keeps.walled ∙ c.loop.invariant.walled;
     last = le_on _ _ _ c.loop.invariant.last c.turn.ensures.keeps.last;
   };
-  link = Counts-from _ _ _ _ _ c.loop.invariant.faults (λ e. end_as c.in-Err.end LinkFault e) (λ e. same_end c.in-Err.end LinkFault e) c.in-Err.ensures.link;
-  write = Counts-from _ _ _ _ _ c.loop.invariant.writes (λ e. end_as c.in-Err.end WriteFault e) (λ e. same_end c.in-Err.end WriteFault e)
+  link = Counts_from _ _ _ _ _ c.loop.invariant.faults (λ e. end_as c.in-Err.end LinkFault e) (λ e. same_end c.in-Err.end LinkFault e) c.in-Err.ensures.link;
+  write = Counts_from _ _ _ _ _ c.loop.invariant.writes (λ e. end_as c.in-Err.end WriteFault e) (λ e. same_end c.in-Err.end WriteFault e)
       c.in-Err.ensures.write;
   sends = le_on _ _ _ c.loop.invariant.send_faults c.turn.ensures.sends;
 }
@@ -122,8 +122,8 @@ returns g c = record {
     alone = λ none. let before = c.loop.invariant.alone none in (before.1, before.2);
   };
   keeps = record { binds = c.loop.invariant.binds; walled = c.loop.invariant.walled; last = c.loop.invariant.last };
-  link = Counts-same _ _ _ c.loop.invariant.faults (λ e. done_unlinked e);
-  write = Counts-same _ _ _ c.loop.invariant.writes (λ e. done_unwritten e);
+  link = Counts_same _ _ _ c.loop.invariant.faults (λ e. done_unlinked e);
+  write = Counts_same _ _ _ c.loop.invariant.writes (λ e. done_unwritten e);
   sends = c.loop.invariant.send_faults;
 }
 

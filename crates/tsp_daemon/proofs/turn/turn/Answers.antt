@@ -1,6 +1,6 @@
 use Rattle.std.proofs.Common.{◌≡◌, ◌∙◌, ◌+◌, List, [], ap, inl, sym, subst, refl}
 use Rattle.tsp_io.specs.declared.link.Recv.TheVariants.{Failed}
-use Rattle.tsp_query.proofs.{FaultLemmas.Counts-same, OutsideLemmas.Notes_same}
+use Rattle.tsp_query.proofs.{FaultLemmas.Counts_same, OutsideLemmas.Notes_same}
 use Rattle.tsp_gateway.specs.{GatewayStands.GatewayStands, GatewayStands.GatewayBegun, PortOf.setups_in}
 use Rattle.tsp_rules.specs.{GateRows.answers_all, NodePerforms.PerformsAll, Values.Placed}
 use Rattle.tsp_daemon.specs.{Ends.given_by, Posts.AreKnown, declared.end.ServeEnd.TheVariants.LinkFault}
@@ -82,7 +82,7 @@ returns-in-Err g c = record {
   };
   link =
       let ok : c.recv-received.result ≡ Failed → ⊥ = c.in_default.not-Failed in
-      Counts-same _ _ _ (c.finish.ensures.only.faults ∙ c.recv-received.ensures.still ok) (λ e. finish_unlinked _ _ _ _ _ _ c.in-Err.end c.in-Err.ensures.err
+      Counts_same _ _ _ (c.finish.ensures.only.faults ∙ c.recv-received.ensures.still ok) (λ e. finish_unlinked _ _ _ _ _ _ c.in-Err.end c.in-Err.ensures.err
       (same_end c.in-Err.end LinkFault e));
   write = c.in-Err.ensures.write;
   sends = sends_on _ _ _ c.recv-received.ensures.later.1 c.finish.ensures.only.sends;
@@ -161,7 +161,7 @@ returns g c = record {
   ports = c.step.ensures.ports;
   link =
       let ok : c.recv-received.result ≡ Failed → ⊥ = c.in_default.not-Failed in
-      Counts-same _ _ _ (c.finish.ensures.only.faults ∙ c.recv-received.ensures.still ok) (λ e. cc);
+      Counts_same _ _ _ (c.finish.ensures.only.faults ∙ c.recv-received.ensures.still ok) (λ e. cc);
   write = c.in_default-finish.ensures.write;
   sends = sends_on _ _ _ c.recv-received.ensures.later.1 c.finish.ensures.only.sends;
 }
@@ -183,8 +183,8 @@ returns-then-is_err g c = record {
   board = (refl, refl);
   alone = λ none. (tt, refl, refl);
   keeps = record { binds = refl; walled = refl; last = le_self _ };
-  link = Counts-same _ _ _ refl (λ e. memory_unlinked e);
-  write = Counts-same _ _ _ refl (λ e. memory_unwritten e);
+  link = Counts_same _ _ _ refl (λ e. memory_unlinked e);
+  write = Counts_same _ _ _ refl (λ e. memory_unwritten e);
   sends = le_self _;
   lives = tt;
   clock = tt;
@@ -220,7 +220,7 @@ returns-in-Failed g c = record {
   link =
       let failed : c.recv-received.result ≡ Failed = c.in-Failed.is in
       record { later = c.recv-received.ensures.later.0; cause = λ e. c.recv-received.ensures.cause failed; still = λ h. absurd (h refl) };
-  write = Counts-same _ _ _ refl (λ e. link_unwritten e);
+  write = Counts_same _ _ _ refl (λ e. link_unwritten e);
   sends = le_is _ _ c.recv-received.ensures.later.1;
   lives = tt;
   clock = tt;

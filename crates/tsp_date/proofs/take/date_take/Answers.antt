@@ -5,10 +5,10 @@ use Rattle.tsp_base.proofs.PerformsLemmas.{Performs_else_part, Performs_nothing,
 use Rattle.tsp_rules.specs.DateRows.{may_date, new_date, sets_date_where, date_acked, passes_on}
 use Rattle.tsp_rules.specs.{RoundRows.corrects, Values.DateAck, Values.Kind, Values.PeerId, Values.Place, Answers.from_peer, ClockRows.sets}
 use Rattle.tsp_rules.proofs.{Emits.Emits_posts, BuiltAnswers.built_from_peer, BuiltAnswers.built_date_acked, BuiltAnswers.built_passes_on}
-use Rattle.tsp_rules.proofs.{EmitsBuilt.emits_built, Unchanged.place_unchanged, EmitsStill.corrects-none, EmitsStill.still_sorts}
+use Rattle.tsp_rules.proofs.{EmitsBuilt.emits_built, Unchanged.place_unchanged, EmitsStill.corrects_none, EmitsStill.still_sorts}
 use Rattle.tsp_date.specs.declared.task.Task.TheVariants.{AnswerAgain, Nothing, PassOn, Set}
 use Rattle.tsp_date.specs.DateStands.{DateState, moved_where}
-use Rattle.tsp_date.proofs.{DateLemmas.Performs_posting, TaskLemmas.Performs_task, TaskLemmas.handles-end}
+use Rattle.tsp_date.proofs.{DateLemmas.Performs_posting, TaskLemmas.Performs_task, TaskLemmas.handles_end}
 use Rattle.tsp_date.proofs.take.date_take.Goals as goal
 
 -- which rows of dates correct the clock
@@ -26,7 +26,7 @@ corrects-sets from number time x past = by_test (may_date time x past) where
 
 -- one that is passed on doesn't
 corrects-passes : (from : Place) (q : PeerId) (number : ℕ) (time : ℤ) (x : ℕ) (past : Past) → corrects (passes_on from q number time x past) ≡ false
-corrects-passes from q number time x past = corrects-none (passes_on from q number time x past)
+corrects-passes from q number time x past = corrects_none (passes_on from q number time x past)
     ((emits_built {all = still_sorts} refl (built_passes_on number time tt tt from q (place_unchanged from) tt tt)).only x past)
 
 -- nor does one that is answered again
@@ -36,7 +36,7 @@ corrects-posts p kind number x past = refl
 
 -- nor does the answer of a master
 corrects-end : (from : Place) (m : MessageValue) (x : ℕ) (past : Past) → corrects (from_peer from (date_acked m) x past) ≡ false
-corrects-end from m x past = corrects-none (from_peer from (date_acked m) x past)
+corrects-end from m x past = corrects_none (from_peer from (date_acked m) x past)
     ((emits_built {all = still_sorts} refl (built_from_peer from _ _ (place_unchanged from) (built_date_acked m))).only x past)
 
 pub returns-in-DateAck-clause-row : goal.returns-in-DateAck-clause-row
@@ -51,13 +51,13 @@ returns-in-DateAck-clause-row g c last took e t =
       clock = c.args.clock.now;
       took = took;
     } in
-    rw (handles-end c.args.charge c.args.from m m.kind k) (c.hear_end.ensures.row c.args.tick s)
+    rw (handles_end c.args.charge c.args.from m m.kind k) (c.hear_end.ensures.row c.args.tick s)
 
 pub returns-in-DateAck-clause-corrects : goal.returns-in-DateAck-clause-corrects
 returns-in-DateAck-clause-corrects g c past last took e h =
     let m = c.args.m.now in
     let k : m.kind ≡ DateAck = sym c.kind.ensures ∙ c.in-DateAck.is in
-    sym (ap (λ row. corrects (row c.args.tick past)) (handles-end c.args.charge c.args.from m m.kind k) ∙ corrects-end c.args.from m c.args.tick past)
+    sym (ap (λ row. corrects (row c.args.tick past)) (handles_end c.args.charge c.args.from m m.kind k) ∙ corrects-end c.args.from m c.args.tick past)
 
 pub returns-in-Nothing : goal.returns-in-Nothing
 returns-in-Nothing g c =

@@ -2,7 +2,7 @@
 use Rattle.std.proofs.Common.{ap, append-nil, append_assoc, arith, get_or, sym, ◌∙◌, ◌≡◌, ◌+◌, ◌++◌, ◌∷◌, [], suc, List, length, map, take}
 use Rattle.std.proofs.{Math.Seq.take-suc, lemmas.List.length-append, lemmas.List.map-append, lemmas.List.take_all}
 use Rattle.tsp_base.specs.Words.{MessageValue, others, placed}
-use Rattle.tsp_base.proofs.RowLemmas.{others-more, others-own}
+use Rattle.tsp_base.proofs.RowLemmas.{others_more, others_own}
 use Rattle.tsp_rules.specs.{GateRows.repost, Values.Placed, Values.PeerId, Values.Port}
 use Rattle.tsp_gateway.proofs.looping.repost.Goals as goal
 use Rattle.tsp_gateway.proofs.looping.repost.Goals.{then-p-station, else-p-station}
@@ -38,12 +38,12 @@ loop-p-preserved g c =
       | then-p-station w ↦
           let put = rw w.copy.ensures at w.put.ensures.acts in
           let few = ap length w.put.ensures.acts ∙ length-append (g.D.Desk.acts c.loop-p.desk) _ in
-          rw (w.desk-is, next, others-more own p (take i peers) w.if-p-station.true) (record {
+          rw (w.desk-is, next, others_more own p (take i peers) w.if-p-station.true) (record {
             acts = more c.args.message.now c.args.port (others own (take i peers)) p (g.D.Desk.acts c.args.desk.now) (g.D.Desk.acts c.loop-p.desk)
                 (g.D.Desk.acts w.put.new.self) inv.acts put;
             room = record { spare = omega (arith, inv.room.spare, w.put.ensures.spare); few = omega (arith, inv.room.few, few) };
           })
-      | else-p-station w ↦ rw (w.desk-is, next, others-own own p (take i peers) w.if-p-station.false) (record {
+      | else-p-station w ↦ rw (w.desk-is, next, others_own own p (take i peers) w.if-p-station.false) (record {
         acts = inv.acts;
         room = record { spare = omega (arith, inv.room.spare); few = omega (arith, inv.room.few) };
       })

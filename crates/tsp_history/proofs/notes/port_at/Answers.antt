@@ -1,5 +1,5 @@
 use Rattle.std.proofs.Common.{◌≡◌, ◌<◌, ◌-◌, true, false, arith, rules, subst, sym, length, take, get_or}
-use Rattle.tsp_history.{proofs.NoteLemmas.port-more, specs.Histories.history_of, specs.Notes.IsOwnLine, specs.Notes.PortKnown}
+use Rattle.tsp_history.{proofs.NoteLemmas.port_more, specs.Histories.history_of, specs.Notes.IsOwnLine, specs.Notes.PortKnown}
 use Rattle.tsp_history.proofs.notes.port_at.Goals as goal
 
 pub returns-then-is_own : goal.returns-then-is_own
@@ -9,7 +9,7 @@ returns-then-is_own c =
     let own : IsOwnLine c.index-lines-left.result c.args.node c.args.port true = subst (λ b. IsOwnLine c.index-lines-left.result c.args.node c.args.port b)
     c.if-is_own.true c.is_own.ensures in
     c.loop-left.invariant.known c.index-lines-left.result.note.port
-    (port-more c.args.node c.args.port c.args.lines.now c.loop-left.left (c.loop-left.left - 1) c.index-lines-left.result (omega arith) below is
+    (port_more c.args.node c.args.port c.args.lines.now c.loop-left.left (c.loop-left.left - 1) c.index-lines-left.result (omega arith) below is
     c.index-lines-left.result.note.port
     (own (history_of (take (c.loop-left.left - 1) c.args.lines.now)) c.index-lines-left.result.note.port
     (c.requires.told.at (c.loop-left.left - 1) c.index-lines-left.result below is).port))
@@ -22,7 +22,7 @@ loop-left-preserved c =
     subst (λ b. IsOwnLine c.index-lines-left.result c.args.node c.args.port b) c.if-is_own.false c.is_own.ensures in
     record {
       few = omega arith;
-      known = λ m k. c.loop-left.invariant.known m (port-more c.args.node c.args.port c.args.lines.now c.loop-left.left (c.loop-left.left - 1)
+      known = λ m k. c.loop-left.invariant.known m (port_more c.args.node c.args.port c.args.lines.now c.loop-left.left (c.loop-left.left - 1)
           c.index-lines-left.result (omega arith) below is m (other (history_of (take (c.loop-left.left - 1) c.args.lines.now)) m k));
     }
 

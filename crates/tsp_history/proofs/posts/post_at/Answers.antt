@@ -1,7 +1,7 @@
 use Rattle.std.proofs.Common.{◌≡◌, ◌<◌, ◌+◌, ◌-◌, ◌∷◌, ap, subst, arith, rules, length, take, get_or, List, MatchBool}
 use Rattle.tsp_base.specs.Words.{Line, dids, posted, posted_after}
 use Rattle.tsp_history.specs.{Histories.deed_of, Histories.history_of, Histories.line_of, Posts.IsPost}
-use Rattle.tsp_history.proofs.{HistoryLemmas.Within-noted, NoteLemmas.posted-more}
+use Rattle.tsp_history.proofs.{HistoryLemmas.Within_noted, NoteLemmas.posted_more}
 use Rattle.tsp_history.proofs.posts.post_at.Goals as goal
 use Rattle.tsp_history.proofs.posts.post_at.Goals.{else-is_post-via-then-is_post+else-line-number, else-is_post-via-else-is_post}
 
@@ -18,7 +18,7 @@ returns-then-line-number c =
       noted = c.index-lines-left.result;
       below = below;
       noted_is = is;
-      within = Within-noted c.args.lines.now (c.loop-left.left - 1) c.index-lines-left.result below is;
+      within = Within_noted c.args.lines.now (c.loop-left.left - 1) c.index-lines-left.result below is;
       to = post.to;
       datagram = post.datagram;
       act = post.act;
@@ -31,7 +31,7 @@ loop-left-preserved c =
     let is : get_or c.args.lines.now (c.loop-left.left - 1) c.index-lines-left.result ≡ c.index-lines-left.result = search rules in
     let item = c.index-lines-left.result in
     let past : List Line = history_of (take (c.loop-left.left - 1) c.args.lines.now) in
-    let more = posted-more c.args.lines.now c.loop-left.left (c.loop-left.left - 1) c.index-lines-left.result (omega arith) below is in
+    let more = posted_more c.args.lines.now c.loop-left.left (c.loop-left.left - 1) c.index-lines-left.result (omega arith) below is in
     let note = (c.requires.told.at (c.loop-left.left - 1) c.index-lines-left.result below is).posted_is in
     let told = c.is_post.ensures in
     elim c.else-is_post.branch [

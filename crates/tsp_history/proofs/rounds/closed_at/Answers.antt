@@ -1,7 +1,7 @@
 use Rattle.std.proofs.Common.{◌≡◌, ◌<◌, ◌∙◌, ◌-◌, arith, rules, length, take, get_or, refl}
 use Rattle.tsp_base.specs.Words.{of, view}
 use Rattle.tsp_promises.specs.StepFacts.{closed}
-use Rattle.tsp_history.{proofs.NoteLemmas.begins-port, proofs.NoteLemmas.newest-is, proofs.RoundLemmas.line-at, specs.Histories.history_of}
+use Rattle.tsp_history.{proofs.NoteLemmas.begins_port, proofs.NoteLemmas.newest-is, proofs.RoundLemmas.line_at, specs.Histories.history_of}
 use Rattle.tsp_history.proofs.rounds.closed_at.Goals as goal
 
 pub loop-left-preserved : goal.loop-left-preserved
@@ -29,9 +29,9 @@ returns-in-Begins c =
     let begins = c.in-Begins.ensures.begins refl in
     record {
       noted = c.index-lines-left.result;
-      at = line-at c.args.lines.now (c.loop-left.left - 1) c.index-lines-left.result below is;
+      at = line_at c.args.lines.now (c.loop-left.left - 1) c.index-lines-left.result below is;
       node = begins.node;
-      port = begins-port c.index-lines-left.result c.args.node c.args.port begins;
+      port = begins_port c.index-lines-left.result c.args.node c.args.port begins;
       is = newest-is (λ h. closed (view c.args.port (of c.args.node h))) c.args.lines.now c.loop-left.left (c.loop-left.left - 1) c.index-lines-left.result
           (omega arith) below is c.loop-left.invariant.same ∙ c.in-Begins.ensures.place (history_of (take (c.loop-left.left - 1) c.args.lines.now));
     }

@@ -1,6 +1,6 @@
 use Rattle.std.proofs.Common.{◌≡◌, ◌<◌, ◌∙◌, ◌-◌, ◌∷◌, true, false, if◌then◌else◌, ap, arith, rules, length, take, get_or, refl, sym}
 use Rattle.tsp_base.specs.Words.{Here, of, view, acting, begun_to, open_to}
-use Rattle.tsp_history.{proofs.NoteLemmas.newest-is, proofs.SendLemmas.sent-here, specs.Histories.history_of, specs.Histories.line_of}
+use Rattle.tsp_history.{proofs.NoteLemmas.newest-is, proofs.SendLemmas.sent_here, specs.Histories.history_of, specs.Histories.line_of}
 use Rattle.tsp_history.proofs.sends.send_begun_to.Goals as goal
 
 pub loop-left-preserved-in-Keeps : goal.loop-left-preserved-in-Keeps
@@ -33,7 +33,7 @@ returns-then-is_acting-clause-begun c e =
     c.in-Begins.ensures.begun (history_of (take (c.loop-left.left - 1) c.args.lines.now)) e in
     let acts : acting (view c.args.port (of c.args.node (history_of (take (c.loop-left.left - 1) c.args.lines.now)))) ≡ true = sym c.is_acting.ensures ∙
     c.if-is_acting.true in
-    sent-here c.args.lines.now c.args.node c.args.port (c.loop-left.left - 1) c.index-lines-left.result _ _ _ below is (c.in-Begins.ensures.begins refl)
+    sent_here c.args.lines.now c.args.node c.args.port (c.loop-left.left - 1) c.index-lines-left.result _ _ _ below is (c.in-Begins.ensures.begins refl)
     (c.in-Begins.ensures.posts refl) c.requires.told acts place
 
 pub returns-in-Ends-clause-opened : goal.returns-in-Ends-clause-opened
@@ -52,7 +52,7 @@ returns-then-is_acting-clause-opened c e =
     c.in-Begins.ensures.opened (history_of (take (c.loop-left.left - 1) c.args.lines.now)) e in
     let acts : acting (view c.args.port (of c.args.node (history_of (take (c.loop-left.left - 1) c.args.lines.now)))) ≡ true = sym c.is_acting.ensures ∙
     c.if-is_acting.true in
-    sent-here c.args.lines.now c.args.node c.args.port (c.loop-left.left - 1) c.index-lines-left.result _ _ _ below is (c.in-Begins.ensures.begins refl)
+    sent_here c.args.lines.now c.args.node c.args.port (c.loop-left.left - 1) c.index-lines-left.result _ _ _ below is (c.in-Begins.ensures.begins refl)
     (c.in-Begins.ensures.posts refl) c.requires.told acts place
 
 pub loop-left-preserved : goal.loop-left-preserved

@@ -1,7 +1,7 @@
 use Rattle.std.proofs.Common.{arith, sym, subst}
 use Rattle.std.proofs.lemmas.Int.{ints}
 use Rattle.tsp_icmp.specs.Days.{Dayside}
-use Rattle.tsp_icmp.proofs.Daysides.{Dayside-difference_of, found, shift_of-low, shift_of-high}
+use Rattle.tsp_icmp.proofs.Daysides.{Dayside_difference_of, found, shift_of_low, shift_of_high}
 use Rattle.tsp_icmp.proofs.exchange.difference.Goals as goal
 
 pub returns-clause-value : goal.returns-clause-value
@@ -12,9 +12,9 @@ returns-clause-value c =
       arith,
       ints,
       s,
-      shift_of-low c.args.o c.args.r,
-      shift_of-high c.args.o c.args.r,
+      shift_of_low c.args.o c.args.r,
+      shift_of_high c.args.o c.args.r,
     )) (omega (arith, ints))
 
 pub returns-clause-dayside : goal.returns-clause-dayside
-returns-clause-dayside c = subst (Dayside c.args.o c.args.r c.args.d) (sym (returns-clause-value c)) (Dayside-difference_of c.args.o c.args.r c.args.d)
+returns-clause-dayside c = subst (Dayside c.args.o c.args.r c.args.d) (sym (returns-clause-value c)) (Dayside_difference_of c.args.o c.args.r c.args.d)

@@ -1,7 +1,7 @@
 -- Where a line fails, what was handed over is what came before.
 use Rattle.std.proofs.Common.{◌≡◌, ◌∙◌, ap, sym, subst, ◌++◌, ◌+◌, List, ℕ, get_or, append_assoc, append-nil, drop, rules, ℤ, to_z, of_z}
 use Rattle.std.{proofs.lemmas.Int.to_z-of_z, proofs.lemmas.List.drop_more, specs.Int.w64}
-use Rattle.tsp_lines.{proofs.Outputs.Hands-trans, specs.Lines.close, specs.Outputs.Hands}
+use Rattle.tsp_lines.{proofs.Outputs.Hands_trans, specs.Lines.close, specs.Outputs.Hands}
 use Rattle.tsp_icmp_command.{proofs.TreatLemmas.on_err, specs.Bests.BestValue, specs.Bests.correct_line, specs.Bests.corrections}
 use Rattle.tsp_icmp_command.proofs.summary.tell_corrections.Goals as goal
 
@@ -14,7 +14,7 @@ returns-in_err-put-clause-err g c =
       corrections c.args.mean (drop c.loop-best.best-index c.args.bests.now),
       rw back at told.2,
       subst (λ o. Hands (g.K.Sink.written c.args.sink.now) c.args.output.now (g.K.Sink.written c.put.new.sink) c.put.new.self o) (append-nil told.0)
-          (Hands-trans _ _ _ _ _ _ told.0 _ told.1 c.in_err-put.ensures.err),
+          (Hands_trans _ _ _ _ _ _ told.0 _ told.1 c.in_err-put.ensures.err),
     )
 
 pub loop-best-preserved : goal.loop-best-preserved
@@ -32,7 +32,7 @@ loop-best-preserved g c =
       told = (
         told.0 ++ close (correct_line mean item),
         subst (λ o. Hands (g.K.Sink.written c.args.sink.now) c.args.output.now (g.K.Sink.written c.put.new.sink) c.put.new.self (told.0 ++ o)) text
-            (Hands-trans _ _ _ _ _ _ told.0 c.as_slice.result.now told.1 c.in_ok-put.ensures.ok),
+            (Hands_trans _ _ _ _ _ _ told.0 c.as_slice.result.now told.1 c.in_ok-put.ensures.ok),
         told.2 ∙ ap (λ z. told.0 ++ z) here ∙ sym (append_assoc told.0 (close (correct_line mean item)) rest),
       );
       later = search rules;

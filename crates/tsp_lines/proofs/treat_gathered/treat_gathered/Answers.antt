@@ -2,8 +2,8 @@
 use Rattle.std.proofs.Common.{◌∙◌, ap, sym, arith, ◌≡◌, [], Some, Err, drop, refl}
 use Rattle.tsp_lines.specs.{Outcomes.Comes, declared.treat.Outcome.TheVariants.ReadFault, declared.treat.Outcome.TheVariants.OutOfMemory}
 use Rattle.tsp_lines.specs.declared.gather.Ungathered.TheVariants.{ReadFault as NotRead, OutOfMemory as NoMemory}
-use Rattle.tsp_lines.proofs.{OneAnswer.Comes-answers, Outputs.Grows-nil, Turns.Comes-nothing}
-use Rattle.tsp_lines.proofs.WholeInputs.{Comes-given, ComesGathered-comes, ended-given}
+use Rattle.tsp_lines.proofs.{OneAnswer.Comes_answers, Outputs.Grows_nil, Turns.Comes_nothing}
+use Rattle.tsp_lines.proofs.WholeInputs.{Comes_given, ComesGathered_comes, ended_given}
 use Rattle.tsp_lines.proofs.treat_gathered.treat_gathered.Goals as goal
 
 pub returns-in-Ok : goal.returns-in-Ok
@@ -13,12 +13,12 @@ returns-in-Ok g c =
     let read : c.treat_all.result ≡ ReadFault → ⊥ = λ r. absurd (omega (arith, (t.leaves.read r).0)) in
     let given : Comes g.T.Treatment.meaning c.args.limit (g.S.Source.left c.args.source.now) (g.S.Source.left c.gather.new.source)
     (g.K.Sink.written c.args.sink.now) (g.K.Sink.written c.treat_all.new.sink) c.treat_all.result =
-    Comes-given g.T.Treatment.meaning c.args.limit (g.S.Source.left c.args.source.now) (g.S.Source.left c.gather.new.source)
+    Comes_given g.T.Treatment.meaning c.args.limit (g.S.Source.left c.args.source.now) (g.S.Source.left c.gather.new.source)
     (Some (drop c.treat_all.new.source.at c.treat_all.new.source.octets.items)) (g.K.Sink.written c.args.sink.now) (g.K.Sink.written c.treat_all.new.sink)
     (g.S.Source.ended c.gather.new.source) c.in-Ok.gathered.octets.items c.in-Ok.gathered.at c.treat_all.result e.0 e.1 read t.comes in record {
-      comes = ComesGathered-comes g.T.Treatment.meaning c.args.limit (g.S.Source.left c.args.source.now) (g.S.Source.left c.gather.new.source)
+      comes = ComesGathered_comes g.T.Treatment.meaning c.args.limit (g.S.Source.left c.args.source.now) (g.S.Source.left c.gather.new.source)
           (g.K.Sink.written c.args.sink.now) (g.K.Sink.written c.treat_all.new.sink) c.treat_all.result read given;
-      answers = λ definite. Comes-answers g.T.Treatment.meaning definite c.args.limit (g.S.Source.left c.args.source.now) (g.S.Source.left c.gather.new.source)
+      answers = λ definite. Comes_answers g.T.Treatment.meaning definite c.args.limit (g.S.Source.left c.args.source.now) (g.S.Source.left c.gather.new.source)
           (g.K.Sink.written c.args.sink.now) (g.K.Sink.written c.treat_all.new.sink) c.treat_all.result given;
       gathered = λ r m. (c.in-Ok.gathered.octets.items, e.0);
       unwritten = λ r. absurd (read r);
@@ -27,7 +27,7 @@ returns-in-Ok g c =
         read = λ r. absurd (read r);
         write = t.leaves.write;
         still = (λ r. c.gather.ensures.faults.still (λ n. let q = sym c.in-Ok.is ∙ n in cc), t.leaves.still.1);
-        ended = λ done. ended-given g.T.Treatment.meaning c.args.limit (g.S.Source.left c.args.source.now) (g.S.Source.left c.gather.new.source)
+        ended = λ done. ended_given g.T.Treatment.meaning c.args.limit (g.S.Source.left c.args.source.now) (g.S.Source.left c.gather.new.source)
             (Some (drop c.treat_all.new.source.at c.treat_all.new.source.octets.items)) (g.K.Sink.written c.args.sink.now)
             (g.K.Sink.written c.treat_all.new.sink) (g.S.Source.ended c.gather.new.source) c.in-Ok.gathered.octets.items c.in-Ok.gathered.at c.treat_all.result
             e.0 e.1 t.comes done;
@@ -39,7 +39,7 @@ returns-in-Err-ReadFault g c =
     let fault : c.gather.result ≡ Err NotRead = c.in-Err-ReadFault.is ∙ ap Err c.in-Err-ReadFault.field-0-is in
     let u = rw fault at c.gather.ensures.comes in record {
       comes = (u.0, refl);
-      answers = λ definite octets outcome output told answer. (output, ([], refl, Grows-nil _));
+      answers = λ definite octets outcome output told answer. (output, ([], refl, Grows_nil _));
       gathered = λ r m. absurd (r refl);
       unwritten = λ r. refl;
       leaves = record {
@@ -54,9 +54,9 @@ returns-in-Err-ReadFault g c =
 pub returns-in-Err-OutOfMemory : goal.returns-in-Err-OutOfMemory
 returns-in-Err-OutOfMemory g c =
     let fault : c.gather.result ≡ Err NoMemory = c.in-Err-OutOfMemory.is ∙ ap Err c.in-Err-OutOfMemory.field-0-is in record {
-      comes = Comes-nothing g.T.Treatment.meaning _ _ _ c.requires.nothing;
-      answers = λ definite. Comes-answers g.T.Treatment.meaning definite c.args.limit (g.S.Source.left c.args.source.now) (g.S.Source.left c.gather.new.source)
-          (g.K.Sink.written c.args.sink.now) (g.K.Sink.written c.args.sink.now) OutOfMemory (Comes-nothing g.T.Treatment.meaning c.args.limit
+      comes = Comes_nothing g.T.Treatment.meaning _ _ _ c.requires.nothing;
+      answers = λ definite. Comes_answers g.T.Treatment.meaning definite c.args.limit (g.S.Source.left c.args.source.now) (g.S.Source.left c.gather.new.source)
+          (g.K.Sink.written c.args.sink.now) (g.K.Sink.written c.args.sink.now) OutOfMemory (Comes_nothing g.T.Treatment.meaning c.args.limit
           (g.S.Source.left c.args.source.now) (g.K.Sink.written c.args.sink.now) c.requires.nothing);
       gathered = λ r m. absurd (m refl);
       unwritten = λ r. cc;

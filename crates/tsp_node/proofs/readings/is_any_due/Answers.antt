@@ -3,11 +3,11 @@ use Rattle.std.proofs.Common.{◌≡◌, ◌∙◌, ℕ, arith, false, inl, inr,
 use Rattle.std.proofs.lemmas.Bool.{cases_lt}
 use Rattle.tsp_base.specs.Words.{deadline}
 use Rattle.tsp_rules.specs.{Guards.is_over, Values.Alarm, Values.Quiet, Values.ALL}
-use Rattle.tsp_node.proofs.{AlarmCases.at_place, AlarmCases.has_place, AlarmCases.place, DueLemmas.none_over, DueLemmas.over-at}
+use Rattle.tsp_node.proofs.{AlarmCases.at_place, AlarmCases.has_place, AlarmCases.place, DueLemmas.none_over, DueLemmas.over_at}
 use Rattle.tsp_node.proofs.readings.is_any_due.Goals as goal
 
 pub returns-then-is_due : goal.returns-then-is_due
-returns-then-is_due c = sym (over-at c.args.station.now.alarms c.args.tick (slice_index_or ALL c.loop-alarm.alarm-index Quiet) (sym c.is_due.ensures ∙
+returns-then-is_due c = sym (over_at c.args.station.now.alarms c.args.tick (slice_index_or ALL c.loop-alarm.alarm-index Quiet) (sym c.is_due.ensures ∙
     c.if-is_due.true))
 
 pub loop-alarm-init : goal.loop-alarm-init

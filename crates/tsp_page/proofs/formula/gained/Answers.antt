@@ -1,7 +1,7 @@
 use Rattle.std.proofs.Common.{rules, ◌≡◌, ℤ, pos, ◌+ℤ◌, ◌*ℤ◌, FitsSigned, w64, to_z, of_z, ap, sym, ◌∙◌}
 use Rattle.std.proofs.lemmas.Int.{to_z-of_z}
 use Rattle.std.specs.Int.{int_div_euclid, int_rem_euclid}
-use Rattle.tsp_page.proofs.GainLemmas.{gained-parts, gained-small}
+use Rattle.tsp_page.proofs.GainLemmas.{gained_parts, gained_small}
 use Rattle.tsp_page.proofs.formula.gained.Goals as goal
 
 -- a product of two numbers that were passed on is their product
@@ -14,7 +14,7 @@ returns-clause-value c =
     let w : c.div_euclid.result ≡ int_div_euclid c.args.elapsed (pos 1000000000) = c.div_euclid.ensures ∙ ap (λ z. int_div_euclid z (pos 1000000000)) time in
     let p : c.rem_euclid.result ≡ int_rem_euclid c.args.elapsed (pos 1000000000) = c.rem_euclid.ensures.value ∙ ap (λ z. int_rem_euclid z (pos
     1000000000)) time in
-    let parts = gained-parts c.args.rate c.args.elapsed c.div_euclid.result c.rem_euclid.result w p in
+    let parts = gained_parts c.args.rate c.args.elapsed c.div_euclid.result c.rem_euclid.result w p in
     let whole = passed-product c.times-whole.result c.div_euclid.result c.args.rate (search rules) c.ranges.rate c.times-whole.ensures.value in
     let part = passed-product c.times-part.result c.rem_euclid.result c.args.rate (search rules) c.ranges.rate c.times-part.ensures.value in
     let quotient : c.div_euclid-2.result ≡ int_div_euclid (c.rem_euclid.result *ℤ c.args.rate) (pos 1000000000) =
@@ -26,4 +26,4 @@ returns-clause-value c =
 pub returns-clause-small : goal.returns-clause-small
 returns-clause-small c =
     let e = returns-clause-value c in
-    rw e (gained-small c.args.rate c.args.elapsed c.requires.rate c.requires.elapsed)
+    rw e (gained_small c.args.rate c.args.elapsed c.requires.rate c.requires.elapsed)

@@ -1,6 +1,6 @@
 use Rattle.std.proofs.Common.{arith, ◌*ℤ◌, FitsSigned, w64}
 use Rattle.std.proofs.lemmas.Int.{to_z-of_z, fits_signed_mul}
-use Rattle.tsp_page.proofs.GainLemmas.{abs-times-small}
+use Rattle.tsp_page.proofs.GainLemmas.{abs_times_small}
 use Rattle.tsp_page.proofs.formula.times.Goals as goal
 
 pub returns-clause-value : goal.returns-clause-value
@@ -14,4 +14,4 @@ returns-clause-value c =
 pub returns-clause-small : goal.returns-clause-small
 returns-clause-small c =
     let e = returns-clause-value c in
-    rw e (abs-times-small c.args.count c.args.rate c.requires.count c.requires.rate)
+    rw e (abs_times_small c.args.count c.args.rate c.requires.count c.requires.rate)

@@ -27,10 +27,10 @@ use Rattle.tsp_codec.specs.Taken.{taken_of}
 use Rattle.std.proofs.Common.{ap, true≢false, true, false, arith, inr, subst, sym, ◌∙◌, ◌≡◌, ℕ, ◌+◌, ◌*◌, ◌/◌, ◌<◌, ◌∷◌, []}
 use Rattle.tsp_rules.specs.{SlaveRows.takes_value, Values.Arm, Values.Elect, Values.Take}
 use Rattle.tsp_base.specs.Words.{Acts, Came, Step, first_port, is_among, line_of, peer_of, time_in}
-use Rattle.tsp_base.proofs.PlaceLemmas.{Within-all}
+use Rattle.tsp_base.proofs.PlaceLemmas.{Within_all}
 use Rattle.tsp_promises.specs.{Setting.Named}
 use Rattle.tsp_run.specs.{Ranges.Accepted, Run.run}
-use Rattle.tsp_run.proofs.{PossibleRun.accepted-possible, RunFits.possible-runs-fit}
+use Rattle.tsp_run.proofs.{PossibleRun.accepted_possible, RunFits.possible_runs_fit_holds}
 use Rattle.tsp_progress.specs.{AckedInTime.may_obey, AckedUse.before_set, AckedUse.set_line, AckedUse.sets_b, AckedUse.until_joins, AnswersUse.all_stay}
 use Rattle.tsp_progress.specs.{AnswersUse.tail_of}
 use Rattle.tsp_progress.specs.{AnswersUse.until_wakes, TableUse.until_reports, TableUse.until_set, Worked.one_may}
@@ -56,12 +56,12 @@ returns c = record {
   accepted = whole;
   asked = λ setting set. record {
     posts = record {
-      place = inr (inr (inr (inr (inr (inr (inr (inr (Within-all (run one_may until_joins)))))))));
+      place = inr (inr (inr (inr (inr (inr (inr (inr (Within_all (run one_may until_joins)))))))));
       deed = refl;
       member = ap (λ k. is_among (peer_of 1) (setting.members k)) (set.net_is 0 first_port) ∙ ap (is_among (peer_of 1)) (set.members_are (Named 0));
       other = refl;
     };
-    since = inr (inr (inr (inr (inr (inr (inr (inr (inr (inr (inr (inr (inr (inr (inr (inr (Within-all (run one_may until_wakes)))))))))))))))));
+    since = inr (inr (inr (inr (inr (inr (inr (inr (inr (inr (inr (inr (inr (inr (inr (inr (Within_all (run one_may until_wakes)))))))))))))))));
     there = refl;
     here = refl;
     early = omega arith;
@@ -73,12 +73,12 @@ returns c = record {
       let step : Step = record { at = 390040000; node = 1; cause = Came 8 } in
       let line = line_of step 390040000 first_port (Acts (Arm Elect 690040000)) in
       let before = tail_of (tail_of (tail_of (tail_of (tail_of (run one_may until_set))))) in
-      let o = obeys line before (inr (inr (inr (inr (Within-all (line ∷ before)))))) (inr (inr (inr (Within-all (run one_may until_joins))))) refl
+      let o = obeys line before (inr (inr (inr (inr (Within_all (line ∷ before)))))) (inr (inr (inr (Within_all (run one_may until_joins))))) refl
       (set.net_is 1 first_port ∙ sym (set.net_is 0 first_port)) (omega arith) in
       let never : false ≡ true = o.1.1 in
       true≢false (sym never);
   delivered = λ setting set. delivered_by setting 10000 390050001 all_stay (run one_may until_wakes) (run one_may until_set)
-      (possible-runs-fit one_may setting until_set set (accepted-possible one_may until_set whole)).0 refl;
+      (possible_runs_fit_holds one_may setting until_set set (accepted_possible one_may until_set whole)).0 refl;
   prompt = λ setting set. subst (λ (d : ℕ). 2 * 10000 + (d * (2 * 10000) + 999999) / 1000000 < 3000000) (sym set.drift_is) (omega arith);
   slow = λ setting set prompt. omega (arith, prompt);
   late_valid = (

@@ -26,10 +26,10 @@ use Rattle.tsp_group.specs.Groups.{group_from, goes_before, better}
 use Rattle.tsp_codec.specs.Taken.{taken_of}
 use Rattle.std.proofs.Common.{arith, inr, List, ◌∷◌}
 use Rattle.tsp_base.specs.Words.{peer_of, Within, Line}
-use Rattle.tsp_base.proofs.PlaceLemmas.{Within-all, Within-length}
+use Rattle.tsp_base.proofs.PlaceLemmas.{Within_all, Within_length}
 use Rattle.tsp_promises.specs.{Setting.Setting}
 use Rattle.tsp_run.specs.{Ranges.Accepted, Run.run, Setting.SetBy}
-use Rattle.tsp_run.proofs.{PossibleRun.accepted-possible, RunFits.possible-runs-fit}
+use Rattle.tsp_run.proofs.{PossibleRun.accepted_possible, RunFits.possible_runs_fit_holds}
 use Rattle.tsp_progress.specs.{AnswersUse.Asked, AnswersUse.all_stay, AnswersUse.search_line, AnswersUse.tail_of, AnswersUse.until_searches}
 use Rattle.tsp_progress.specs.{AnswersUse.until_wakes, TableUse.until_reports, Worked.one_may}
 use Rattle.tsp_progress.proofs.{DeliveredChecks.delivered_by, UseLemmas.header_is, UseLemmas.member, UseLemmas.ranges}
@@ -52,13 +52,13 @@ unfolding taken_of kind_of kind_number carries_time carries_hops nothing puts �
     takes_on input_all answers_all boots_on boots_all steps
 returns c = record {
   accepted = whole;
-  asked = λ setting set. asks setting set (run one_may until_reports) (inr (inr (inr (inr (inr (inr (inr (inr (Within-all (run one_may until_searches))))))))));
+  asked = λ setting set. asks setting set (run one_may until_reports) (inr (inr (inr (inr (inr (inr (inr (inr (Within_all (run one_may until_searches))))))))));
   delivered = λ setting set. delivered_by setting 10000 390020001 all_stay (run one_may until_wakes) (run one_may until_reports)
-      (possible-runs-fit one_may setting until_reports set (accepted-possible one_may until_reports whole)).0 refl;
-  lost_asked = λ setting set. asks setting set (run one_may until_searches) (Within-all (run one_may until_searches));
+      (possible_runs_fit_holds one_may setting until_reports set (accepted_possible one_may until_reports whole)).0 refl;
+  lost_asked = λ setting set. asks setting set (run one_may until_searches) (Within_all (run one_may until_searches));
   lost = λ setting set answers.
       let a = answers.masterreq search_line (tail_of (run one_may until_searches)) (peer_of 0) _ (asks setting set (run one_may until_searches)
-      (Within-all (run one_may until_searches))) refl (λ line before place later. too-late line before place later) in
+      (Within_all (run one_may until_searches))) refl (λ line before place later. too-late line before place later) in
       too-late a.line a.before a.place a.later;
 } where
   whole : Accepted one_may until_reports
@@ -71,7 +71,7 @@ returns c = record {
   asks : (setting : Setting) → SetBy one_may setting → (world : List Line) → Within (run one_may until_searches) world → Asked setting world
   asks setting set world place = record {
     posts = record { place = place; deed = refl; member = member setting set; other = refl };
-    since = (inr (inr (inr (inr (Within-all (run one_may until_wakes))))));
+    since = (inr (inr (inr (inr (Within_all (run one_may until_wakes))))));
     there = refl;
     here = refl;
     early = omega arith;
@@ -80,7 +80,7 @@ returns c = record {
   too-late : {A : Type 0} (line : Line) (before : List Line) → Within (line ∷ before) (run one_may until_searches) →
       Within (search_line ∷ tail_of (run one_may until_searches)) before → A
   too-late line before place later =
-      let less = Within-length (line ∷ before) (run one_may until_searches) place in
-      let more = Within-length (search_line ∷ tail_of (run one_may until_searches)) before later in
+      let less = Within_length (line ∷ before) (run one_may until_searches) place in
+      let more = Within_length (search_line ∷ tail_of (run one_may until_searches)) before later in
       let bad : ⊥ = omega (arith, less, more) in
       absurd bad

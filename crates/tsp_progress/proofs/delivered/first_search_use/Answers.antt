@@ -26,7 +26,7 @@ use Rattle.tsp_group.specs.Groups.{group_from, goes_before, better}
 use Rattle.tsp_codec.specs.Taken.{taken_of}
 use Rattle.std.proofs.Common.{arith, inr, ◌∷◌}
 use Rattle.tsp_base.specs.Words.{peer_of, role}
-use Rattle.tsp_base.proofs.PlaceLemmas.{Within-all}
+use Rattle.tsp_base.proofs.PlaceLemmas.{Within_all}
 use Rattle.tsp_run.specs.{Run.run}
 use Rattle.tsp_progress.specs.{AnswersUse.until_wakes, FirstSearchUse.before_quiet, FirstSearchUse.quiet_line, Heeds.is_master_role}
 use Rattle.tsp_progress.specs.{TableUse.until_reports, Worked.one_may}
@@ -50,9 +50,9 @@ unfolding taken_of kind_of kind_number carries_time carries_hops nothing puts �
     takes_on input_all answers_all boots_on boots_all steps
 returns c = record {
   awakes = λ setting set. record {
-    place = inr (inr (inr (inr (inr (inr (inr (inr (inr (inr (inr (Within-all (quiet_line ∷ before_quiet))))))))))));
+    place = inr (inr (inr (inr (inr (inr (inr (inr (inr (inr (inr (Within_all (quiet_line ∷ before_quiet))))))))))));
     deed = refl;
-    since = inr (Within-all (run one_may until_wakes));
+    since = inr (Within_all (run one_may until_wakes));
     member = member setting set;
     other = refl;
     there = refl;

@@ -26,7 +26,7 @@ use Rattle.tsp_group.specs.Groups.{group_from, goes_before, better}
 use Rattle.tsp_codec.specs.Taken.{taken_of}
 use Rattle.std.proofs.Common.{arith, inr, List, ◌∷◌}
 use Rattle.tsp_base.specs.Words.{peer_of, Within, Line}
-use Rattle.tsp_base.proofs.PlaceLemmas.{Within-all, Within-length}
+use Rattle.tsp_base.proofs.PlaceLemmas.{Within_all, Within_length}
 use Rattle.tsp_promises.specs.Setting.{Setting}
 use Rattle.tsp_run.specs.{Run.run, Setting.SetBy}
 use Rattle.tsp_progress.specs.{AnswersUse.tail_of, AnswersUse.until_wakes, ReachUse.Told, ReachUse.report, ReachUse.report_line}
@@ -51,19 +51,19 @@ unfolding taken_of kind_of kind_number carries_time carries_hops nothing puts �
     takes_on input_all answers_all boots_on boots_all steps
 returns c = record {
   told = λ setting set. tells setting set (run one_may until_set) (inr (inr (inr (inr
-      (inr (inr (inr (inr (inr (inr (inr (inr (Within-all (run one_may until_reports))))))))))))));
-  lost_told = λ setting set. tells setting set (run one_may until_reports) (Within-all (run one_may until_reports));
+      (inr (inr (inr (inr (inr (inr (inr (inr (Within_all (run one_may until_reports))))))))))))));
+  lost_told = λ setting set. tells setting set (run one_may until_reports) (Within_all (run one_may until_reports));
   lost = λ setting set reaches.
       let r = reaches.slaveup report_line (tail_of (run one_may until_reports)) (peer_of 0) report (tells setting set (run one_may until_reports)
-      (Within-all (run one_may until_reports))) refl in
-      let less = Within-length (r.arrives.line ∷ r.arrives.before) (run one_may until_reports) r.arrives.place in
-      let more = Within-length (report_line ∷ tail_of (run one_may until_reports)) r.arrives.before r.arrives.later in
+      (Within_all (run one_may until_reports))) refl in
+      let less = Within_length (r.arrives.line ∷ r.arrives.before) (run one_may until_reports) r.arrives.place in
+      let more = Within_length (report_line ∷ tail_of (run one_may until_reports)) r.arrives.before r.arrives.later in
       omega (arith, less, more);
 } where
   tells : (setting : Setting) → SetBy one_may setting → (world : List Line) → Within (run one_may until_reports) world → Told setting world
   tells setting set world place = record {
     posts = record { place = place; deed = refl; member = member setting set; other = refl };
-    since = inr (inr (inr (inr (inr (inr (inr (inr (inr (inr (inr (inr (Within-all (run one_may until_wakes)))))))))))));
+    since = inr (inr (inr (inr (inr (inr (inr (inr (inr (inr (inr (inr (Within_all (run one_may until_wakes)))))))))))));
     there = refl;
     early = omega arith;
   }

@@ -27,10 +27,10 @@ use Rattle.tsp_codec.specs.Taken.{taken_of}
 use Rattle.std.proofs.Common.{ap, arith, inr, ◌∙◌, ◌∷◌, []}
 use Rattle.tsp_rules.specs.Values.{BootAt, Take, Turn}
 use Rattle.tsp_base.specs.Words.{first_port, is_among, peer_of}
-use Rattle.tsp_base.proofs.PlaceLemmas.{Within-all}
+use Rattle.tsp_base.proofs.PlaceLemmas.{Within_all}
 use Rattle.tsp_promises.specs.{Setting.Named}
 use Rattle.tsp_run.specs.{Ranges.Accepted, Run.run}
-use Rattle.tsp_run.proofs.{PossibleRun.accepted-possible, RunFits.possible-runs-fit}
+use Rattle.tsp_run.proofs.{PossibleRun.accepted_possible, RunFits.possible_runs_fit_holds}
 use Rattle.tsp_progress.specs.{AckedInTime.refuses_vote, AnswersUse.all_stay, OneUse.two_may}
 use Rattle.tsp_progress.specs.RefusedUse.{b_stands, before_election, both_lose, both_stand, election_line}
 use Rattle.tsp_progress.proofs.{DeliveredChecks.delivered_by, MeanwhileChecks.meanwhile_by, UseLemmas.boot_ranges, UseLemmas.later_ranges}
@@ -56,12 +56,12 @@ returns c = record {
   accepted = whole;
   asked = λ setting set. record {
     posts = record {
-      place = inr (inr (inr (inr (inr (inr (inr (inr (inr (inr (inr (inr (inr (inr (inr (inr (Within-all (run two_may both_stand)))))))))))))))));
+      place = inr (inr (inr (inr (inr (inr (inr (inr (inr (inr (inr (inr (inr (inr (inr (inr (Within_all (run two_may both_stand)))))))))))))))));
       deed = refl;
       member = ap (λ k. is_among (peer_of 1) (setting.members k)) (set.net_is 0 first_port) ∙ ap (is_among (peer_of 1)) (set.members_are (Named 0));
       other = refl;
     };
-    since = inr (inr (inr (inr (inr (Within-all (run two_may b_stands))))));
+    since = inr (inr (inr (inr (inr (Within_all (run two_may b_stands))))));
     there = refl;
     here = refl;
     early = omega arith;
@@ -69,7 +69,7 @@ returns c = record {
   begins = record { begins = refl; role_is = refl };
   refuses = λ setting set. meanwhile_by two_may setting 10000 election_line before_election (run two_may both_lose) (peer_of 1) (refuses_vote (peer_of 0)) refl;
   delivered = λ setting set. delivered_by setting 10000 385020001 all_stay (run two_may b_stands) (run two_may both_lose)
-      (possible-runs-fit two_may setting both_lose set (accepted-possible two_may both_lose whole)).0 refl;
+      (possible_runs_fit_holds two_may setting both_lose set (accepted_possible two_may both_lose whole)).0 refl;
   loses = refl;
   late_valid = (
     refl,

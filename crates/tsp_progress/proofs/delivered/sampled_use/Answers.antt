@@ -27,10 +27,10 @@ use Rattle.tsp_codec.specs.Taken.{taken_of}
 use Rattle.std.proofs.Common.{ap, arith, inr, subst, sym, ◌∙◌, ℕ, ◌+◌, ◌*◌, ◌/◌, ◌<◌, ◌∷◌, []}
 use Rattle.tsp_rules.specs.{Guards.is_in_range, Values.Take, Values.Turn}
 use Rattle.tsp_base.specs.Words.{first_port, is_among, peer_of}
-use Rattle.tsp_base.proofs.PlaceLemmas.{Within-all}
+use Rattle.tsp_base.proofs.PlaceLemmas.{Within_all}
 use Rattle.tsp_promises.specs.{Setting.Named}
 use Rattle.tsp_run.specs.{Ranges.Accepted, Run.run}
-use Rattle.tsp_run.proofs.{PossibleRun.accepted-possible, RunFits.possible-runs-fit}
+use Rattle.tsp_run.proofs.{PossibleRun.accepted_possible, RunFits.possible_runs_fit_holds}
 use Rattle.tsp_progress.specs.{AnswersUse.all_stay, TableUse.until_reports, TableUse.until_set, Worked.one_may}
 use Rattle.tsp_progress.specs.SampledUse.{before_begin, before_close, begin_line, close_line, until_corrects}
 use Rattle.tsp_progress.proofs.{DeliveredChecks.delivered_by, MeanwhileChecks.meanwhile_by, UseLemmas.header_is, UseLemmas.later_ranges, UseLemmas.ranges}
@@ -54,7 +54,7 @@ unfolding taken_of kind_of kind_number carries_time carries_hops nothing puts �
 returns c = record {
   accepted = whole;
   closes = record {
-    place = inr (inr (Within-all (close_line ∷ before_close)));
+    place = inr (inr (Within_all (close_line ∷ before_close)));
     count = _;
     lo = _;
     size = _;
@@ -64,12 +64,12 @@ returns c = record {
     before = before_begin;
     began = inr (inr (inr (inr (inr (inr (inr (inr (inr (inr (inr (inr (inr (inr (inr
         (inr (inr (inr (inr (inr (inr (inr (inr (inr (inr (inr (inr (inr (inr (inr
-        (inr (inr (inr (inr (inr (inr (inr (inr (inr (inr (inr (inr (inr (inr (inr (Within-all (begin_line ∷
+        (inr (inr (inr (inr (inr (inr (inr (inr (inr (inr (inr (inr (inr (inr (inr (Within_all (begin_line ∷
         before_begin))))))))))))))))))))))))))))))))))))))))))))));
     node = refl;
     port = refl;
     started_is = refl;
-    since = inr (inr (inr (inr (Within-all (run one_may until_set)))));
+    since = inr (inr (inr (inr (Within_all (run one_may until_set)))));
   };
   measured = λ setting set. record {
     member = ap (λ k. is_among (peer_of 1) (setting.members k)) (set.net_is 0 first_port) ∙ ap (is_among (peer_of 1)) (set.members_are (Named 0));
@@ -81,7 +81,7 @@ returns c = record {
   };
   in_range = λ setting set. meanwhile_by one_may setting 10000 begin_line before_begin (run one_may until_corrects) (peer_of 1) is_in_range refl;
   delivered = λ setting set. delivered_by setting 10000 638000000 all_stay (run one_may until_set) (run one_may until_corrects)
-      (possible-runs-fit one_may setting until_corrects set (accepted-possible one_may until_corrects whole)).0 refl;
+      (possible_runs_fit_holds one_may setting until_corrects set (accepted_possible one_may until_corrects whole)).0 refl;
   swift = λ setting set. subst (λ (d : ℕ). 2 * 10000 + (d * (2 * 10000) + 999999) / 1000000 < 8000000) (sym set.drift_is) (omega arith);
   corrects = refl;
   lost_valid = (

@@ -27,10 +27,10 @@ use Rattle.tsp_codec.specs.Taken.{taken_of}
 use Rattle.std.proofs.Common.{ap, arith, inr, ◌∙◌, ◌∷◌, []}
 use Rattle.tsp_rules.specs.Values.{BootAt, Take, Turn}
 use Rattle.tsp_base.specs.Words.{first_port, is_among, peer_of, role}
-use Rattle.tsp_base.proofs.PlaceLemmas.{Within-all}
+use Rattle.tsp_base.proofs.PlaceLemmas.{Within_all}
 use Rattle.tsp_promises.specs.{Setting.Named}
 use Rattle.tsp_run.specs.{Ranges.Accepted, Run.run}
-use Rattle.tsp_run.proofs.{PossibleRun.accepted-possible, RunFits.possible-runs-fit}
+use Rattle.tsp_run.proofs.{PossibleRun.accepted_possible, RunFits.possible_runs_fit_holds}
 use Rattle.tsp_progress.specs.{AnswersUse.all_stay, Heeds.is_master_role, OneUse.two_may, SentAway.has_no_quit, SentAwayUse.until_asks}
 use Rattle.tsp_progress.specs.SecondUse.{before_election, election_line, is_away, until_leads}
 use Rattle.tsp_progress.proofs.{DeliveredChecks.delivered_by, MeanwhileChecks.meanwhile_by, UseLemmas.boot_ranges, UseLemmas.later_ranges}
@@ -56,12 +56,12 @@ returns c = record {
   accepted = whole;
   asked = λ setting set. record {
     posts = record {
-      place = inr (inr (inr (inr (inr (inr (inr (inr (inr (inr (Within-all (run two_may until_asks)))))))))));
+      place = inr (inr (inr (inr (inr (inr (inr (inr (inr (inr (Within_all (run two_may until_asks)))))))))));
       deed = refl;
       member = ap (λ k. is_among (peer_of 0) (setting.members k)) (set.net_is 1 first_port) ∙ ap (is_among (peer_of 0)) (set.members_are (Named 0));
       other = refl;
     };
-    since = inr (inr (inr (inr (inr (Within-all (run two_may until_leads))))));
+    since = inr (inr (inr (inr (inr (Within_all (run two_may until_leads))))));
     there = refl;
     here = refl;
     early = omega arith;
@@ -70,7 +70,7 @@ returns c = record {
       (λ x past. is_master_role (role past.seen)) refl;
   free = λ setting set. meanwhile_by two_may setting 10000 election_line before_election (run two_may is_away) (peer_of 0) (has_no_quit (peer_of 1)) refl;
   delivered = λ setting set. delivered_by setting 10000 395020001 all_stay (run two_may until_leads) (run two_may is_away)
-      (possible-runs-fit two_may setting is_away set (accepted-possible two_may is_away whole)).0 refl;
+      (possible_runs_fit_holds two_may setting is_away set (accepted_possible two_may is_away whole)).0 refl;
   lost_valid = (refl, (refl, (refl, (refl, (refl, (refl, (refl, (refl, (refl, (refl, (refl, (refl, (refl, (refl, tt))))))))))))));
   lost = refl;
   late_valid = (refl, (refl, (refl, (refl, (refl, (refl, (refl, (refl, (refl, (refl, (refl, (refl, (refl, (refl, tt))))))))))))));

@@ -29,7 +29,7 @@ use Rattle.tsp_rules.specs.Values.{SLACK}
 use Rattle.tsp_base.specs.Words.{first_port, peer_of}
 use Rattle.tsp_progress.specs.Needed.{four_posts, late_elects, never_stands, never_wins, strict_alone, unarmed}
 use Rattle.tsp_progress.specs.Worked.{one_may}
-use Rattle.tsp_progress.proofs.{AloneLeadsProof.has_role, InTimeProof.since_tick, WatchChecks.attended-by}
+use Rattle.tsp_progress.proofs.{AloneLeadsProof.has_role, InTimeProof.since_tick, WatchChecks.attended_by_holds}
 use Rattle.tsp_progress.proofs.laws.needed.Goals as goal
 
 -- the last look of each begins a step where the thing is still open
@@ -47,14 +47,14 @@ unfolding taken_of kind_of carries_time carries_hops nothing puts ◌followed_by
     begins_round_on alarm_on alarms_on turns_on reposts reposts_on loosens_master forwards takes_loop_step judges heeds_loop takes_loop takes_message takes_kind
     takes_on input_all answers_all boots_on boots_all steps
 returns c = record {
-  unarmed_kept = attended-by 0 [] unarmed refl;
+  unarmed_kept = attended_by_holds 0 [] unarmed refl;
   armed = λ h. let w = (h.0 refl first_port).candidature refl in let le = since_tick 0 10000000 5000000 refl w.stood_is w.since in omega (arith, le);
-  posts_kept = attended-by 0 (peer_of 1 ∷ []) four_posts refl;
+  posts_kept = attended_by_holds 0 (peer_of 1 ∷ []) four_posts refl;
   posts = λ h. let le = h.0 refl first_port (peer_of 1) _ refl in omega (arith, le);
-  late_kept = attended-by (SLACK + 1) (peer_of 1 ∷ []) (run one_may late_elects) refl;
+  late_kept = attended_by_holds (SLACK + 1) (peer_of 1 ∷ []) (run one_may late_elects) refl;
   late = λ h. let le = h.1.1.0 refl refl first_port refl in omega (arith, le);
-  may_kept = attended-by 0 (peer_of 0 ∷ []) (run one_may never_stands) refl;
+  may_kept = attended_by_holds 0 (peer_of 0 ∷ []) (run one_may never_stands) refl;
   may = λ h. let le = h.1.1.1.0 refl refl first_port refl in omega (arith, le);
-  strict_kept = attended-by 0 (peer_of 1 ∷ []) (run strict_alone never_wins) refl;
+  strict_kept = attended_by_holds 0 (peer_of 1 ∷ []) (run strict_alone never_wins) refl;
   strict = λ h. let le = has_role _ 1300000000 1215000000 (λ start idle e. h.1.1.1.1.1.0 refl refl refl first_port start idle e refl) refl in omega (arith, le);
 }

@@ -27,13 +27,13 @@ use Rattle.tsp_codec.specs.Taken.{taken_of}
 use Rattle.std.proofs.Common.{subst, sym, arith, [], ◌∷◌}
 use Rattle.tsp_base.specs.Words.{first_port, of, peer_of, view}
 use Rattle.tsp_progress.specs.Worked.{one_may}
-use Rattle.tsp_progress.proofs.{AloneLeadsProof.has_role, WatchChecks.attended-by, WatchChecks.watched-by}
+use Rattle.tsp_progress.proofs.{AloneLeadsProof.has_role, WatchChecks.attended_by_holds, WatchChecks.watched_by_holds}
 use Rattle.tsp_progress.proofs.laws.one_use.Goals as goal
 use Rattle.std.proofs.Common.{true≢false, ◌≡◌, ℕ, zero, suc, ◌==◌, false}
 use Rattle.tsp_progress.specs.RunsWake.{manner_of}
 use Rattle.tsp_progress.specs.{Worked.until_closes, Watched.Watched}
 use Rattle.tsp_progress.specs.OneUse.{two_may, follows_b}
-use Rattle.tsp_progress.proofs.LeftChecks.{left-by}
+use Rattle.tsp_progress.proofs.LeftChecks.{left_by}
 
 -- the rules give what is told
 pub returns : goal.returns
@@ -53,16 +53,16 @@ unfolding taken_of kind_of kind_number carries_time carries_hops nothing puts �
 returns c = record {
   valid = (refl, (refl, (refl, (refl, (refl, (refl, (refl, (refl, (refl, (refl, (refl, (refl, (refl, tt)))))))))))));
   sealed = (tt, (tt, (tt, (tt, (tt, (tt, (tt, (tt, (tt, (tt, (tt, (tt, (tt, tt)))))))))))));
-  attended = attended-by 0 (peer_of 1 ∷ []) (run one_may until_closes) refl;
+  attended = attended_by_holds 0 (peer_of 1 ∷ []) (run one_may until_closes) refl;
   one = only_a;
-  left = left-by 0 (run one_may until_closes) refl;
+  left = left_by 0 (run one_may until_closes) refl;
   told_to = λ setting set q.
       subst (λ x. Watched 0 x (view q (of 0 (run one_may until_closes)))) (sym (set.tick_is 0 700000000))
-      (watched-by 0 (peer_of 1 ∷ []) 700000000 (of 0 (run one_may until_closes)) refl q);
+      (watched_by_holds 0 (peer_of 1 ∷ []) 700000000 (of 0 (run one_may until_closes)) refl q);
   two_valid = (refl, (refl, (refl, (refl, (refl, (refl, (refl, (refl, (refl, (refl, (refl, (refl, (refl, tt)))))))))))));
   two_sealed = (tt, (tt, (tt, (tt, (tt, (tt, (tt, (tt, (tt, (tt, (tt, (tt, (tt, tt)))))))))))));
-  two_attended = attended-by 0 (peer_of 0 ∷ peer_of 1 ∷ []) (run two_may follows_b) refl;
-  two_left = left-by 0 (run two_may follows_b) refl;
+  two_attended = attended_by_holds 0 (peer_of 0 ∷ peer_of 1 ∷ []) (run two_may follows_b) refl;
+  two_left = left_by 0 (run two_may follows_b) refl;
   two = λ h. let le = has_role _ 690000001 690000000 (λ start idle e. h.0 refl refl refl first_port start idle e refl) refl in omega (arith, le);
 } where
   only_a : (n : ℕ) → (n == 0) ≡ false → (manner_of one_may n).may ≡ false

@@ -31,7 +31,7 @@ use Rattle.std.specs.Prelude.{[], ◌∷◌}
 use Rattle.std.proofs.Common.{subst, sym}
 use Rattle.tsp_base.specs.Words.{of, view}
 use Rattle.tsp_progress.specs.Watched.{Watched}
-use Rattle.tsp_progress.proofs.WatchChecks.{attended-by, watched-by}
+use Rattle.tsp_progress.proofs.WatchChecks.{attended_by_holds, watched_by_holds}
 use Rattle.tsp_progress.proofs.laws.prompt_use.Goals as goal
 
 -- the rules give what is told
@@ -50,9 +50,9 @@ unfolding taken_of kind_of carries_time carries_hops nothing puts ◌followed_by
     takes_on input_all answers_all boots_on boots_all steps
 returns c = record {
   valid = (refl, (refl, (refl, (refl, (refl, (refl, (refl, (refl, (refl, (refl, (refl, (refl, (refl, tt)))))))))))));
-  attended = attended-by 0 (peer_of 1 ∷ []) (run one_may until_closes) refl;
+  attended = attended_by_holds 0 (peer_of 1 ∷ []) (run one_may until_closes) refl;
   told_is = refl;
   told_to = λ setting set q.
       subst (λ x. Watched 0 x (view q (of 0 (run one_may until_closes)))) (sym (set.tick_is 0 638000000))
-      (watched-by 0 (peer_of 1 ∷ []) 638000000 (of 0 (run one_may until_closes)) refl q);
+      (watched_by_holds 0 (peer_of 1 ∷ []) 638000000 (of 0 (run one_may until_closes)) refl q);
 }

@@ -28,7 +28,7 @@ use Rattle.tsp_base.specs.Words.{peer_of}
 use Rattle.tsp_progress.specs.Worked.{one_may, slowest}
 use Rattle.tsp_run.specs.Run.{run}
 use Rattle.std.specs.Prelude.{[], ◌∷◌}
-use Rattle.tsp_progress.proofs.WatchChecks.{attended-by}
+use Rattle.tsp_progress.proofs.WatchChecks.{attended_by_holds}
 use Rattle.tsp_rules.specs.Values.{SLACK}
 use Rattle.tsp_progress.proofs.laws.slow_use.Goals as goal
 
@@ -48,7 +48,7 @@ unfolding taken_of kind_of carries_time carries_hops nothing puts ◌followed_by
     takes_on input_all answers_all boots_on boots_all steps
 returns c = record {
   valid = (refl, (refl, (refl, (refl, (refl, (refl, (refl, (refl, tt))))))));
-  attended = attended-by SLACK (peer_of 1 ∷ []) (run one_may slowest) refl;
+  attended = attended_by_holds SLACK (peer_of 1 ∷ []) (run one_may slowest) refl;
   bound = refl;
   last_is = refl;
 }

@@ -26,9 +26,9 @@ use Rattle.tsp_group.specs.Groups.{group_from, goes_before, better}
 use Rattle.tsp_codec.specs.Taken.{taken_of}
 use Rattle.std.proofs.Common.{arith, [], ◌∷◌}
 use Rattle.tsp_base.specs.Words.{peer_of}
-use Rattle.tsp_base.proofs.PlaceLemmas.{Within-all, Within-length}
+use Rattle.tsp_base.proofs.PlaceLemmas.{Within_all, Within_length}
 use Rattle.tsp_progress.specs.{TableUse.stays_silent, TableUse.until_set, Worked.one_may}
-use Rattle.tsp_progress.proofs.WatchChecks.{attended-by}
+use Rattle.tsp_progress.proofs.WatchChecks.{attended_by_holds}
 use Rattle.tsp_progress.proofs.table.table_use.Goals as goal
 
 -- the rules give what is gained
@@ -48,12 +48,12 @@ unfolding taken_of kind_of kind_number carries_time carries_hops nothing puts �
     takes_on input_all answers_all boots_on boots_all steps
 returns c = record {
   valid = (refl, (refl, (refl, (refl, (refl, (refl, (refl, (refl, (refl, (refl, (refl, (refl, (refl, (refl, (refl, tt)))))))))))))));
-  attended = attended-by 0 (peer_of 0 ∷ peer_of 1 ∷ []) (run one_may until_set) refl;
+  attended = attended_by_holds 0 (peer_of 0 ∷ peer_of 1 ∷ []) (run one_may until_set) refl;
   follows = refl;
   joins = refl;
   sets = refl;
   ends = refl;
   early_valid = (refl, (refl, (refl, (refl, (refl, (refl, (refl, (refl, (refl, (refl, tt))))))))));
   early = refl;
-  silent = λ table. let le = Within-length _ stays_silent (table 0 _ _ (Within-all stays_silent)) in omega (arith, le);
+  silent = λ table. let le = Within_length _ stays_silent (table 0 _ _ (Within_all stays_silent)) in omega (arith, le);
 }

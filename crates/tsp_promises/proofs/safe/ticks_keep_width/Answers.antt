@@ -1,5 +1,5 @@
 use Rattle.std.proofs.Common.{arith}
-use Rattle.tsp_base.proofs.TickLemmas.{tick_at-width}
+use Rattle.tsp_base.proofs.TickLemmas.{tick_at_width}
 use Rattle.tsp_promises.proofs.shared.Rates.{keeps_time}
 use Rattle.tsp_promises.proofs.safe.ticks_keep_width.Goals as goal
 
@@ -10,4 +10,4 @@ pub returns-clause-keeps : goal.returns-clause-keeps
 returns-clause-keeps c = keeps_time
 
 pub returns-clause-constant : goal.returns-clause-constant
-returns-clause-constant c = tick_at-width
+returns-clause-constant c = tick_at_width

@@ -1,5 +1,5 @@
 use Rattle.std.proofs.Common.{inl, inr, refl}
-use Rattle.tsp_query.{proofs.FaultLemmas.LinkCounts-from, specs.Outside.after_bind}
+use Rattle.tsp_query.{proofs.FaultLemmas.LinkCounts_from, specs.Outside.after_bind}
 use Rattle.tsp_query.proofs.OutsideLemmas.{NotesBind_failed, NotesBind_made, NotesBind_refused, Notes_same, Tells_bound, Says_from}
 use Rattle.tsp_query.proofs.command.ask.Goals as goal
 
@@ -36,5 +36,5 @@ returns-in-OutOfMemory-clause-asks g c = λ o wall word written k. inl (record {
 })
 
 pub returns-in-Bound-clause-faults : goal.returns-in-Bound-clause-faults
-returns-in-Bound-clause-faults g c = LinkCounts-from _ _ _ _ _ _ (c.bind.ensures.still (λ e. cc)) c.bind.ensures.later.1 c.tell.ensures.link
+returns-in-Bound-clause-faults g c = LinkCounts_from _ _ _ _ _ _ (c.bind.ensures.still (λ e. cc)) c.bind.ensures.later.1 c.tell.ensures.link
     c.tell.ensures.linked c.ask_bound-end.ensures.faults

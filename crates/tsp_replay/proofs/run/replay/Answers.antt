@@ -1,12 +1,12 @@
-use Rattle.tsp_lines.proofs.{Leaving.Accepts-treated, OneAnswer.Agrees-outcome}
+use Rattle.tsp_lines.proofs.{Leaving.Accepts_treated, OneAnswer.Agrees_outcome}
 use Rattle.tsp_lines.specs.declared.{limits.TheConstants.MOST_INPUT, treat.Outcome.TheVariants.Ok as Done}
 use Rattle.tsp_replay.proofs.Definites.{definite_replaying, answer_schedule}
 use Rattle.tsp_replay.proofs.run.replay.Goals as goal
 
 pub returns : goal.returns
-returns g c = Accepts-treated g.S.Source g.K.Sink _ _ MOST_INPUT _ _ _ _ c.treat_all.result definite_replaying
+returns g c = Accepts_treated g.S.Source g.K.Sink _ _ MOST_INPUT _ _ _ _ c.treat_all.result definite_replaying
     (λ octets told limit are reads writes.
-    Agrees-outcome Done c.treat_all.result _ _ _
+    Agrees_outcome Done c.treat_all.result _ _ _
     (c.treat_all.ensures.answers definite_replaying octets Done _ told (answer_schedule MOST_INPUT octets limit are))
     (λ e. reads (c.treat_all.ensures.leaves.read e).0) (λ e. writes (c.treat_all.ensures.leaves.write e)))
     c.treat_all.ensures

@@ -1,7 +1,7 @@
 -- Where a line fails, what was handed over is what came before it.
 use Rattle.std.proofs.Common.{◌≡◌, ◌∙◌, ap, sym, ◌++◌, ◌∷◌, [], ◌+◌, List, ℕ, Ok, Err, get_or, append-nil, append_assoc, drop, rules, subst, OnErr, Option}
 use Rattle.std.{proofs.lemmas.List.drop_more, specs.declared.result.Result.Result}
-use Rattle.tsp_lines.{proofs.Outputs.Hands-trans, specs.Outputs.Hands}
+use Rattle.tsp_lines.{proofs.Outputs.Hands_trans, specs.Outputs.Hands}
 use Rattle.tsp_run.specs.declared.line.Line.{Line}
 use Rattle.tsp_replay.specs.Traces.{lines_text, line_text}
 use Rattle.tsp_replay.proofs.tell.tell.Goals as goal
@@ -14,13 +14,13 @@ part_told (Err e) a b c held keeps left done rest all before is none = (
   done,
   rest,
   is,
-  subst (λ o. Hands a held c left o) (append-nil done) (Hands-trans a b c held keeps left done [] before none),
+  subst (λ o. Hands a held c left o) (append-nil done) (Hands_trans a b c held keeps left done [] before none),
 )
 
 -- a line was handed over after this beginning
 line_told : (a b c : Option (List ℕ)) (held keeps left done text line : List ℕ) → Hands a held b keeps done → line ≡ text ++ 10 ∷ [] →
     Hands b keeps c left (text ++ 10 ∷ []) → Hands a held c left (done ++ line)
-line_told a b c held keeps left done text line before is now = Hands-trans a b c held keeps left done line before
+line_told a b c held keeps left done text line before is now = Hands_trans a b c held keeps left done line before
     (subst (λ o. Hands b keeps c left o) (sym is) now)
 
 pub returns-in_err-put_line-clause-err : goal.returns-in_err-put_line-clause-err

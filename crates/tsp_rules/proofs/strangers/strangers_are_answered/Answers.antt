@@ -1,5 +1,5 @@
 use Rattle.tsp_rules.proofs.strangers.strangers_are_answered.Goals as goal
-use Rattle.tsp_rules.proofs.CalmSteps.{strangers-answered}
+use Rattle.tsp_rules.proofs.CalmSteps.{strangers_answered}
 
 pub returns : goal.returns
-returns c = strangers-answered
+returns c = strangers_answered

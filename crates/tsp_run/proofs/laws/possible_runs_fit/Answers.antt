@@ -1,5 +1,5 @@
 use Rattle.tsp_run.proofs.laws.possible_runs_fit.Goals as goal
-use Rattle.tsp_run.proofs.RunFits.{possible-runs-fit}
+use Rattle.tsp_run.proofs.RunFits.{possible_runs_fit_holds}
 
 pub returns : goal.returns
-returns c = possible-runs-fit
+returns c = possible_runs_fit_holds

@@ -1,5 +1,5 @@
 use Rattle.tsp_run.proofs.laws.runs_keep_promises.Goals as goal
-use Rattle.tsp_run.proofs.RunPromises.{runs-keep-promises}
+use Rattle.tsp_run.proofs.RunPromises.{runs_keep_promises_holds}
 
 pub returns : goal.returns
-returns c = runs-keep-promises
+returns c = runs_keep_promises_holds

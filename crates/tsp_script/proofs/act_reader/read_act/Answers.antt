@@ -2,7 +2,7 @@ use Rattle.std.proofs.Common.{◌≡◌, ◌∙◌, refl, sym, ap, ℕ, List, in
 use Rattle.tsp_base.specs.declared.act.Act.{Act}
 use Rattle.tsp_script.specs.{Traces.act_text, Verbs.verb_word, Verbs.verb_of, Verbs.rest_of_act, Words.first_word, Words.after_word}
 use Rattle.tsp_script.proofs.ActTexts.{post_case, other_case, post_differs, act_splits, joined_found, lone_case, not_lone}
-use Rattle.tsp_script.proofs.Outcomes.{some_injective, none_not_some, if_some-then}
+use Rattle.tsp_script.proofs.Outcomes.{some_injective, none_not_some, if_some_then}
 use Rattle.tsp_script.proofs.act_reader.read_act.Goals as goal
 
 word_is : (text word : List ℕ) (number : ℕ) (a : Act) → word ≡ first_word text → text ≡ act_text number a → word ≡ verb_word (verb_of a)
@@ -35,7 +35,7 @@ returns-in_default-clause-reads c = λ number a is n e.
 
 pub returns-in-Post-clause-found : goal.returns-in-Post-clause-found
 returns-in-Post-clause-found c =
-    if_some-then c.read_post.result
+    if_some_then c.read_post.result
     (λ r h. joined_found c.args.text.now c.in-Some.word.now c.in-Some.rest.now c.in_ok-verb.verb r.0 r.1 c.in-Some.ensures.found.2 c.in_ok-verb.ensures.found
     (c.in-Post.is ∙ h.0, h.1) (λ b. post_differs _ c.in-Post.is (inl b)) (λ b. post_differs _ c.in-Post.is (inr b)))
     c.read_post.ensures.found

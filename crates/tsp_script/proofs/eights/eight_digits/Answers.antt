@@ -1,11 +1,11 @@
 use Rattle.std.proofs.Common.{◌-◌, slice_index_or, arith}
-use Rattle.tsp_script.proofs.Digits.{high_word, high_word-bounds, digits_word, values_word, eight_read}
+use Rattle.tsp_script.proofs.Digits.{high_word, high_word_bounds, digits_word, values_word, eight_read}
 use Rattle.tsp_script.proofs.eights.eight_digits.Goals as goal
 
 pub overflow_add-word : goal.overflow_add-word
 overflow_add-word c =
     let high = high_word c.args.octets.now c.word_of-word.result c.type_inv.octets c.word_of-word.ensures c.if-word-ne-ZEROS.false in
-    record { fits = omega (arith, (high_word-bounds c.args.octets.now c.word_of-word.result c.word_of-word.ensures high).1) }
+    record { fits = omega (arith, (high_word_bounds c.args.octets.now c.word_of-word.result c.word_of-word.ensures high).1) }
 
 pub joined-requires : goal.joined-requires
 joined-requires c =

@@ -1,6 +1,6 @@
 use Rattle.std.proofs.Common.{◌∙◌, ◌++◌, ◌∷◌, ℕ, List, ap, arith, decimal}
 use Rattle.tsp_script.{proofs.Cuts.cut_front, specs.Schedules.port_text}
-use Rattle.tsp_script.proofs.Ports.{port_none, port_stands, nodes_apart, no_space-port}
+use Rattle.tsp_script.proofs.Ports.{port_none, port_stands, nodes_apart, no_space_port}
 use Rattle.tsp_script.proofs.event_line.front_node.Goals as goal
 
 pub returns-in-Some-clause-reads : goal.returns-in-Some-clause-reads
@@ -16,7 +16,7 @@ returns-in_err-word-clause-reads c = λ node port rest h k e. absurd (c.in_err-w
 pub returns-in_err-node-clause-reads : goal.returns-in_err-node-clause-reads
 returns-in_err-node-clause-reads c = λ node port rest h k e.
     let s = port_stands c.args.line.now rest node port e (λ l. c.in_default.ensures.reads node rest h l) in
-    let w = cut_front c.args.line.now (decimal node ++ port_text port) rest (no_space-port node port (omega (arith, h)) (omega (arith, k))) e in
+    let w = cut_front c.args.line.now (decimal node ++ port_text port) rest (no_space_port node port (omega (arith, h)) (omega (arith, k))) e in
     absurd (c.in_err-node.ensures.reads node port h k s (c.in_ok-word.ensures.found.0 ∙ w.0))
 
 pub returns-clause-reads : goal.returns-clause-reads

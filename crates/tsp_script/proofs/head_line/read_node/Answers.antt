@@ -1,7 +1,7 @@
 use Rattle.std.proofs.Common.{◌≡◌, ◌∙◌, ◌++◌, ◌∷◌, ◌≤◌, ap, arith, refl, rules, ℤ, nat_abs}
 use mir.Val.{to_z, of_z}
 use Rattle.std.{proofs.lemmas.Int.to_z-of_z, specs.Fmt.signed_decimal, specs.Int.w32, specs.Int.w64, specs.Int.RustNames.FitsSigned}
-use Rattle.tsp_script.proofs.{HeadLines.no_space-host, HeadLines.fits_wall, Outcomes.none_not_some, Outcomes.if_none, Cuts.cut_front}
+use Rattle.tsp_script.proofs.{HeadLines.no_space_host, HeadLines.fits_wall, Outcomes.none_not_some, Outcomes.if_none, Cuts.cut_front}
 use Rattle.tsp_script.specs.Schedules.{flag_text, IsHost}
 use Rattle.tsp_script.proofs.head_line.read_node.Goals as goal
 
@@ -11,14 +11,14 @@ returns-in_err-word-clause-none c = if_none c.from_residual.result (λ n h e. c.
 
 pub returns-in_err-name-clause-none : goal.returns-in_err-name-clause-none
 returns-in_err-name-clause-none c = if_none c.from_residual-in_err-name.result (λ n h e.
-    let f = cut_front c.args.line.now n.name (signed_decimal n.rate ++ 32 ∷ (signed_decimal n.wall ++ 32 ∷ flag_text n.may)) (no_space-host n.name h.host) e in
+    let f = cut_front c.args.line.now n.name (signed_decimal n.rate ++ 32 ∷ (signed_decimal n.wall ++ 32 ∷ flag_text n.may)) (no_space_host n.name h.host) e in
     let word : c.in_ok-word.word.now ≡ n.name = c.in_ok-word.ensures.found.0 ∙ f.0 in
     let host : IsHost c.in_ok-word.word.now = rw word h.host in
     none_not_some _ (c.in_err-name.ensures.reads host))
 
 pub returns-in_err-rate-clause-none : goal.returns-in_err-rate-clause-none
 returns-in_err-rate-clause-none c = if_none c.from_residual-in_err-rate.result (λ n h e.
-    let f = cut_front c.args.line.now n.name (signed_decimal n.rate ++ 32 ∷ (signed_decimal n.wall ++ 32 ∷ flag_text n.may)) (no_space-host n.name h.host) e in
+    let f = cut_front c.args.line.now n.name (signed_decimal n.rate ++ 32 ∷ (signed_decimal n.wall ++ 32 ∷ flag_text n.may)) (no_space_host n.name h.host) e in
     let word : c.in_ok-word.word.now ≡ n.name = c.in_ok-word.ensures.found.0 ∙ f.0 in
     let host : IsHost c.in_ok-word.word.now = rw word h.host in
     c.in_err-rate.ensures.reads n.rate (signed_decimal n.wall ++ 32 ∷ flag_text n.may) (fits_wall n.rate (omega (arith, h.rate)))
@@ -26,7 +26,7 @@ returns-in_err-rate-clause-none c = if_none c.from_residual-in_err-rate.result (
 
 pub returns-in_err-rate-2-clause-none : goal.returns-in_err-rate-2-clause-none
 returns-in_err-rate-2-clause-none c = if_none c.from_residual-in_err-rate-2.result (λ n h e.
-    let f = cut_front c.args.line.now n.name (signed_decimal n.rate ++ 32 ∷ (signed_decimal n.wall ++ 32 ∷ flag_text n.may)) (no_space-host n.name h.host) e in
+    let f = cut_front c.args.line.now n.name (signed_decimal n.rate ++ 32 ∷ (signed_decimal n.wall ++ 32 ∷ flag_text n.may)) (no_space_host n.name h.host) e in
     let word : c.in_ok-word.word.now ≡ n.name = c.in_ok-word.ensures.found.0 ∙ f.0 in
     let host : IsHost c.in_ok-word.word.now = rw word h.host in
     let r = c.in_ok-rate.ensures.reads n.rate (signed_decimal n.wall ++ 32 ∷ flag_text n.may) (fits_wall n.rate (omega (arith, h.rate)))
@@ -38,7 +38,7 @@ returns-in_err-rate-2-clause-none c = if_none c.from_residual-in_err-rate-2.resu
 
 pub returns-in_err-wall-clause-none : goal.returns-in_err-wall-clause-none
 returns-in_err-wall-clause-none c = if_none c.from_residual-in_err-wall.result (λ n h e.
-    let f = cut_front c.args.line.now n.name (signed_decimal n.rate ++ 32 ∷ (signed_decimal n.wall ++ 32 ∷ flag_text n.may)) (no_space-host n.name h.host) e in
+    let f = cut_front c.args.line.now n.name (signed_decimal n.rate ++ 32 ∷ (signed_decimal n.wall ++ 32 ∷ flag_text n.may)) (no_space_host n.name h.host) e in
     let word : c.in_ok-word.word.now ≡ n.name = c.in_ok-word.ensures.found.0 ∙ f.0 in
     let host : IsHost c.in_ok-word.word.now = rw word h.host in
     let r = c.in_ok-rate.ensures.reads n.rate (signed_decimal n.wall ++ 32 ∷ flag_text n.may) (fits_wall n.rate (omega (arith, h.rate)))
@@ -50,7 +50,7 @@ returns-in_err-wall-clause-none c = if_none c.from_residual-in_err-wall.result (
 
 pub returns-then-unsigned_abs-gt-SCHEDULE_END-clause-none : goal.returns-then-unsigned_abs-gt-SCHEDULE_END-clause-none
 returns-then-unsigned_abs-gt-SCHEDULE_END-clause-none c = λ n h e.
-    let f = cut_front c.args.line.now n.name (signed_decimal n.rate ++ 32 ∷ (signed_decimal n.wall ++ 32 ∷ flag_text n.may)) (no_space-host n.name h.host) e in
+    let f = cut_front c.args.line.now n.name (signed_decimal n.rate ++ 32 ∷ (signed_decimal n.wall ++ 32 ∷ flag_text n.may)) (no_space_host n.name h.host) e in
     let word : c.in_ok-word.word.now ≡ n.name = c.in_ok-word.ensures.found.0 ∙ f.0 in
     let host : IsHost c.in_ok-word.word.now = rw word h.host in
     let r = c.in_ok-rate.ensures.reads n.rate (signed_decimal n.wall ++ 32 ∷ flag_text n.may) (fits_wall n.rate (omega (arith, h.rate)))
@@ -65,7 +65,7 @@ returns-then-unsigned_abs-gt-SCHEDULE_END-clause-none c = λ n h e.
 
 pub returns-in_err-may-clause-none : goal.returns-in_err-may-clause-none
 returns-in_err-may-clause-none c = if_none c.from_residual-in_err-may.result (λ n h e.
-    let f = cut_front c.args.line.now n.name (signed_decimal n.rate ++ 32 ∷ (signed_decimal n.wall ++ 32 ∷ flag_text n.may)) (no_space-host n.name h.host) e in
+    let f = cut_front c.args.line.now n.name (signed_decimal n.rate ++ 32 ∷ (signed_decimal n.wall ++ 32 ∷ flag_text n.may)) (no_space_host n.name h.host) e in
     let word : c.in_ok-word.word.now ≡ n.name = c.in_ok-word.ensures.found.0 ∙ f.0 in
     let host : IsHost c.in_ok-word.word.now = rw word h.host in
     let r = c.in_ok-rate.ensures.reads n.rate (signed_decimal n.wall ++ 32 ∷ flag_text n.may) (fits_wall n.rate (omega (arith, h.rate)))

@@ -1,20 +1,20 @@
 use Rattle.std.proofs.Common.{◌≡◌, ◌∙◌, ap, sym, arith, ◌++◌, Some, true}
 use Rattle.tsp_base.specs.{Words.MessageValue, Words.body_fits, declared.datagram.Datagram.TheVariants.Message, declared.kind.Kind.Kind}
-use Rattle.tsp_script.proofs.{KindWords.kind_word-injective, MessageLines.plain_found}
+use Rattle.tsp_script.proofs.{KindWords.kind_word_injective, MessageLines.plain_found}
 use Rattle.tsp_script.{proofs.Outcomes.none_not_some, proofs.Outcomes.some_injective, specs.Texts.body_text, specs.Texts.name_text}
 use Rattle.tsp_codec.proofs.OneReading.{message_parts}
 use Rattle.tsp_script.proofs.message_reader.read_plain.Goals as goal
 
 pub returns-in_default-clause-reads : goal.returns-in_default-clause-reads
 returns-in_default-clause-reads c = λ m h w e.
-    let k = kind_word-injective _ _ (sym c.in_ok-kind.ensures.found ∙ w) in
+    let k = kind_word_injective _ _ (sym c.in_ok-kind.ensures.found ∙ w) in
     let n = c.in_ok-number.ensures.reads m.number (body_text m.body ++ name_text m.name) (omega (arith, h.number)) e in
     let fits : body_fits c.in_ok-kind.kind m.body ≡ true = ap (λ (x : Kind). body_fits x m.body) k ∙ h.fits in
     absurd (c.in_default.ensures.reads m.body (name_text m.name) h.body fits n.1)
 
 pub returns-in_err-name-clause-reads : goal.returns-in_err-name-clause-reads
 returns-in_err-name-clause-reads c = λ m h w e.
-    let k = kind_word-injective _ _ (sym c.in_ok-kind.ensures.found ∙ w) in
+    let k = kind_word_injective _ _ (sym c.in_ok-kind.ensures.found ∙ w) in
     let n = c.in_ok-number.ensures.reads m.number (body_text m.body ++ name_text m.name) (omega (arith, h.number)) e in
     let fits : body_fits c.in_ok-kind.kind m.body ≡ true = ap (λ (x : Kind). body_fits x m.body) k ∙ h.fits in
     let b = c.in-Some.ensures.reads m.body (name_text m.name) h.body fits n.1 in
@@ -29,7 +29,7 @@ returns-clause-found c =
 
 pub returns-clause-reads : goal.returns-clause-reads
 returns-clause-reads c = λ m h w e.
-    let k = kind_word-injective _ _ (sym c.in_ok-kind.ensures.found ∙ w) in
+    let k = kind_word_injective _ _ (sym c.in_ok-kind.ensures.found ∙ w) in
     let n = c.in_ok-number.ensures.reads m.number (body_text m.body ++ name_text m.name) (omega (arith, h.number)) e in
     let fits : body_fits c.in_ok-kind.kind m.body ≡ true = ap (λ (x : Kind). body_fits x m.body) k ∙ h.fits in
     let b = c.in-Some.ensures.reads m.body (name_text m.name) h.body fits n.1 in
@@ -40,7 +40,7 @@ returns-clause-reads c = λ m h w e.
 
 pub returns-in_err-message-clause-reads : goal.returns-in_err-message-clause-reads
 returns-in_err-message-clause-reads c = λ m h w e.
-    let k = kind_word-injective _ _ (sym c.in_ok-kind.ensures.found ∙ w) in
+    let k = kind_word_injective _ _ (sym c.in_ok-kind.ensures.found ∙ w) in
     let n = c.in_ok-number.ensures.reads m.number (body_text m.body ++ name_text m.name) (omega (arith, h.number)) e in
     let fits : body_fits c.in_ok-kind.kind m.body ≡ true = ap (λ (x : Kind). body_fits x m.body) k ∙ h.fits in
     let b = c.in-Some.ensures.reads m.body (name_text m.name) h.body fits n.1 in

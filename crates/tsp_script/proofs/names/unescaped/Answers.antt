@@ -1,6 +1,6 @@
 use Rattle.std.proofs.Common.{◌∙◌, sym, refl, rules, arith}
 use Rattle.std.proofs.lemmas.Bool.{false≢true}
-use Rattle.tsp_script.proofs.NameTexts.{name_begins, not_full, IsBytes-more, one_more, more_read, can_read, all_read, text_read, name_made, name_found}
+use Rattle.tsp_script.proofs.NameTexts.{name_begins, not_full, IsBytes_more, one_more, more_read, can_read, all_read, text_read, name_made, name_found}
 use Rattle.tsp_script.proofs.names.unescaped.Goals as goal
 
 pub loop-rest-init : goal.loop-rest-init
@@ -22,7 +22,7 @@ returns-in_err-octet-clause-reads c = λ name n b e.
 
 pub loop-rest-preserved : goal.loop-rest-preserved
 loop-rest-preserved c = (
-  IsBytes-more c.loop-rest.octets.items _ c.in_ok-octet.octet c.loop-rest.invariant.0 c.in_ok-octet.ensures.found.0 c.in-Ok.ensures.ok,
+  IsBytes_more c.loop-rest.octets.items _ c.in_ok-octet.octet c.loop-rest.invariant.0 c.in_ok-octet.ensures.found.0 c.in-Ok.ensures.ok,
   more_read c.args.text.now c.loop-rest.octets.items _ c.loop-rest.rest.now c.in_ok-octet.after.now c.in_ok-octet.octet c.loop-rest.invariant.1
       c.in_ok-octet.ensures.found.1 c.in-Ok.ensures.ok,
   λ name n b e.

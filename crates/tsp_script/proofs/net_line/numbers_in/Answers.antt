@@ -1,7 +1,7 @@
 use Rattle.std.proofs.Common.{rules, arith, ap, length, length-append, ◌++◌, decimal}
 use Rattle.std.proofs.lemmas.Bool.{false≢true}
 use Rattle.tsp_script.specs.Schedules.{numbers_text}
-use Rattle.tsp_script.proofs.NetLines.{All-small, all_read, first_read, next_read, next_there, no_first, no_next, text-more}
+use Rattle.tsp_script.proofs.NetLines.{All_small, all_read, first_read, next_read, next_there, no_first, no_next, text_more}
 use Rattle.tsp_script.proofs.net_line.numbers_in.Goals as goal
 
 pub loop-rest-init : goal.loop-rest-init
@@ -35,10 +35,10 @@ loop-rest-preserved c =
     record {
       reads = λ ns h e. next_read ns c.loop-rest.numbers.items _ c.loop-rest.rest.now c.in_ok-next.next.now c.in_ok-number.behind.now c.in_ok-number.number
           h.small (search rules) (inv.reads ns h e) c.in_ok-next.ensures found.0 found.1 found.2 more;
-      text = text-more c.args.text.now c.loop-rest.numbers.items _ c.loop-rest.rest.now c.in_ok-next.next.now c.in_ok-number.behind.now c.in_ok-number.number
+      text = text_more c.args.text.now c.loop-rest.numbers.items _ c.loop-rest.rest.now c.in_ok-next.next.now c.in_ok-number.behind.now c.in_ok-number.number
           inv.some inv.text c.in_ok-next.ensures found.2 more;
       some = search rules;
-      small = rw more (All-small c.loop-rest.numbers.items c.in_ok-number.number inv.small found.0);
+      small = rw more (All_small c.loop-rest.numbers.items c.in_ok-number.number inv.small found.0);
     }
 
 pub returns-in_default-clause-reads : goal.returns-in_default-clause-reads

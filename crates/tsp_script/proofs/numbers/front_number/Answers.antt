@@ -1,14 +1,14 @@
 use Rattle.std.proofs.Common.{◌∙◌, ◌++◌, ◌∷◌, ap, sym, arith, List, ℕ, decimal}
-use Rattle.tsp_script.proofs.{Cuts.numbers_apart, FrontDigits.NoDigit-other, FrontDigits.front_one}
+use Rattle.tsp_script.proofs.{Cuts.numbers_apart, FrontDigits.NoDigit_other, FrontDigits.front_one}
 use Rattle.tsp_script.proofs.numbers.front_number.Goals as goal
 
 pub returns-in_err-number-clause-reads : goal.returns-in_err-number-clause-reads
-returns-in_err-number-clause-reads c = λ n rest h e. absurd (c.in_err-number.ensures.none n (32 ∷ rest) h (NoDigit-other 32 rest (λ x. omega (arith, x))) e)
+returns-in_err-number-clause-reads c = λ n rest h e. absurd (c.in_err-number.ensures.none n (32 ∷ rest) h (NoDigit_other 32 rest (λ x. omega (arith, x))) e)
 
 pub returns-in_err-rest-clause-reads : goal.returns-in_err-rest-clause-reads
 returns-in_err-rest-clause-reads c = λ n rest h e.
     let f = c.in_ok-number.ensures.found in
-    let a = front_one c.in_ok-number.number n c.in_ok-number.rest.now (32 ∷ rest) f.0 h f.1 (NoDigit-other 32 rest (λ x. omega (arith, x))) (sym f.2 ∙ e) in
+    let a = front_one c.in_ok-number.number n c.in_ok-number.rest.now (32 ∷ rest) f.0 h f.1 (NoDigit_other 32 rest (λ x. omega (arith, x))) (sym f.2 ∙ e) in
     absurd (c.in_err-rest.ensures rest a.1)
 
 pub returns-clause-found : goal.returns-clause-found

@@ -1,9 +1,9 @@
 use Rattle.std.proofs.Common.{◌∙◌, ap, sym, Some, [], append-nil, length, ◌<◌, rules, arith, decimal}
-use Rattle.tsp_script.proofs.FrontDigits.{NoDigit-nil, front_alone, none_left}
+use Rattle.tsp_script.proofs.FrontDigits.{NoDigit_nil, front_alone, none_left}
 use Rattle.tsp_script.proofs.numbers.number_of.Goals as goal
 
 pub returns-in_err-number-clause-reads : goal.returns-in_err-number-clause-reads
-returns-in_err-number-clause-reads c = λ n h e. absurd (c.in_err-number.ensures.none n [] h NoDigit-nil (e ∙ sym (append-nil (decimal n))))
+returns-in_err-number-clause-reads c = λ n h e. absurd (c.in_err-number.ensures.none n [] h NoDigit_nil (e ∙ sym (append-nil (decimal n))))
 
 pub returns-then-is_empty-clause-found : goal.returns-then-is_empty-clause-found
 returns-then-is_empty-clause-found c = front_alone _ c.in_ok-number.rest.now _ c.in_ok-number.ensures.found.2 (search rules)

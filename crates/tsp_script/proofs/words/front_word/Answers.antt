@@ -1,5 +1,5 @@
 use Rattle.std.proofs.Common.{◌≡◌, ◌∙◌, refl, sym, add-one, suc, drop}
-use Rattle.tsp_script.proofs.{Cuts.before_mark-at, Cuts.after_mark-at, Cuts.line_at, Cuts.space_inside, Outcomes.if_none}
+use Rattle.tsp_script.proofs.{Cuts.before_mark_at, Cuts.after_mark_at, Cuts.line_at, Cuts.space_inside, Outcomes.if_none}
 use Rattle.tsp_script.proofs.words.front_word.Goals as goal
 
 pub returns-in_err-place-clause-none : goal.returns-in_err-place-clause-none
@@ -11,7 +11,7 @@ returns-clause-found c =
     let at = c.in_ok-place.ensures in
     let front = c.split_at.ensures.front in
     let back : c.split_at-2.result.1.now ≡ drop (suc c.in_ok-place.place) line = c.split_at-2.ensures.back ∙ rw add-one refl in (
-      front ∙ sym (before_mark-at 32 line c.in_ok-place.place at.0 at.1 at.2),
-      back ∙ sym (after_mark-at 32 line c.in_ok-place.place at.0 at.1 at.2),
+      front ∙ sym (before_mark_at 32 line c.in_ok-place.place at.0 at.1 at.2),
+      back ∙ sym (after_mark_at 32 line c.in_ok-place.place at.0 at.1 at.2),
       rw (front, back) (line_at 32 line c.in_ok-place.place at.0 at.2),
     )

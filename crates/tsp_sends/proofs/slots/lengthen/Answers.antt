@@ -3,7 +3,7 @@ use Rattle.std.proofs.Common.{◌≡◌, ◌∙◌, ◌+◌, ◌<◌, ◌∷◌,
 use Rattle.std.proofs.lemmas.List.{get_or_default, length_push}
 use Rattle.tsp_base.specs.declared.place.PeerId.{PeerId}
 use Rattle.tsp_sends.specs.{Held.slots_of, Slots.empty_slot, declared.slot.Slot.Slot}
-use Rattle.tsp_sends.proofs.HeldLemmas.{slots_of-more, AreHeld-more}
+use Rattle.tsp_sends.proofs.HeldLemmas.{slots_of_more, AreHeld_more}
 use Rattle.tsp_sends.proofs.slots.lengthen.Goals as goal
 
 pub loop-next-preserved : goal.loop-next-preserved
@@ -19,7 +19,7 @@ loop-next-preserved c =
     let items : c.push_reserved.new.self.items ≡ held ++ empty_slot (get_or ps c.loop-next.next z) ∷ [] = c.push_reserved.ensures.items ∙
     ap (λ (s : Slot). held ++ s ∷ []) c.new.ensures in
     record {
-      held = rw (items, c.push_reserved.ensures.capacity) (AreHeld-more ps held _ p inv.held inside here);
-      same = ap (slots_of ps) items ∙ slots_of-more ps held p inside here ∙ inv.same;
+      held = rw (items, c.push_reserved.ensures.capacity) (AreHeld_more ps held _ p inv.held inside here);
+      same = ap (slots_of ps) items ∙ slots_of_more ps held p inside here ∙ inv.same;
       long = ap length items ∙ length_push held (empty_slot p) ∙ ap (λ n. n + 1) inv.long;
     }

@@ -1,7 +1,7 @@
 use Rattle.std.proofs.Common.{arith, ◌≡◌, ◌+◌, ◌*◌, ◌/◌, ◌^◌, ◌≤◌, ◌<◌, length, refl, ◌∙◌, length-set}
 use Rattle.tsp_base.specs.Words.{earlier}
 use Rattle.tsp_sends.specs.Deadlines.{deadline_at}
-use Rattle.tsp_sends.proofs.TreeLemmas.{HoldsEarlier-set, HoldsEarlier-any, leaves_kept, half_below, at_root}
+use Rattle.tsp_sends.proofs.TreeLemmas.{HoldsEarlier_set, HoldsEarlier_any, leaves_kept, half_below, at_root}
 use Rattle.tsp_sends.proofs.tree.set_leaf.Goals as goal
 
 pub loop-height-init : goal.loop-height-init
@@ -13,7 +13,7 @@ loop-height-init c =
       below = omega arith;
       node = omega arith;
       size = length-set c.args.store.now.nodes c.args.leaf c.args.at;
-      earlier = HoldsEarlier-set c.args.store.now.nodes c.args.leaf c.args.at (HoldsEarlier-any _ c.args.leaf c.requires.earlier) high
+      earlier = HoldsEarlier_set c.args.store.now.nodes c.args.leaf c.args.at (HoldsEarlier_any _ c.args.leaf c.requires.earlier) high
           (λ some inside. absurd (omega arith));
       leaves = refl;
       looks = omega (arith, c.write.ensures.looks);
@@ -46,7 +46,7 @@ loop-height-preserved c =
       below = half_below c.loop-height.node c.loop-height.height (2 * 2 ^ c.args.levels) c.loop-height.invariant.below;
       node = omega arith;
       size = length-set c.loop-height.store.nodes (c.loop-height.node / 2) c.earlier.result ∙ c.loop-height.invariant.size;
-      earlier = HoldsEarlier-set c.loop-height.store.nodes (c.loop-height.node / 2) c.earlier.result c.loop-height.invariant.earlier (omega arith)
+      earlier = HoldsEarlier_set c.loop-height.store.nodes (c.loop-height.node / 2) c.earlier.result c.loop-height.invariant.earlier (omega arith)
           (λ some inside. value);
       leaves = leaves_kept _ _ c.args.levels (c.loop-height.node / 2) _ (omega arith) c.loop-height.invariant.leaves;
       looks = omega (arith, c.write-in-loop-height.ensures.looks, c.read-right.ensures.looks, c.read-left.ensures.looks, c.loop-height.invariant.looks);

@@ -2,12 +2,12 @@
 use Rattle.std.proofs.Common.{sym, ◌∙◌, ap}
 use Rattle.tsp_base.proofs.PerformsLemmas.{Performs_then}
 use Rattle.tsp_rules.specs.CommonRows.{follow_row}
-use Rattle.tsp_acks.proofs.PeerLemmas.{among-Contains}
+use Rattle.tsp_acks.proofs.PeerLemmas.{among_Contains}
 use Rattle.tsp_slave.proofs.{BesideLemmas.Performs_station, RoomLemmas.both, SlaveLemmas.AlsoStands_arms_elect, SlaveLemmas.follow_becomes}
 use Rattle.tsp_slave.proofs.follow.follow.Goals as goal
 
 pub become_role-requires-clause-peer : goal.become_role-requires-clause-peer
-become_role-requires-clause-peer g c = among-Contains c.args.p c.args.station.now.peers c.requires.peer
+become_role-requires-clause-peer g c = among_Contains c.args.p c.args.station.now.peers c.requires.peer
 
 pub returns-clause-row : goal.returns-clause-row
 unfolding follow_row

@@ -3,7 +3,7 @@ use Rattle.std.proofs.Common.{◌≡◌, refl, sym, ◌∙◌}
 use Rattle.tsp_base.specs.Words.{puts}
 use Rattle.tsp_base.proofs.PerformsLemmas.{Performs_nothing, Performs_reading, Performs_then}
 use Rattle.tsp_rules.specs.{CommonRows.follows_unless, CommonRows.quits, Guards.role_at, Values.Quit, Values.Ack}
-use Rattle.tsp_rules.proofs.{Emits.Emits_puts, RowsOther.follows_unless-other}
+use Rattle.tsp_rules.proofs.{Emits.Emits_puts, RowsOther.follows_unless_other}
 use Rattle.tsp_slave.proofs.{BesideLemmas.AlsoStands_by, BesideLemmas.Performs_station, SlaveLemmas.AlsoStands_posts}
 use Rattle.tsp_slave.proofs.RoomLemmas.{at_most, both, one_then}
 use Rattle.tsp_slave.proofs.quit.take_quit.Goals as goal
@@ -25,7 +25,7 @@ returns-in_default-clause-row g c took e =
     Performs_then (Performs_station (AlsoStands_by (puts (Quit c.args.from)) (Emits_puts (Quit c.args.from) refl)) c.quit.ensures.row)
     (Performs_then (Performs_station (AlsoStands_posts c.args.from Ack m.number refl) post)
     (Performs_reading role_at (follows_unless c.args.from) _ (λ past h. sym h.station.role)
-    (rw (follows_unless-other c.args.from _ c.in_default.not-Follow) (c.follow.ensures.row took (e ∙ sym c.name.ensures)))))
+    (rw (follows_unless_other c.args.from _ c.in_default.not-Follow) (c.follow.ensures.row took (e ∙ sym c.name.ensures)))))
 
 pub returns-in-Follow-clause-room : goal.returns-in-Follow-clause-room
 returns-in-Follow-clause-room g c = at_most 2 3 (both 1 1 c.quit.ensures.room c.post.ensures.room)

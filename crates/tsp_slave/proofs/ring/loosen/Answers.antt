@@ -3,7 +3,7 @@ use Rattle.std.proofs.Common.{refl}
 use Rattle.tsp_base.specs.Words.{puts, nothing}
 use Rattle.tsp_base.proofs.PerformsLemmas.{Performs_then_part, Performs_else_part, Performs_nothing}
 use Rattle.tsp_rules.specs.{Guards.follows_at, SlaveRows.loosens, Values.Become, Values.Loose}
-use Rattle.tsp_rules.proofs.RowsOther.{is_follow-other}
+use Rattle.tsp_rules.proofs.RowsOther.{is_follow_other}
 use Rattle.tsp_slave.proofs.RoomLemmas.{at_most}
 use Rattle.tsp_slave.proofs.ring.loosen.Goals as goal
 
@@ -15,7 +15,7 @@ returns-in-Follow-clause-row g c x =
 pub returns-in_default-clause-row : goal.returns-in_default-clause-row
 unfolding loosens
 returns-in_default-clause-row g c x =
-    let h = is_follow-other _ c.in_default.not-Follow in
+    let h = is_follow_other _ c.in_default.not-Follow in
     Performs_else_part follows_at (puts (Become Loose)) (λ past s. rw (← s.role) h) Performs_nothing
 
 pub returns-in-Follow-clause-room : goal.returns-in-Follow-clause-room

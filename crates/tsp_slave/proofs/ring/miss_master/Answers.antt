@@ -4,7 +4,7 @@ use Rattle.tsp_base.specs.Words.{may_stand, puts, either_by, ◌followed_by◌}
 use Rattle.tsp_base.proofs.PerformsLemmas.{Performs_then, Performs_then_part, Performs_else_part}
 use Rattle.tsp_rules.specs.{CommonRows.arms_elect, CommonRows.searches, CommonRows.candidature_row, Guards.is_in_time, Guards.may_stand_at}
 use Rattle.tsp_rules.specs.{SlaveRows.elect_rings, SlaveRows.loosens, Values.Ring, Values.Late, Values.Elect}
-use Rattle.tsp_slave.proofs.{RoomLemmas.beside_peers, RoomLemmas.both, RowCases.may_stand-is, RowCases.stays_in_time}
+use Rattle.tsp_slave.proofs.{RoomLemmas.beside_peers, RoomLemmas.both, RowCases.may_stand_is, RowCases.stays_in_time}
 use Rattle.tsp_slave.proofs.ring.miss_master.Goals as goal
 
 pub returns-then-is_in_time-clause-row : goal.returns-then-is_in_time-clause-row
@@ -15,7 +15,7 @@ returns-then-is_in_time-clause-row g c =
     c.if-is_in_time.true) c.requires.stays in
     Performs_then_part (is_in_time Elect) (puts (Late Elect) followed_by arms_elect) (λ past s. let a = s.alarms in cc)
     (Performs_then (c.ring.ensures.row c.args.tick) (Performs_else_part may_stand_at candidature_row
-    (λ past s. sym (may_stand-is c.args.tick past c.ring.new.self s) ∙ rw c.ring.ensures.station stays)
+    (λ past s. sym (may_stand_is c.args.tick past c.ring.new.self s) ∙ rw c.ring.ensures.station stays)
     (Performs_then (c.loosen.ensures.row c.args.tick) c.search.ensures.row)))
 
 pub returns-else-is_in_time-clause-row : goal.returns-else-is_in_time-clause-row

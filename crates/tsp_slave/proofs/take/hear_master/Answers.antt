@@ -4,14 +4,14 @@ use Rattle.std.proofs.lemmas.Bool.{ne_eqb}
 use Rattle.tsp_base.specs.Words.{name_in}
 use Rattle.tsp_base.proofs.PerformsLemmas.{Performs_then, Performs_reading, Performs_nothing}
 use Rattle.tsp_rules.specs.{Guards.role_at, SlaveRows.masterup_in, Values.Loose, Values.Follow}
-use Rattle.tsp_acks.proofs.FollowLemmas.{followed-Contains}
-use Rattle.tsp_rules.proofs.RowsOther.{masterup_in-other}
+use Rattle.tsp_acks.proofs.FollowLemmas.{followed_Contains}
+use Rattle.tsp_rules.proofs.RowsOther.{masterup_in_other}
 use Rattle.tsp_slave.proofs.{BesideLemmas.Performs_station, RoomLemmas.at_most, RoomLemmas.both, RoomLemmas.more_room}
 use Rattle.tsp_slave.proofs.SlaveLemmas.{AlsoStands_arms_elect, AlsoStands_reports_conflict, Performs_since_taken}
 use Rattle.tsp_slave.proofs.take.hear_master.Goals as goal
 
 pub report_conflict-requires-clause-peer : goal.report_conflict-requires-clause-peer
-report_conflict-requires-clause-peer g c = followed-Contains c.args.station.now c.in-Follow.q c.in-Follow.is
+report_conflict-requires-clause-peer g c = followed_Contains c.args.station.now c.in-Follow.q c.in-Follow.is
 
 pub returns-in-Loose-clause-row : goal.returns-in-Loose-clause-row
 unfolding masterup_in
@@ -36,7 +36,7 @@ returns-else-q-from-clause-row g c took e =
 pub returns-in_default-clause-row : goal.returns-in_default-clause-row
 returns-in_default-clause-row g c took e =
     Performs_reading role_at (masterup_in c.args.from) c.args.station.now.role (λ past h. let r = h.station.role in cc)
-    (rw (masterup_in-other c.args.from _ c.in_default.not-Loose c.in_default.not-Follow) Performs_nothing)
+    (rw (masterup_in_other c.args.from _ c.in_default.not-Loose c.in_default.not-Follow) Performs_nothing)
 
 pub returns-in-Loose-clause-room : goal.returns-in-Loose-clause-room
 returns-in-Loose-clause-room g c = at_most 3 0 c.follow.ensures.room

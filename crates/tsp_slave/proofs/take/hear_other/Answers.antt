@@ -4,7 +4,7 @@ use Rattle.tsp_rules.specs.Values.{Ack, Election, MasterAck, MasterUp, QuitKind}
 use Rattle.tsp_base.specs.Words.{name_in, is_correction, nothing, reading}
 use Rattle.tsp_base.proofs.PerformsLemmas.{Performs_nothing, Performs_same}
 use Rattle.tsp_rules.specs.SlaveRows.{masterack_in, masterup_in, slave_takes, slave_takes_kind}
-use Rattle.tsp_rules.{proofs.RowsOther.slave_takes_kind-other, specs.Guards.role_at}
+use Rattle.tsp_rules.{proofs.RowsOther.slave_takes_kind_other, specs.Guards.role_at}
 use Rattle.tsp_slave.proofs.{BesideLemmas.Performs_station, RoomLemmas.at_most_once, RoomLemmas.more_room}
 use Rattle.tsp_slave.proofs.SlaveLemmas.{AlsoStands_election_of, AlsoStands_acknowledges}
 use Rattle.tsp_slave.proofs.take.hear_other.Goals as goal
@@ -62,7 +62,7 @@ returns-in_default-clause-row g c took e =
     let other : is_correction c.kind.result ≡ false = ap is_correction c.kind.ensures ∙ c.requires.other in
     let k : slave_takes_kind c.args.from m m.kind ≡ nothing =
     ap (slave_takes_kind c.args.from m) (sym c.kind.ensures)
-    ∙ slave_takes_kind-other c.args.from m c.kind.result o.not-MasterUp o.not-MasterAck o.not-Election (λ e. true≢false (sym (ap is_correction e) ∙ other))
+    ∙ slave_takes_kind_other c.args.from m c.kind.result o.not-MasterUp o.not-MasterAck o.not-Election (λ e. true≢false (sym (ap is_correction e) ∙ other))
     (λ e. true≢false (sym (ap is_correction e) ∙ other)) o.not-Quit o.not-Ack in
     rw k Performs_nothing
 

@@ -1,7 +1,7 @@
 -- A correction, or another message.
 use Rattle.std.proofs.Common.{◌≡◌, ◌⊎◌, sym, ◌∙◌, ap, false, refl}
 use Rattle.tsp_base.specs.Words.{is_correction}
-use Rattle.tsp_slave.proofs.{RoomLemmas.more_room, RowCases.correction-kind, RowCases.slave_takes_kind-correction, RowCases.told_correction}
+use Rattle.tsp_slave.proofs.{RoomLemmas.more_room, RowCases.correction_kind, RowCases.slave_takes_kind_correction, RowCases.told_correction}
 use Rattle.tsp_slave.proofs.TellLemmas.{tells_still}
 use Rattle.tsp_rules.proofs.{BuiltRoles.built_slave_takes, BuiltRoles.slave_part_unmoved, BuiltRoles.unmoved_sorts, Emits.Emits_more}
 use Rattle.tsp_rules.{proofs.EmitsBuilt.emits_built, specs.SlaveRows.slave_takes, specs.Values.AdjTime, specs.Values.SetTime}
@@ -11,14 +11,14 @@ pub returns-then-is_correction-clause-row : goal.returns-then-is_correction-clau
 unfolding slave_takes
 returns-then-is_correction-clause-row g c took e =
     let m = c.args.m.now in
-    let k : (m.kind ≡ AdjTime) ⊎ (m.kind ≡ SetTime) = correction-kind m.kind (ap is_correction (sym c.kind.ensures) ∙
+    let k : (m.kind ≡ AdjTime) ⊎ (m.kind ≡ SetTime) = correction_kind m.kind (ap is_correction (sym c.kind.ensures) ∙
     (sym c.is_correction.ensures ∙ c.if-is_correction.true)) in
-    rw (slave_takes_kind-correction c.args.from m m.kind refl k) (c.take_correction.ensures.row took (told_correction c.args.from m took k e))
+    rw (slave_takes_kind_correction c.args.from m m.kind refl k) (c.take_correction.ensures.row took (told_correction c.args.from m took k e))
 
 pub returns-then-is_correction-clause-corrects : goal.returns-then-is_correction-clause-corrects
 returns-then-is_correction-clause-corrects g c past took e h =
     let m = c.args.m.now in
-    let k : (m.kind ≡ AdjTime) ⊎ (m.kind ≡ SetTime) = correction-kind m.kind (ap is_correction (sym c.kind.ensures) ∙
+    let k : (m.kind ≡ AdjTime) ⊎ (m.kind ≡ SetTime) = correction_kind m.kind (ap is_correction (sym c.kind.ensures) ∙
     (sym c.is_correction.ensures ∙ c.if-is_correction.true)) in
     c.take_correction.ensures.corrects past took (told_correction c.args.from m took k e) h
 

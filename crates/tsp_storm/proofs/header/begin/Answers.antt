@@ -3,7 +3,7 @@ use Rattle.std.proofs.Common.{◌≡◌, ◌∙◌, ap, arith, length, subst, ad
 use Rattle.tsp_base.specs.Words.{HeaderValue, Pushes}
 use Rattle.tsp_script.specs.Storms.{StormValue, storm_named}
 use Rattle.tsp_storm.specs.Schedules.{after_lines, storm_lines, generator_of}
-use Rattle.tsp_storm.proofs.{Heads.joins_header, Heads.header_more, Mades.after_is, Mades.length-storm_lines}
+use Rattle.tsp_storm.proofs.{Heads.joins_header, Heads.header_more, Mades.after_is, Mades.length_storm_lines}
 use Rattle.tsp_storm.proofs.header.begin.Goals as goal
 
 pub head-requires-clause-first : goal.head-requires-clause-first
@@ -19,7 +19,7 @@ head-requires-clause-more c =
 
 few_lines : (header : HeaderValue) (n nodes : ℕ) (v : StormValue) → header ≡ record { drift = 100; strict = false; nodes = storm_lines n v; nets = [] } →
     n < nodes → nodes ≤ 64 → length header.nodes < 64
-few_lines header n nodes v is more few = let same = ap (λ (h : HeaderValue). length h.nodes) is ∙ length-storm_lines n v in omega (arith, same, more, few)
+few_lines header n nodes v is more few = let same = ap (λ (h : HeaderValue). length h.nodes) is ∙ length_storm_lines n v in omega (arith, same, more, few)
 
 pub unreachable-requires : goal.unreachable-requires
 unreachable-requires c =

@@ -3,7 +3,7 @@ use Rattle.std.proofs.Common.{◌≡◌, ◌∙◌, ◌+◌, ap, sym, drop, List
 use Rattle.std.proofs.lemmas.List.{drop_more}
 use Rattle.tsp_gateway.specs.GateConfigs.{GateConfigValue}
 use Rattle.tsp_run.specs.Networks.{ports_on}
-use Rattle.tsp_networks.proofs.MemberLemmas.{ports_on-one}
+use Rattle.tsp_networks.proofs.MemberLemmas.{ports_on_one}
 use Rattle.tsp_world.proofs.setup.config_of.Goals as goal
 
 pub loop-net-preserved : goal.loop-net-preserved
@@ -21,7 +21,7 @@ loop-net-preserved c =
       strict = ap (λ (v : GateConfigValue). v.strict) is ∙ c.loop-net.invariant.strict;
       ports = ap (λ (v : GateConfigValue). v.ports ++ ports_on n rest) is
           ∙ append_assoc before (ports_on n (net ∷ [])) (ports_on n rest)
-          ∙ ap (λ l. before ++ l) (ports_on-one n net rest)
+          ∙ ap (λ l. before ++ l) (ports_on_one n net rest)
           ∙ ap (λ l. before ++ ports_on n l) (sym more)
           ∙ c.loop-net.invariant.ports;
     }

@@ -2,7 +2,7 @@
 use Rattle.std.proofs.Common.{sym, ◌∙◌, ap, subst, arith, ◌≡◌, suc, ◌+◌, ◌∷◌, [], ◌++◌, length, take, slice_index_or, refl}
 use Rattle.std.proofs.{Math.Seq.take-suc, lemmas.List.take_all}
 use Rattle.tsp_base.specs.Words.{Performs, for_each, others}
-use Rattle.tsp_base.proofs.{PerformsLemmas.Performs_nothing, PerformsLemmas.Performs_reading, RowLemmas.others-own}
+use Rattle.tsp_base.proofs.{PerformsLemmas.Performs_nothing, PerformsLemmas.Performs_reading, RowLemmas.others_own}
 use Rattle.tsp_rules.specs.{SendRows.begins, SendRows.begins_to_others, SendRows.others_at, Values.PeerId}
 use Rattle.tsp_acks.{proofs.ChangeLemmas.ChangesSends_then, proofs.SendingLemmas.Performs_begun_more, specs.Stands.StandsActing}
 use Rattle.tsp_acks.proofs.station.Station.begin_to_others.Goals.{then-p-self, else-p-self}
@@ -39,7 +39,7 @@ loop-place-preserved g c =
         });
       }
       | else-p-self w ↦ record {
-        row = rw (w.self-is, w.desk-is, more, others-own c.args.self.now.me.own p (take n peers) (w.if-p-self.false ∙ ap (λ i. i.own.0) inv.rest.me)) inv.row;
+        row = rw (w.self-is, w.desk-is, more, others_own c.args.self.now.me.own p (take n peers) (w.if-p-self.false ∙ ap (λ i. i.own.0) inv.rest.me)) inv.row;
         rest = rw w.self-is inv.rest;
         room = rw w.desk-is (record { spare = omega (arith, inv.room.spare); few = omega (arith, inv.room.few) });
       }

@@ -2,7 +2,7 @@
 use Rattle.std.proofs.Common.{◌≡◌, ◌≤◌, ap, subst, length, take, map, arith}
 use Rattle.std.proofs.lemmas.List.{take_all}
 use Rattle.tsp_base.{proofs.FrameLemmas.PutsAtMost_up, specs.Words.posts_to_others, specs.Words.post_of, specs.Words.others}
-use Rattle.tsp_acks.proofs.{PostLemmas.is_plain_once, StandsLemmas.Stands-posts}
+use Rattle.tsp_acks.proofs.{PostLemmas.is_plain_once, StandsLemmas.Stands_posts}
 use Rattle.tsp_acks.proofs.station.Station.post_to_others.Goals as goal
 
 pub returns-clause-row : goal.returns-clause-row
@@ -16,7 +16,7 @@ returns-clause-row g c x =
           rw e (rw all at c.loop-p.invariant.acts);
       stands = λ past s.
           let e : posts_to_others c.args.kind c.args.number x past ≡ map (post_of c.args.kind c.args.number st.me.name) (others st.me.own st.peers) = cc in
-          rw e (Stands-posts c.args.kind c.args.number st.me.name (others st.me.own st.peers) x past st (is_plain_once _ c.requires.plain) s);
+          rw e (Stands_posts c.args.kind c.args.number st.me.name (others st.me.own st.peers) x past st (is_plain_once _ c.requires.plain) s);
     }
 
 pub returns-clause-room : goal.returns-clause-room

@@ -1,4 +1,4 @@
-use Rattle.tsp_args.proofs.WordLemmas.{words-next}
+use Rattle.tsp_args.proofs.WordLemmas.{words_next}
 use Rattle.tsp_args.proofs.ports.Ports.next.Goals as goal
 
 pub returns-clause-words : goal.returns-clause-words
@@ -8,4 +8,4 @@ returns-clause-words c = rw (
   c.replace-last.ensures.after,
   c.new.ensures.items,
   ← c.self.view_is,
-) (words-next (λ v. v.items) c.self.inside.done.items c.self.inside.last)
+) (words_next (λ v. v.items) c.self.inside.done.items c.self.inside.last)

@@ -1,8 +1,8 @@
 use Rattle.std.proofs.Common.{◌≡◌, ◌+◌, ◌∷◌, ◌++◌, ◌∙◌, [], ℤ, List, rules, arith, sym, ap, subst, take, to_z, of_z}
 use Rattle.tsp_base.specs.Words.{Line}
 use Rattle.tsp_audit.specs.{Agreeing.AgreementIs, declared.agreement_tracker.AgreementTracker.AgreementTracker}
-use Rattle.tsp_audit.proofs.{AgreementSteps.agreement-next, SampleLemmas.history-length}
-use Rattle.tsp_history.{proofs.HistoryLemmas.history-more, proofs.NoteLemmas.told_take, specs.declared.line.HistoryLine.HistoryLine}
+use Rattle.tsp_audit.proofs.{AgreementSteps.agreement_next, SampleLemmas.history_length}
+use Rattle.tsp_history.{proofs.HistoryLemmas.history_more, proofs.NoteLemmas.told_take, specs.declared.line.HistoryLine.HistoryLine}
 use Rattle.std.{proofs.lemmas.List.get_or_default, specs.Int.w128}
 use Rattle.tsp_history.specs.Histories.{history_of, line_of}
 use Rattle.tsp_audit.proofs.agreement_tracker.AgreementTracker.note.Goals as goal
@@ -13,12 +13,12 @@ returns-clause-agreement c count spare is =
     let i = c.args.index in
     let noted : HistoryLine = c.index-lines-index.result in
     let h = history_of (take i lines) in
-    let more : history_of (take (i + 1) lines) ≡ line_of noted ∷ h = history-more lines i noted c.requires.below (sym c.index-lines-index.is) in
+    let more : history_of (take (i + 1) lines) ≡ line_of noted ∷ h = history_more lines i noted c.requires.below (sym c.index-lines-index.is) in
     let slice : c.as_slice.result.now ≡ c.args.self.now.trips.items = search rules in
     let tell = rw (← slice) at is.trips_tell in
     let same : to_z w128 (of_z w128 c.trip_of-trip.result) ≡ c.trip_of-trip.result = search rules in
     let trips = c.note_trip.ensures.items spare ∙ ap (λ (z : ℤ). c.args.self.now.trips.items ++ z ∷ []) (same ∙ c.trip_of-trip.ensures.trip) in
-    let last = c.newest-self.ensures h (sym (history-length lines i (omega (arith, c.requires.below)))) is.last_is in
+    let last = c.newest-self.ensures h (sym (history_length lines i (omega (arith, c.requires.below)))) is.last_is in
     let nodes = c.note_node.ensures.nodes more tell is.last_is is.nodes_are in
     let new : AgreementTracker = record {
       trips = c.note_trip.new.trips;
@@ -26,7 +26,7 @@ returns-clause-agreement c count spare is =
       nodes = c.note_node.new.nodes;
       settled = c.args.self.now.settled;
     } in
-    subst (λ (k : List Line). AgreementIs count k new) (sym more) (agreement-next count h (line_of noted) c.args.self.now new is trips last nodes
+    subst (λ (k : List Line). AgreementIs count k new) (sym more) (agreement_next count h (line_of noted) c.args.self.now new is trips last nodes
     c.note_node.ensures.many)
 
 pub trip_of-trip-requires-clause-told : goal.trip_of-trip-requires-clause-told

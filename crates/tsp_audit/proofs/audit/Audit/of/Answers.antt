@@ -1,7 +1,7 @@
 -- The audit stands for what was found of all events.
 use Rattle.std.proofs.Common.{◌≡◌, ◌∙◌, List, [], ap, length, refl, sym}
 use Rattle.tsp_audit.specs.{Remembered.RememberedStands, Verdicts.IsFoundOfAll}
-use Rattle.tsp_audit.proofs.ThroughLemmas.{dated-named, dated-timely}
+use Rattle.tsp_audit.proofs.ThroughLemmas.{dated_named, dated_timely}
 use Rattle.tsp_rules.specs.Values.{NodeLine}
 use Rattle.tsp_base.specs.Words.{HeaderValue}
 use Rattle.tsp_audit.proofs.audit.Audit.of.Goals as goal
@@ -16,8 +16,8 @@ returns-in-Ok-look_through c header told stand dated ends =
     record {
       claims_stand = stand;
       premises_are = refl;
-      timely = dated-timely header told dated;
+      timely = dated_timely header told dated;
       found = first.found_is;
-      named = dated-named (length header.nodes) told dated;
+      named = dated_named (length header.nodes) told dated;
       notes = first.notes_are;
     }

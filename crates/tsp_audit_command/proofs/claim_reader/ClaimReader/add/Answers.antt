@@ -3,11 +3,11 @@ use Rattle.std.proofs.Common.{◌≡◌, ◌<◌, ◌∙◌, ap, sym, subst, rul
 use Rattle.tsp_audit_command.specs.ClaimReaders.{FitsHere, lines_told, most_lines, told_more}
 use Rattle.tsp_audit_command.specs.Sound.{Sound, claims_on}
 use Rattle.tsp_claims.specs.Stands.{ClaimsStand}
-use Rattle.tsp_audit_command.proofs.SoundLemmas.{Sound-added, few-posts, view-added}
+use Rattle.tsp_audit_command.proofs.SoundLemmas.{Sound_added, few_posts, view_added}
 use Rattle.tsp_audit_command.proofs.claim_reader.ClaimReader.add.Goals as goal
 
 pub count-requires : goal.count-requires
-count-requires c = let i = c.self.inside in few-posts i.claims.header i.events.items i.claims i.ends.items i.pending.items i.premises c.self.invariant
+count-requires c = let i = c.self.inside in few_posts i.claims.header i.events.items i.claims i.ends.items i.pending.items i.premises c.self.invariant
 
 pub invariant_of-self-2 : goal.invariant_of-self-2
 invariant_of-self-2 c =
@@ -18,7 +18,7 @@ invariant_of-self-2 c =
     let stand : ClaimsStand i.claims.header (claims_on i.events.items i.ends.items i.claims) c.count.new.self =
     c.count.ensures.stand i.claims.header (claims_on i.events.items i.ends.items i.claims) c.self.invariant.stand in
     subst (λ h. Sound h i.events.items c.count.new.self i.ends.items c.push_reserved.new.self.items i.premises) (sym stand.header_is)
-    (Sound-added i.claims.header i.events.items i.claims i.ends.items i.pending.items i.premises c.self.invariant c.args.line c.push_reserved.new.self.items
+    (Sound_added i.claims.header i.events.items i.claims i.ends.items i.pending.items i.premises c.self.invariant c.args.line c.push_reserved.new.self.items
     c.count.new.self stand
     (subst (λ v. FitsHere v c.args.line) (sym c.self.view_is) yes)
     (subst (λ v. lines_told v < most_lines) (sym c.self.view_is) room)
@@ -32,6 +32,6 @@ returns c =
     let more_is : c.push_reserved.new.self.items ≡ i.pending.items ++ c.args.line ∷ [] = search rules in
     let stand : ClaimsStand i.claims.header (claims_on i.events.items i.ends.items i.claims) c.count.new.self =
     c.count.ensures.stand i.claims.header (claims_on i.events.items i.ends.items i.claims) c.self.invariant.stand in
-    let added = view-added i.claims.header i.events.items i.claims i.ends.items i.pending.items i.premises c.self.invariant c.args.line
+    let added = view_added i.claims.header i.events.items i.claims i.ends.items i.pending.items i.premises c.self.invariant c.args.line
     c.push_reserved.new.self.items c.count.new.self stand more_is in
     (yes, room, added ∙ ap (λ v. told_more v c.args.line) c.self.view_is)

@@ -1,6 +1,6 @@
 -- One event is passed, or it can't be.
 use Rattle.std.proofs.Common.{◌≡◌, ◌+◌, ◌-◌, ◌∙◌, ap, sym, arith, suc}
-use Rattle.tsp_audit_command.{proofs.PassLemmas.Unpassed-more, proofs.PassLemmas.passes-next, specs.ClaimReaders.passes}
+use Rattle.tsp_audit_command.{proofs.PassLemmas.Unpassed-more, proofs.PassLemmas.passes_next, specs.ClaimReaders.passes}
 use Rattle.tsp_audit_command.proofs.claim_reader.ClaimReader.pass.Goals as goal
 
 pub returns-in-Err : goal.returns-in-Err
@@ -11,5 +11,5 @@ returns-in-Err c =
 pub loop-preserved : goal.loop-preserved
 loop-preserved c =
     let left : suc (c.args.count - (c.loop.counter + 1)) ≡ c.args.count - c.loop.counter = omega arith in
-    sym (passes-next (c.args.count - (c.loop.counter + 1)) c.loop.self c.pass_one.new.self c.in-Ok.ensures) ∙
+    sym (passes_next (c.args.count - (c.loop.counter + 1)) c.loop.self c.pass_one.new.self c.in-Ok.ensures) ∙
     (ap (λ n. passes n c.loop.self) left ∙ c.loop.invariant)

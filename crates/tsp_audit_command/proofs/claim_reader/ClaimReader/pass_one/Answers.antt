@@ -5,8 +5,8 @@ use Rattle.tsp_audit.specs.Premised.{kept_with}
 use Rattle.tsp_base.specs.Words.{Line}
 use Rattle.tsp_audit_command.specs.{ClaimReaders.pass_one, Sound.Sound, Sound.claims_on}
 use Rattle.tsp_claims.specs.{ClaimedHistory.posts_of, Fitting.Fit, Fitting.lacks, Fitting.untold, Stands.ClaimsStand, Stands.claim_of}
-use Rattle.tsp_audit_command.proofs.SoundLemmas.{Sound-kept, Sound-passed, at-fit, at-listed, few-passed, got-at, view-passed}
-use Rattle.tsp_history.proofs.NoteLemmas.{length-history}
+use Rattle.tsp_audit_command.proofs.SoundLemmas.{Sound_kept, Sound-passed, at-fit, at-listed, few_passed, got_at, view-passed}
+use Rattle.tsp_history.proofs.NoteLemmas.{length_history}
 use Rattle.tsp_audit_command.proofs.claim_reader.ClaimReader.pass_one.Goals.{After-clear, After-event-e}
 use Rattle.tsp_audit_command.proofs.claim_reader.ClaimReader.pass_one.Goals as goal
 
@@ -14,7 +14,7 @@ use Rattle.tsp_audit_command.proofs.claim_reader.ClaimReader.pass_one.Goals as g
 at_hand : (c : After-event-e) → slice_get c.self.inside.events.items (length c.self.inside.ends.items) ≡ Some c.event-e.result
 at_hand c =
     let i = c.self.inside in
-    got-at c.deref.result.now i.events.items c.len-at.result (length i.ends.items) c.in-Some.e.now c.deref.ensures.value (search rules)
+    got_at c.deref.result.now i.events.items c.len-at.result (length i.ends.items) c.in-Some.e.now c.deref.ensures.value (search rules)
     c.in-Some.ensures.lookup.3.0 c.in-Some.ensures.lookup.1 ∙ ap Some (sym c.event-e.ensures)
 
 -- the claims stand for it too
@@ -46,7 +46,7 @@ pub add-requires-clause-events : goal.add-requires-clause-events
 add-requires-clause-events c =
     let i = c.self.inside in
     let at = at_hand (goal.at.add-requires-clause-events c).After-event-e in
-    few-passed i.claims.header i.events.items i.claims i.ends.items i.pending.items i.premises c.self.invariant
+    few_passed i.claims.header i.events.items i.claims i.ends.items i.pending.items i.premises c.self.invariant
     (slice_get_within i.events.items (length i.ends.items) c.event-e.result at)
 
 pub add-requires-clause-fit : goal.add-requires-clause-fit
@@ -67,7 +67,7 @@ invariant_of-self-2 c =
     let passed = claims_on i.events.items i.ends.items i.claims in
     let none : lacks e i.claims.tally ≡ false = sym c.lacks.ensures ∙ c.if-lacks.false in
     let more_is : c.push_reserved.new.self.items ≡ i.ends.items ++ (length c.lines.result.now) ∷ [] = search rules in
-    let n_is = sym (length-history c.lines.result.now) ∙ ap (λ (h : List Line). length h) (c.lines.ensures.lines i.claims.header _ stand) in
+    let n_is = sym (length_history c.lines.result.now) ∙ ap (λ (h : List Line). length h) (c.lines.ensures.lines i.claims.header _ stand) in
     let kept_is : c.keep_with-premises.result ≡ kept_with i.premises (reverse (take (length i.ends.items) i.events.items)) (posts_of i.claims.header passed) e =
     (let len : c.len-at.result ≡ length i.ends.items = search rules in
     c.keep_with-premises.ensures ∙ (ap (λ n. kept_with i.premises (reverse (take n c.deref-2.result.now)) c.posts.result.now e) len
@@ -100,4 +100,4 @@ invariant_of-self-then-is_err-2 c =
     let same : c.add.new.self.tally ≡ i.claims.tally = search rules in
     subst (λ (t : List ℕ). Sound c.add.new.self.header i.events.items c.add.new.self t i.pending.items i.premises) (sym ends)
     (subst (λ h. Sound h i.events.items c.add.new.self i.ends.items i.pending.items i.premises) (sym stand.header_is)
-    (Sound-kept i.claims.header i.events.items i.claims i.ends.items i.pending.items i.premises c.self.invariant c.add.new.self stand same))
+    (Sound_kept i.claims.header i.events.items i.claims i.ends.items i.pending.items i.premises c.self.invariant c.add.new.self stand same))

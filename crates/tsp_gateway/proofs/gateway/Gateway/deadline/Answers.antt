@@ -3,7 +3,7 @@ use Rattle.std.proofs.Common.{sym, ◌∙◌, ap, refl, arith, subst, inl, inr, 
 use Rattle.std.proofs.lemmas.{List.length-append, Option.slice_get-get_or}
 use Rattle.tsp_base.specs.Words.{earlier}
 use Rattle.tsp_node.specs.{Dues.IsPartDue, NodeStands.due_of, declared.part.Part.Part}
-use Rattle.tsp_gateway.proofs.DueLemmas.{get-append, least_of-append}
+use Rattle.tsp_gateway.proofs.DueLemmas.{get_append, least_of_append}
 use Rattle.tsp_gateway.proofs.gateway.Gateway.deadline.Goals as goal
 
 pub loop-part-preserved : goal.loop-part-preserved
@@ -12,7 +12,7 @@ loop-part-preserved c =
     let d = c.due.result in (
       before.0 ++ d ∷ [],
       rw (length-append, before.1) refl,
-      (λ q due there. elim (get-append before.0 d due q there) [
+      (λ q due there. elim (get_append before.0 d due q there) [
         | inl h ↦ before.2 q due h
         | inr h ↦ (
           c.part-item.result,
@@ -21,7 +21,7 @@ loop-part-preserved c =
           subst (λ (o : Option ℕ). IsPartDue c.part-item.result o) h.1 c.due.ensures,
         )
       ]),
-      c.earlier-due.ensures ∙ (ap (λ (o : Option ℕ). earlier o d) before.3 ∙ sym (least_of-append before.0 d)),
+      c.earlier-due.ensures ∙ (ap (λ (o : Option ℕ). earlier o d) before.3 ∙ sym (least_of_append before.0 d)),
     )
 
 pub returns-in-Some : goal.returns-in-Some

@@ -1,8 +1,8 @@
 -- What the ports keep is what their pasts say.
-use Rattle.tsp_gateway.proofs.DueLemmas.{IsNodeDue-of}
+use Rattle.tsp_gateway.proofs.DueLemmas.{IsNodeDue_of}
 use Rattle.tsp_gateway.proofs.gateway.Gateway.due.Goals as goal
 
 pub returns : goal.returns
 returns c = record {
-  past = λ past s. IsNodeDue-of past c.args.self.now c.deadline.result s c.deadline.ensures;
+  past = λ past s. IsNodeDue_of past c.args.self.now c.deadline.result s c.deadline.ensures;
 }

@@ -2,7 +2,7 @@
 use Rattle.std.proofs.Common.{◌≡◌, ◌∙◌, ap, arith, sym, length, rules, vec_len, Option}
 use Rattle.tsp_rules.specs.{NodeRows.NodePast, Values.PeerId}
 use Rattle.tsp_gateway.specs.{GatewayStands.GatewayStands, Standings.followed, Standings.followed_on, Standings.master_of, Standings.or_else}
-use Rattle.tsp_gateway.proofs.{AnyLemmas.places, AnyLemmas.station_there, ReadingLemmas.followed-end, ReadingLemmas.followed-step}
+use Rattle.tsp_gateway.proofs.{AnyLemmas.places, AnyLemmas.station_there, ReadingLemmas.followed_end, ReadingLemmas.followed_step}
 use Rattle.tsp_gateway.proofs.gateway.Gateway.followed.Goals.{After-master_of}
 use Rattle.tsp_rules.specs.GateRows.{ports_from}
 use Rattle.std.specs.Prelude.{drop, ◌+◌, ◌<◌}
@@ -24,7 +24,7 @@ here c past h =
     let s = station_there past g c.loop-q.q c.index.result.now c.station.result.now within c.index.ensures c.station.ensures h in
     let inside : c.loop-q.q < length past.ports = omega (arith, len, end, many, c.loop-q-test.true) in
     c.loop-q.invariant past h
-    ∙ followed-step past past.ports c.loop-q.q c.loop-q.q (c.loop-q.q + 1) inside (omega arith)
+    ∙ followed_step past past.ports c.loop-q.q c.loop-q.q (c.loop-q.q + 1) inside (omega arith)
     ∙ ap (λ (o : Option PeerId). or_else o (later c past)) (sym (ap master_of s.role) ∙ sym c.master_of.ensures)
 
 pub returns-in-Some : goal.returns-in-Some
@@ -42,4 +42,4 @@ returns c past h =
     let len : vec_len c.args.self.now.ports ≡ length c.args.self.now.ports.items = search rules in
     let end = c.len-q-end.ensures in
     let many = h.many in
-    sym (c.loop-q.invariant past h ∙ followed-end past past.ports c.loop-q.q c.loop-q.q (omega (arith, len, end, many, c.loop-q-test.false)))
+    sym (c.loop-q.invariant past h ∙ followed_end past past.ports c.loop-q.q c.loop-q.q (omega (arith, len, end, many, c.loop-q-test.false)))

@@ -3,7 +3,7 @@ use Rattle.std.proofs.Common.{◌≡◌, ◌+◌, ◌≤◌, arith, refl, ◌∙
 use Rattle.tsp_rules.{proofs.NodeRowLemmas.All_then, specs.GateRows.alarms_on, specs.Values.Quiet, specs.Values.ALL}
 use Rattle.tsp_node.proofs.AlarmCases.{close_after_probe}
 use Rattle.tsp_gateway.specs.{Rooms.alarm_room, Rooms.alarms_room, Rooms.peers_at, Rooms.ports_in, GatewayStands.port_at}
-use Rattle.tsp_gateway.proofs.AlarmsLemmas.{alarms_room-front, alarms_room-next, all_on-alarms, drop_all, drop_next, nothing_left}
+use Rattle.tsp_gateway.proofs.AlarmsLemmas.{alarms_room_front, alarms_room_next, all_on_alarms, drop_all, drop_next, nothing_left}
 use Rattle.tsp_gateway.proofs.LiftLemmas.{All_same}
 use Rattle.tsp_gateway.proofs.gateway.Gateway.ring_alarms.Goals as goal
 
@@ -24,8 +24,8 @@ ring_alarm-requires-clause-room g c =
     let same : alarm_room (slice_index_or ALL c.loop-alarm.alarm-index Quiet) (peers_at c.args.q (ports_in c.loop-alarm.self)) ≡
     alarm_room (slice_index_or ALL c.loop-alarm.alarm-index Quiet) (peers_at c.args.q (ports_in c.args.self.now)) =
     ap (λ ps. alarm_room alarm (peers_at c.args.q ps)) inv.ports in
-    let front = alarms_room-front ALL (c.loop-alarm.alarm-index + 1) (peers_at c.args.q (ports_in c.args.self.now)) in
-    let more = alarms_room-next c.loop-alarm.alarm-index (peers_at c.args.q (ports_in c.args.self.now)) c.loop-alarm-test.true in
+    let front = alarms_room_front ALL (c.loop-alarm.alarm-index + 1) (peers_at c.args.q (ports_in c.args.self.now)) in
+    let more = alarms_room_next c.loop-alarm.alarm-index (peers_at c.args.q (ports_in c.args.self.now)) c.loop-alarm-test.true in
     omega (arith, same, front, more, inv.room.spare, c.requires.room)
 
 pub ring_alarm-requires-clause-order : goal.ring_alarm-requires-clause-order
@@ -41,7 +41,7 @@ loop-alarm-preserved g c =
     let same : alarm_room (slice_index_or ALL c.loop-alarm.alarm-index Quiet) (peers_at c.args.q (ports_in c.loop-alarm.self)) ≡
     alarm_room (slice_index_or ALL c.loop-alarm.alarm-index Quiet) (peers_at c.args.q (ports_in c.args.self.now)) =
     ap (λ ps. alarm_room alarm (peers_at c.args.q ps)) inv.ports in
-    let more = alarms_room-next c.loop-alarm.alarm-index (peers_at c.args.q (ports_in c.args.self.now)) c.loop-alarm-test.true in
+    let more = alarms_room_next c.loop-alarm.alarm-index (peers_at c.args.q (ports_in c.args.self.now)) c.loop-alarm-test.true in
     record {
       row = λ last new d. inv.row last new (rw (drop_next ALL i Quiet c.loop-alarm-test.true) (All_then ring.row d));
       probe = λ e part is. ring.over (close_after_probe i e) part is;
@@ -54,12 +54,12 @@ pub returns-clause-row : goal.returns-clause-row
 returns-clause-row g c =
     let none : drop c.loop-alarm.alarm-index ALL ≡ [] = drop_all c.loop-alarm.alarm-index ALL c.loop-alarm-test.false in
     let left = c.loop-alarm.invariant.row c.loop-alarm.self (g.D.Desk.acts c.loop-alarm.desk) in
-    All_same (alarms_on (port_at c.args.q)) (λ past h. all_on-alarms (port_at c.args.q) c.args.tick past) (left (rw none (nothing_left (port_at c.args.q))))
+    All_same (alarms_on (port_at c.args.q)) (λ past h. all_on_alarms (port_at c.args.q) c.args.tick past) (left (rw none (nothing_left (port_at c.args.q))))
 
 pub returns-clause-room : goal.returns-clause-room
 returns-clause-room g c =
     let inv = c.loop-alarm.invariant in
     let peers = peers_at c.args.q (ports_in c.args.self.now) in
     let front : alarms_room (take c.loop-alarm.alarm-index ALL) (peers_at c.args.q (ports_in c.args.self.now)) ≤ alarms_room ALL
-    (peers_at c.args.q (ports_in c.args.self.now)) = alarms_room-front ALL c.loop-alarm.alarm-index (peers_at c.args.q (ports_in c.args.self.now)) in
+    (peers_at c.args.q (ports_in c.args.self.now)) = alarms_room_front ALL c.loop-alarm.alarm-index (peers_at c.args.q (ports_in c.args.self.now)) in
     record { spare = omega (arith, front, inv.room.spare); few = omega (arith, front, inv.room.few) }

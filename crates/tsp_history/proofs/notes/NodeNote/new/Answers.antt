@@ -1,4 +1,4 @@
-use Rattle.tsp_history.proofs.SpacingLemmas.{spaced-none}
+use Rattle.tsp_history.proofs.SpacingLemmas.{spaced_none}
 use Rattle.tsp_history.proofs.notes.NodeNote.new.Goals as goal
 
 pub returns : goal.returns
@@ -6,5 +6,5 @@ returns c n = record {
   clock = c.new.ensures.keeps n;
   small = c.new.ensures.bounded;
   counts = c.new-2.ensures n;
-  spaced = spaced-none n;
+  spaced = spaced_none n;
 }

@@ -1,5 +1,5 @@
 use Rattle.std.proofs.Common.{◌≡◌, ap, arith, length, refl}
-use Rattle.tsp_lines.proofs.{Feeds.filled, Feeds.no_octets, Leaving.Counts-from}
+use Rattle.tsp_lines.proofs.{Feeds.filled, Feeds.no_octets, Leaving.Counts_from}
 use Rattle.tsp_lines.proofs.reader.LineReader.fill.Goals as goal
 
 pub returns-in-Got-eq0-clause-fills : goal.returns-in-Got-eq0-clause-fills
@@ -43,10 +43,10 @@ returns-in-Failed-clause-fills g c =
     )
 
 pub returns-in-Got-eq0-clause-faults : goal.returns-in-Got-eq0-clause-faults
-returns-in-Got-eq0-clause-faults g c = Counts-from _ _ _ _ _ refl (λ f. cc) (λ f. cc) c.in-Got-eq0.ensures.faults
+returns-in-Got-eq0-clause-faults g c = Counts_from _ _ _ _ _ refl (λ f. cc) (λ f. cc) c.in-Got-eq0.ensures.faults
 
 pub returns-in-Got-clause-faults : goal.returns-in-Got-clause-faults
-returns-in-Got-clause-faults g c = Counts-from _ _ _ _ _ refl (λ f. cc) (λ f. cc) c.in-Got.ensures.faults
+returns-in-Got-clause-faults g c = Counts_from _ _ _ _ _ refl (λ f. cc) (λ f. cc) c.in-Got.ensures.faults
 
 pub returns-in-Failed-clause-faults : goal.returns-in-Failed-clause-faults
-returns-in-Failed-clause-faults g c = Counts-from _ _ _ _ _ refl (λ f. refl) (λ f. refl) c.in-Failed.ensures.faults
+returns-in-Failed-clause-faults g c = Counts_from _ _ _ _ _ refl (λ f. refl) (λ f. refl) c.in-Failed.ensures.faults

@@ -1,7 +1,7 @@
 use Rattle.std.proofs.Common.{◌≡◌, [], ◌++◌, length, ℕ, List, arith, ◌∙◌, ap, append-nil, append_assoc, length-append, refl, subst, sym}
 use Rattle.tsp_lines.specs.{Lines.NoFeed, Readings.IsNext}
-use Rattle.tsp_lines.proofs.Passes.{next_more, over_not_failed, More-NotRead, Over-NotRead}
-use Rattle.tsp_lines.proofs.{Leaving.Counts-from, Leaving.Counts-same, Outputs.Gives-nil, Outputs.Gives-trans}
+use Rattle.tsp_lines.proofs.Passes.{next_more, over_not_failed, More_NotRead, Over_NotRead}
+use Rattle.tsp_lines.proofs.{Leaving.Counts_from, Leaving.Counts_same, Outputs.Gives_nil, Outputs.Gives_trans}
 use Rattle.tsp_lines.proofs.reader.LineReader.next.Goals as goal
 
 pub returns-then-held-gt-LONGEST : goal.returns-then-held-gt-LONGEST
@@ -12,7 +12,7 @@ returns-then-held-gt-LONGEST g c =
     let n = c.in_default.ensures in record {
       next = next_more _ _ _ _ _ _ _ _ _ _ i.0.1 (n.next.1 ∙ i.0.3) p.1 (omega (arith, i.0.2, p.2, n.same.0)) p.3;
       limit = (e.limit.0 ∙ n.same.1 ∙ i.1, e.limit.1);
-      faults = Counts-from _ _ _ _ _ i.3 (λ f. f) (λ f. f) e.faults;
+      faults = Counts_from _ _ _ _ _ i.3 (λ f. f) (λ f. f) e.faults;
       over = e.over;
       ended = e.ended;
     }
@@ -23,13 +23,13 @@ returns-in-Some g c =
     let e = c.in-Some.ensures in record {
       next = (i.0.0, i.0.1, e.same.0 ∙ i.0.2, subst (λ held. IsNext c.next_held.new.self held c.in-Some.next) i.0.3 e.next.0);
       limit = (e.same.1 ∙ i.1, e.same.2);
-      faults = Counts-same _ _ _ i.3 e.next.2;
+      faults = Counts_same _ _ _ i.3 e.next.2;
       over = λ o. let q = sym e.next.1 ∙ o in cc;
       ended = i.2 ∙ sym e.next.1;
     }
 
 pub loop-next-init : goal.loop-next-init
-loop-next-init g c = (([], Gives-nil _, omega arith, sym (append-nil _)), refl, c.requires.open, refl)
+loop-next-init g c = (([], Gives_nil _, omega arith, sym (append-nil _)), refl, c.requires.open, refl)
 
 pub loop-next-preserved : goal.loop-next-preserved
 loop-next-preserved g c =
@@ -39,13 +39,13 @@ loop-next-preserved g c =
     let f = e.fills in (
       (
         i.0.0 ++ f.0,
-        Gives-trans _ _ _ i.0.0 f.0 i.0.1 f.1,
+        Gives_trans _ _ _ i.0.0 f.0 i.0.1 f.1,
         omega (arith, i.0.2, n.same.0, f.3, length-append i.0.0 f.0),
         f.2 ∙ ap (λ (held : List ℕ). held ++ f.0) (n.next.1 ∙ i.0.3) ∙ append_assoc _ i.0.0 f.0,
       ),
       e.limit.0 ∙ n.same.1 ∙ i.1,
       e.ended ∙ i.2,
-      e.faults.still More-NotRead ∙ i.3,
+      e.faults.still More_NotRead ∙ i.3,
     )
 
 pub returns-in-Over : goal.returns-in-Over
@@ -59,12 +59,12 @@ returns-in-Over g c =
     append_assoc _ i.0.0 f.0 in record {
       next = (
         i.0.0 ++ f.0,
-        Gives-trans _ _ _ i.0.0 f.0 i.0.1 f.1,
+        Gives_trans _ _ _ i.0.0 f.0 i.0.1 f.1,
         omega (arith, i.0.2, n.same.0, f.3, l.same.0, length-append i.0.0 f.0),
         subst (λ held. IsNext c.last.new.self held c.last.result) held l.next,
       );
       limit = (l.same.1 ∙ e.limit.0 ∙ n.same.1 ∙ i.1, omega (arith, l.same.0, l.same.1, e.limit.1));
-      faults = Counts-same _ _ _ (e.faults.still Over-NotRead ∙ i.3) (over_not_failed _ l.same.2);
+      faults = Counts_same _ _ _ (e.faults.still Over_NotRead ∙ i.3) (over_not_failed _ l.same.2);
       over = λ o. e.over refl;
       ended = e.ended ∙ sym l.same.2;
     }
@@ -78,7 +78,7 @@ returns-in-NotRead g c =
     let none : f.0 ≡ [] = f.4 in record {
       next = (
         i.0.0 ++ f.0,
-        Gives-trans _ _ _ i.0.0 f.0 i.0.1 f.1,
+        Gives_trans _ _ _ i.0.0 f.0 i.0.1 f.1,
         omega (arith, i.0.2, n.same.0, f.3, length-append i.0.0 f.0),
         (
           subst NoFeed (i.0.3 ∙ ap (λ (octets : List ℕ). c.args.self.now.held ++ octets) (sym (append-nil i.0.0) ∙
@@ -87,7 +87,7 @@ returns-in-NotRead g c =
         ),
       );
       limit = (e.limit.0 ∙ n.same.1 ∙ i.1, e.limit.1);
-      faults = Counts-from _ _ _ _ _ i.3 (λ f. refl) (λ f. refl) e.faults;
+      faults = Counts_from _ _ _ _ _ i.3 (λ f. refl) (λ f. refl) e.faults;
       over = λ o. absurd (over_not_failed _ o refl);
       ended = e.ended ∙ i.2;
     }

@@ -1,6 +1,6 @@
 use Rattle.std.proofs.Common.{◌≡◌, ◌<◌, ◌≤◌, ◌+◌, ap, sym, arith, length, refl, take, slice_range}
-use Rattle.tsp_lines.proofs.{reader.LineReader.next_held.Goals.then-self, reader.LineReader.next_held.Goals.else-self, Passes.Limit-Failed}
-use Rattle.tsp_lines.{proofs.Feeds.NoFeed-end, proofs.Feeds.some_held, proofs.Feeds.last_feed, proofs.Feeds.held_length, specs.Lines.NoFeed}
+use Rattle.tsp_lines.proofs.{reader.LineReader.next_held.Goals.then-self, reader.LineReader.next_held.Goals.else-self, Passes.Limit_Failed}
+use Rattle.tsp_lines.{proofs.Feeds.NoFeed_end, proofs.Feeds.some_held, proofs.Feeds.last_feed, proofs.Feeds.held_length, specs.Lines.NoFeed}
 use Rattle.tsp_lines.proofs.reader.LineReader.next_held.Goals as goal
 
 pub returns-in_default-clause-next : goal.returns-in_default-clause-next
@@ -13,7 +13,7 @@ returns-in_default-clause-next c =
       | then-self w ↦
           let some : 0 < length c.args.self.now.held = rw (sym held) (some_held c.self.inside.buf.items c.self.inside.at c.self.inside.end
           (c.self.invariant.6 w.if-self.true) (omega (arith, c.self.invariant.0, c.self.invariant.4, c.self.inside.buf.ok.0))) in
-          rw w.result-is ((omega (arith, got, limit, w.if-self.true, c.self.invariant.5), NoFeed-end _ some none), refl, Limit-Failed)
+          rw w.result-is ((omega (arith, got, limit, w.if-self.true, c.self.invariant.5), NoFeed_end _ some none), refl, Limit_Failed)
       | else-self w ↦ rw w.result-is (none, refl, omega (arith, got, limit, w.if-self.false))
     ]
 
@@ -39,7 +39,7 @@ returns-then-self-place-clause-next c =
         ),
       ),
       refl,
-      Limit-Failed,
+      Limit_Failed,
     )
 
 pub returns-clause-next : goal.returns-clause-next

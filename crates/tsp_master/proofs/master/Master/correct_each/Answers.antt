@@ -7,8 +7,8 @@ use Rattle.tsp_base.proofs.{FrameLemmas.PutsAtMost_up, PerformsLemmas.Performs_e
 use Rattle.tsp_rules.specs.{RoundRows.corrects_peer, Values.PeerId}
 use Rattle.tsp_measure.specs.{Slaves.entry_of, Slaves.peers_of, declared.entry.Entry.Entry}
 use Rattle.tsp_master.specs.Closing.{standing_with, standings_of}
-use Rattle.tsp_master.proofs.{AskLemmas.take-more, master.Master.correct_each.Goals.then-entry, master.Master.correct_each.Goals.else-entry}
-use Rattle.tsp_master.proofs.CloseLemmas.{corrects_with, later-same, standings-more, standings-past}
+use Rattle.tsp_master.proofs.{AskLemmas.take_more, master.Master.correct_each.Goals.then-entry, master.Master.correct_each.Goals.else-entry}
+use Rattle.tsp_master.proofs.CloseLemmas.{corrects_with, later_same, standings_more, standings_past}
 use Rattle.tsp_master.proofs.master.Master.correct_each.Goals as goal
 
 pub loop-place-init : goal.loop-place-init
@@ -38,17 +38,17 @@ loop-place-preserved g c =
     let kept = inv.later n p (omega arith) inside in
     let entry : entry_of es p ≡ c.at-entry.result = ap (entry_of es) (sym here) ∙ sym kept ∙ ap (entry_of c.loop-place.self.slaves) here ∙
     c.at-entry.ensures.entry in
-    let more : take (n + 1) ps ≡ take n ps ++ p ∷ [] = take-more ps n p inside here in
+    let more : take (n + 1) ps ≡ take n ps ++ p ∷ [] = take_more ps n p inside here in
     elim c.if-entry.branch [
       | then-entry w ↦
           let marked : (entry_of es p).measured ≡ true = ap (λ (e : Entry). e.measured) entry ∙ w.if-entry.true in
           record {
-            row = rw (w.self-is, w.station-is, w.desk-is, more, standings-more es v (take n ps) p marked)
+            row = rw (w.self-is, w.station-is, w.desk-is, more, standings_more es v (take n ps) p marked)
                 (Performs_each_more (corrects_peer mean) (standings_of es v (take n ps)) (standing_with v p) inv.row
                 (corrects_with mean p inv.rounds w.correct_peer.ensures.row));
             peers = rw w.self-is (w.correct_peer.ensures.only.peers ∙ inv.peers);
             rounds = rw w.self-is (w.correct_peer.ensures.only.rounds ∙ inv.rounds);
-            later = rw w.self-is (later-same ps n p es _ _ up.ascending here w.correct_peer.ensures.only.others inv.later);
+            later = rw w.self-is (later_same ps n p es _ _ up.ascending here w.correct_peer.ensures.only.others inv.later);
             port = rw w.station-is (record { me = w.correct_peer.ensures.port.me ∙ inv.port.me; peers = w.correct_peer.ensures.port.peers ∙ inv.port.peers });
             room = rw w.desk-is (record {
               spare = omega (arith, inv.room.spare, w.correct_peer.ensures.room.spare);
@@ -58,7 +58,7 @@ loop-place-preserved g c =
       | else-entry w ↦
           let unmarked : (entry_of es p).measured ≡ false = ap (λ (e : Entry). e.measured) entry ∙ w.if-entry.false in
           record {
-            row = rw (w.self-is, w.station-is, w.desk-is, more, standings-past es v (take n ps) p unmarked) inv.row;
+            row = rw (w.self-is, w.station-is, w.desk-is, more, standings_past es v (take n ps) p unmarked) inv.row;
             peers = rw w.self-is inv.peers;
             rounds = rw w.self-is inv.rounds;
             later = rw w.self-is (λ k d low high. inv.later k d (omega arith) high);

@@ -4,8 +4,8 @@ use Rattle.tsp_base.{proofs.PerformsLemmas.Performs_nothing, proofs.PerformsLemm
 use Rattle.tsp_rules.specs.Guards.{is_over}
 use Rattle.tsp_measure.specs.Slaves.{peers_of}
 use Rattle.tsp_master.specs.MasterAlarms.{master_rings}
-use Rattle.tsp_master.proofs.{CloseLemmas.goes_where, LeadLemmas.rings_stand, RingCases.master_rings-other, RingCases.nothing-corrects}
-use Rattle.tsp_master.proofs.{RoomLemmas.doubled, SinceLemmas.since_correct, StillLemmas.probe-corrects, StillLemmas.round-corrects}
+use Rattle.tsp_master.proofs.{CloseLemmas.goes_where, LeadLemmas.rings_stand, RingCases.master_rings_other, RingCases.nothing_corrects}
+use Rattle.tsp_master.proofs.{RoomLemmas.doubled, SinceLemmas.since_correct, StillLemmas.probe_corrects, StillLemmas.round_corrects}
 use Rattle.tsp_master.proofs.master.Master.ring.Goals as goal
 
 pub returns-in-Probe-clause-row : goal.returns-in-Probe-clause-row
@@ -14,7 +14,7 @@ returns-in-Probe-clause-row g c turn = rw c.in-Probe.is (Performs_to (λ past h.
 
 pub returns-in-Probe-clause-corrects : goal.returns-in-Probe-clause-corrects
 unfolding master_rings
-returns-in-Probe-clause-corrects g c turn past h = rw c.in-Probe.is (sym (probe-corrects c.args.tick past))
+returns-in-Probe-clause-corrects g c turn past h = rw c.in-Probe.is (sym (probe_corrects c.args.tick past))
 
 pub returns-in-Close-clause-row : goal.returns-in-Close-clause-row
 unfolding master_rings
@@ -30,15 +30,15 @@ returns-in-Round-clause-row g c turn = rw c.in-Round.is (Performs_to (λ past h.
 
 pub returns-in-Round-clause-corrects : goal.returns-in-Round-clause-corrects
 unfolding master_rings
-returns-in-Round-clause-corrects g c turn past h = rw c.in-Round.is (sym (round-corrects c.args.tick past))
+returns-in-Round-clause-corrects g c turn past h = rw c.in-Round.is (sym (round_corrects c.args.tick past))
 
 pub returns-in_default-clause-row : goal.returns-in_default-clause-row
-returns-in_default-clause-row g c turn = rw (master_rings-other c.args.group_mean _ c.in_default.not-Probe c.in_default.not-Close c.in_default.not-Round)
+returns-in_default-clause-row g c turn = rw (master_rings_other c.args.group_mean _ c.in_default.not-Probe c.in_default.not-Close c.in_default.not-Round)
     Performs_nothing
 
 pub returns-in_default-clause-corrects : goal.returns-in_default-clause-corrects
-returns-in_default-clause-corrects g c turn past h = rw (master_rings-other c.args.group_mean _ c.in_default.not-Probe c.in_default.not-Close
-    c.in_default.not-Round) (nothing-corrects c.args.tick past)
+returns-in_default-clause-corrects g c turn past h = rw (master_rings_other c.args.group_mean _ c.in_default.not-Probe c.in_default.not-Close
+    c.in_default.not-Round) (nothing_corrects c.args.tick past)
 
 pub returns-in-Close-clause-recent : goal.returns-in-Close-clause-recent
 returns-in-Close-clause-recent g c e past h alone p s b =

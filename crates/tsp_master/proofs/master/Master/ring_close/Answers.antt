@@ -6,7 +6,7 @@ use Rattle.tsp_rules.specs.RoundRows.{abandons, close_act, closes_with, corrects
 use Rattle.tsp_rules.{proofs.Emits.Emits_puts, specs.ClockRows.can_adjust, specs.Guards.is_clock_value, specs.Values.Close}
 use Rattle.tsp_clock.specs.Clocks.{target_of}
 use Rattle.tsp_measure.specs.Slaves.{peers_of}
-use Rattle.tsp_master.proofs.CloseCases.{Performs_abandons, Performs_late_close, Performs_timely_close, can_adjust-is, corrects-late, corrects-timely}
+use Rattle.tsp_master.proofs.CloseCases.{Performs_abandons, Performs_late_close, Performs_timely_close, can_adjust_is, corrects_late, corrects_timely}
 use Rattle.tsp_master.proofs.{CloseLemmas.each_same, LeadLemmas.Performs_idle, LeadLemmas.Performs_quiet}
 use Rattle.tsp_master.{proofs.RoomLemmas.once_then, proofs.RoomLemmas.put_then, proofs.RoomLemmas.twice, specs.Closing.round_of}
 use Rattle.tsp_master.proofs.master.Master.ring_close.Goals as goal
@@ -18,7 +18,7 @@ returns-then-not-is_in_time-clause-row g c order =
     c.if-not-is_in_time.true) (c.late.ensures.row c.args.at.tick) (c.abandon.ensures.row c.args.at.tick)
 
 pub returns-then-not-is_in_time-clause-corrects : goal.returns-then-not-is_in_time-clause-corrects
-returns-then-not-is_in_time-clause-corrects g c order past h = sym (corrects-late c.args.own c.args.at.tick past c.args.station.now h.station
+returns-then-not-is_in_time-clause-corrects g c order past h = sym (corrects_late c.args.own c.args.at.tick past c.args.station.now h.station
     (sym c.is_in_time.ensures ∙ c.if-not-is_in_time.true))
 
 pub returns-then-not-can_adjust-clause-row : goal.returns-then-not-can_adjust-clause-row
@@ -38,7 +38,7 @@ returns-then-not-can_adjust-clause-row g c order =
     (c.ring.ensures.row x)
     (Performs_else_part (can_adjust (mean_by own k)) (puts (close_act own k) followed_by
     (moves own (mean_by own k) followed_by for_each (corrects_peer (mean_by own k)) (round_of m.slaves m.rounds)))
-    (λ past h. ap (λ z. can_adjust z x past) (sym is) ∙ can_adjust-is mean x past c.args.clock.now h.clock (sym test ∙ c.if-not-can_adjust.true))
+    (λ past h. ap (λ z. can_adjust z x past) (sym is) ∙ can_adjust_is mean x past c.args.clock.now h.clock (sym test ∙ c.if-not-can_adjust.true))
     (Performs_abandons c.group-group.new.self c.args.clock.now (c.abandon-then-not-can_adjust.ensures.row x)))
 
 pub returns-then-not-can_adjust-clause-corrects : goal.returns-then-not-can_adjust-clause-corrects
@@ -48,7 +48,7 @@ returns-then-not-can_adjust-clause-corrects g c order past h =
     let fits : SFits w64 mean = search rules in
     let back : to_z w64 (of_z w64 mean) ≡ mean = to_z-of_z fits in
     let test = rw back at c.can_adjust.ensures in
-    sym (corrects-timely c.args.own c.args.at.tick past c.args.self.now c.args.station.now clock c.group-group.result h (
+    sym (corrects_timely c.args.own c.args.at.tick past c.args.self.now c.args.station.now clock c.group-group.result h (
       order,
       c.requires.due,
     ) (sym c.is_in_time.ensures ∙ c.if-not-is_in_time.false) c.group-group.ensures.group
@@ -77,7 +77,7 @@ returns-clause-row g c order =
     c.if-not-is_in_time.false) c.group-group.ensures.group c.group-group.ensures.slaves c.group-group.ensures.rounds
     (c.ring.ensures.row x)
     (Performs_then_part (can_adjust (mean_by own k)) abandons
-    (λ past h. ap (λ z. can_adjust z x past) (sym is) ∙ can_adjust-is mean x past c.args.clock.now h.clock (sym test ∙ c.if-not-can_adjust.false))
+    (λ past h. ap (λ z. can_adjust z x past) (sym is) ∙ can_adjust_is mean x past c.args.clock.now h.clock (sym test ∙ c.if-not-can_adjust.false))
     (rw (← is) (Performs_then (Performs_quiet _ c.args.clock.now (Emits_puts (Close k.count k.lo k.width mean) refl)
     (Performs_idle (Close k.count k.lo k.width mean) refl put))
     (Performs_then (moved c.group-group.new.self c.ring.new.self) (each_same mean c.group-group.ensures.slaves c.group-group.ensures.rounds each)))))
@@ -89,7 +89,7 @@ returns-clause-corrects g c order past h =
     let fits : SFits w64 mean = search rules in
     let back : to_z w64 (of_z w64 mean) ≡ mean = to_z-of_z fits in
     let test = rw back at c.can_adjust.ensures in
-    sym (corrects-timely c.args.own c.args.at.tick past c.args.self.now c.args.station.now clock c.group-group.result h (
+    sym (corrects_timely c.args.own c.args.at.tick past c.args.self.now c.args.station.now clock c.group-group.result h (
       order,
       c.requires.due,
     ) (sym c.is_in_time.ensures ∙ c.if-not-is_in_time.false) c.group-group.ensures.group

@@ -5,8 +5,8 @@ use Rattle.tsp_base.proofs.PerformsLemmas.{Performs_else_part, Performs_then, Pe
 use Rattle.tsp_rules.specs.RoundRows.{abandons, arms_next, asks_measured, probe_rings}
 use Rattle.tsp_rules.specs.{Guards.is_in_time, Values.Ring, Values.Late, Values.Probe}
 use Rattle.tsp_measure.specs.Slaves.{peers_of}
-use Rattle.tsp_master.proofs.{CloseCases.Performs_abandons, LeadLemmas.Performs_rung, LeadLemmas.in_time-is}
-use Rattle.tsp_master.proofs.PhaseLemmas.{met-some, over-some, rings_early}
+use Rattle.tsp_master.proofs.{CloseCases.Performs_abandons, LeadLemmas.Performs_rung, LeadLemmas.in_time_is}
+use Rattle.tsp_master.proofs.PhaseLemmas.{met_some, over_some, rings_early}
 use Rattle.tsp_master.proofs.RoundLemmas.{MasterStands_late_probe, MasterStands_ring_probe}
 use Rattle.tsp_master.{proofs.RoomLemmas.once, proofs.RoomLemmas.then_put, proofs.RoomLemmas.twice, specs.MasterStands.ProbesStands}
 use Rattle.tsp_master.proofs.master.Master.ring_probe.Goals as goal
@@ -15,7 +15,7 @@ pub returns-then-not-is_in_time-clause-row : goal.returns-then-not-is_in_time-cl
 unfolding probe_rings puts
 returns-then-not-is_in_time-clause-row g c =
     Performs_else_part (is_in_time Probe) (puts (Ring Probe) followed_by (asks_measured followed_by arms_next))
-    (λ past h. in_time-is Probe c.args.at.tick past c.args.station.now h.station (sym c.is_in_time.ensures ∙ c.if-not-is_in_time.true))
+    (λ past h. in_time_is Probe c.args.at.tick past c.args.station.now h.station (sym c.is_in_time.ensures ∙ c.if-not-is_in_time.true))
     (Performs_then
     (Performs_rung (Late Probe) _ _ c.args.clock.now refl (λ past. refl) (λ past h. MasterStands_late_probe c.args.at.tick past _ h.master) (λ past h k. k)
     (c.late.ensures.row c.args.at.tick))
@@ -25,9 +25,9 @@ pub returns-then-count_probe-clause-row : goal.returns-then-count_probe-clause-r
 unfolding probe_rings puts
 returns-then-count_probe-clause-row g c =
     let x = c.args.at.tick in
-    let due = over-some c.args.station.now.alarms.probe x c.requires.due in
-    let low = met-some c.args.station.now.alarms.probe x due.0 (sym c.is_in_time.ensures ∙ c.if-not-is_in_time.false) due.1 in
-    Performs_then_part (is_in_time Probe) (puts (Late Probe) followed_by abandons) (λ past h. in_time-is Probe x past c.args.station.now h.station
+    let due = over_some c.args.station.now.alarms.probe x c.requires.due in
+    let low = met_some c.args.station.now.alarms.probe x due.0 (sym c.is_in_time.ensures ∙ c.if-not-is_in_time.false) due.1 in
+    Performs_then_part (is_in_time Probe) (puts (Late Probe) followed_by abandons) (λ past h. in_time_is Probe x past c.args.station.now h.station
     (sym c.is_in_time.ensures ∙ c.if-not-is_in_time.false))
     (Performs_then
     (Performs_rung {Q = ProbesStands x} (Ring Probe) _ _ c.args.clock.now refl (λ past. refl)

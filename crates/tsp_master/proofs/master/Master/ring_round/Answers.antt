@@ -6,14 +6,14 @@ use Rattle.tsp_base.proofs.PerformsLemmas.{Performs_else_part, Performs_then, Pe
 use Rattle.tsp_rules.{proofs.Emits.Emits_arms, specs.Guards.is_in_time, specs.RoundRows.begins_or_waits, specs.RoundRows.round_rings}
 use Rattle.tsp_acks.proofs.ActingLemmas.{Performs_acting}
 use Rattle.tsp_measure.specs.Slaves.{peers_of}
-use Rattle.tsp_master.proofs.{LeadLemmas.Performs_quiet, LeadLemmas.Performs_rung, LeadLemmas.in_time-is, TableLemmas.MasterStands_quiet}
+use Rattle.tsp_master.proofs.{LeadLemmas.Performs_quiet, LeadLemmas.Performs_rung, LeadLemmas.in_time_is, TableLemmas.MasterStands_quiet}
 use Rattle.tsp_master.proofs.RoomLemmas.{once_then, twice}
 use Rattle.tsp_master.proofs.master.Master.ring_round.Goals as goal
 
 pub returns-then-is_in_time-clause-row : goal.returns-then-is_in_time-clause-row
 unfolding round_rings begins_or_waits puts
 returns-then-is_in_time-clause-row g c =
-    Performs_then_part (is_in_time Round) (puts (Late Round) followed_by arms Round ROUND) (λ past h. in_time-is Round c.args.at.tick past c.args.station.now
+    Performs_then_part (is_in_time Round) (puts (Late Round) followed_by arms Round ROUND) (λ past h. in_time_is Round c.args.at.tick past c.args.station.now
     h.station (sym c.is_in_time.ensures ∙ c.if-is_in_time.true))
     (Performs_then (Performs_rung (Ring Round) _ _ c.args.clock.now refl (λ past. refl) (λ past h. MasterStands_quiet (Ring Round) refl c.args.at.tick past _
     h.master) (λ past h k. k) (c.ring.ensures.row c.args.at.tick)) c.begin_round.ensures.row)
@@ -22,7 +22,7 @@ pub returns-else-is_in_time-clause-row : goal.returns-else-is_in_time-clause-row
 unfolding round_rings puts
 returns-else-is_in_time-clause-row g c =
     Performs_else_part (is_in_time Round) (puts (Ring Round) followed_by begins_or_waits false)
-    (λ past h. in_time-is Round c.args.at.tick past c.args.station.now h.station (sym c.is_in_time.ensures ∙ c.if-is_in_time.false))
+    (λ past h. in_time_is Round c.args.at.tick past c.args.station.now h.station (sym c.is_in_time.ensures ∙ c.if-is_in_time.false))
     (Performs_then (Performs_rung (Late Round) _ _ c.args.clock.now refl (λ past. refl) (λ past h. MasterStands_quiet (Late Round) refl c.args.at.tick past _
     h.master) (λ past h k. k) (c.late.ensures.row c.args.at.tick)) (Performs_quiet _ c.args.clock.now (Emits_arms Round ROUND refl)
     (Performs_acting c.arm.ensures.row)))

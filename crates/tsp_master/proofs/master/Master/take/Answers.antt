@@ -5,7 +5,7 @@ use Rattle.tsp_rules.{proofs.Emits.Emits_posts, specs.Values.Election, specs.Val
 use Rattle.tsp_acks.proofs.ActingLemmas.{Performs_acting}
 use Rattle.tsp_master.specs.MasterTakes.{master_takes_here, master_takes_kind_here}
 use Rattle.tsp_master.proofs.{LeadLemmas.Performs_quiet, RoomLemmas.once}
-use Rattle.tsp_master.proofs.TakeLemmas.{emits_away, master_takes_kind_here-ask, master_takes_kind_here-other}
+use Rattle.tsp_master.proofs.TakeLemmas.{emits_away, master_takes_kind_here_ask, master_takes_kind_here_other}
 use Rattle.tsp_master.proofs.master.Master.take.Goals as goal
 
 pub returns-in-MasterReq-clause-row : goal.returns-in-MasterReq-clause-row
@@ -13,7 +13,7 @@ unfolding master_takes_here
 returns-in-MasterReq-clause-row g c role =
     let m = c.args.m.now in
     let k : master_takes_kind_here c.args.from m m.kind ≡ posts c.args.from MasterAck m.number =
-    ap (master_takes_kind_here c.args.from m) (sym c.kind.ensures) ∙ master_takes_kind_here-ask c.args.from m c.kind.result c.in-MasterReq.is in
+    ap (master_takes_kind_here c.args.from m) (sym c.kind.ensures) ∙ master_takes_kind_here_ask c.args.from m c.kind.result c.in-MasterReq.is in
     rw k (Performs_quiet _ c.args.clock.now (Emits_posts c.args.from MasterAck m.number refl)
     (Performs_acting (rw c.number.ensures at (c.post.ensures.row c.args.tick))))
 
@@ -35,7 +35,7 @@ returns-in_default-clause-row g c role =
     let m = c.args.m.now in
     let o = c.in_default in
     let k : master_takes_kind_here c.args.from m m.kind ≡ nothing =
-    ap (master_takes_kind_here c.args.from m) (sym c.kind.ensures) ∙ master_takes_kind_here-other c.args.from m c.kind.result o.not-MasterReq o.not-Resolve
+    ap (master_takes_kind_here c.args.from m) (sym c.kind.ensures) ∙ master_takes_kind_here_other c.args.from m c.kind.result o.not-MasterReq o.not-Resolve
     o.not-SlaveUp o.not-Election in
     rw k Performs_nothing
 

@@ -2,7 +2,7 @@
 use Rattle.std.proofs.Common.{◌≡◌, ◌∙◌, arith, sym, ap, subst, length}
 use Rattle.std.{proofs.lemmas.List.length-map, specs.Box.boxed_slice_items, specs.List.Sorted.IsStrictlyIncreasing}
 use Rattle.tsp_base.specs.declared.place.PeerId.{PeerId}
-use Rattle.tsp_measure.proofs.Peers.{at_peer-nothing}
+use Rattle.tsp_measure.proofs.Peers.{at_peer_nothing}
 use Rattle.tsp_measure.proofs.exchanges.Exchanges.new.Goals as goal
 
 pub invariant_of-result : goal.invariant_of-result
@@ -14,4 +14,4 @@ invariant_of-result c =
     )
 
 pub returns-clause-nothing : goal.returns-clause-nothing
-returns-clause-nothing c p = rw c.in_ok-measured.ensures.items (at_peer-nothing (boxed_slice_items c.in_ok-numbers.numbers) p)
+returns-clause-nothing c p = rw c.in_ok-measured.ensures.items (at_peer_nothing (boxed_slice_items c.in_ok-numbers.numbers) p)

@@ -1,7 +1,7 @@
 use Rattle.std.proofs.Common.{◌≡◌, ◌∙◌, sym, ap, arith, refl, false}
 use Rattle.std.{proofs.lemmas.Int.to_z-of_z, proofs.lemmas.List.Elements.All-nil, specs.Box.boxed_slice_items, specs.Int.w64}
 use Rattle.tsp_measure.specs.{Measures.asks, Peers.MeasuredPeers, Peers.with_peer, declared.exchange.Exchange.Exchange}
-use Rattle.tsp_base.proofs.AscendingLemmas.{Rise-numbers}
+use Rattle.tsp_base.proofs.AscendingLemmas.{Rise_numbers}
 use Rattle.tsp_measure.proofs.Peers.{at_peer-found, at_peer-put, at_peer-others}
 use Rattle.tsp_measure.proofs.exchanges.Exchanges.reply.Goals as goal
 
@@ -11,10 +11,10 @@ returns-in-Some-clause-replies c =
     let here : with_peer c.args.self.now c.args.peer.0 ≡ c.index_mut.result.now =
     ap (λ (x : MeasuredPeers). with_peer x c.args.peer.0) (sym c.self.view_is)
     ∙ at_peer-found (boxed_slice_items c.self.inside.peers) c.self.inside.measured.items c.args.peer.0 c.in-Some.place c.index_mut.result.now
-    (Rise-numbers _ c.self.invariant.0) c.self.invariant.1.0 found.0 found.1
+    (Rise_numbers _ c.self.invariant.0) c.self.invariant.1.0 found.0 found.1
     ∙ sym c.index_mut.ensures.value in
     let there = at_peer-put (boxed_slice_items c.self.inside.peers) c.self.inside.measured.items c.args.peer.0 c.in-Some.place c.reply.new.self
-    (Rise-numbers _ c.self.invariant.0) c.self.invariant.1.0 found.0 found.1 in
+    (Rise_numbers _ c.self.invariant.0) c.self.invariant.1.0 found.0 found.1 in
     rw (here, there) (rw (to_z-of_z w64 c.args.s c.ranges.s, to_z-of_z w64 c.args.d c.ranges.d) at c.reply.ensures)
 
 pub returns-in-Some-clause-others : goal.returns-in-Some-clause-others

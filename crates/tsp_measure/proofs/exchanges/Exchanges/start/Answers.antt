@@ -2,7 +2,7 @@
 use Rattle.std.proofs.Common.{◌≡◌, ◌∙◌, ◌<◌, ◌++◌, ◌∷◌, [], List, length, sym, ap, subst}
 use Rattle.std.{proofs.lemmas.Int.to_z-of_z, specs.Box.boxed_slice_items, specs.Int.w64}
 use Rattle.tsp_measure.specs.{Measures.Measured, Measures.begun, Peers.MeasuredPeers, Peers.with_peer, declared.exchange.Exchange.Exchange}
-use Rattle.tsp_base.proofs.AscendingLemmas.{Rise-numbers}
+use Rattle.tsp_base.proofs.AscendingLemmas.{Rise_numbers}
 use Rattle.tsp_measure.proofs.Peers.{at_peer-found, at_peer-put, at_peer-others}
 use Rattle.tsp_measure.proofs.exchanges.Exchanges.start.Goals as goal
 
@@ -16,7 +16,7 @@ start-requires-clause-few c =
     let here : with_peer c.args.self.now c.args.peer.0 ≡ c.index_mut.result.now =
     sym (c.lengthen.ensures.same c.args.peer.0) ∙ ap (λ (x : MeasuredPeers). with_peer x c.args.peer.0) (sym c.self-in-Some.view_is)
     ∙ at_peer-found (boxed_slice_items c.self-in-Some.inside.peers) c.self-in-Some.inside.measured.items c.args.peer.0 c.in-Some.place c.index_mut.result.now
-    (Rise-numbers _ c.self-in-Some.invariant.0) c.self-in-Some.invariant.1.0 inside found.1
+    (Rise_numbers _ c.self-in-Some.invariant.0) c.self-in-Some.invariant.1.0 inside found.1
     ∙ sym c.index_mut.ensures.value in
     subst (λ (m : Measured). begun m < 4) here c.requires.few
 
@@ -30,10 +30,10 @@ returns-clause-started c =
     let here : with_peer c.args.self.now c.args.peer.0 ≡ c.index_mut.result.now =
     sym (c.lengthen.ensures.same c.args.peer.0) ∙ ap (λ (x : MeasuredPeers). with_peer x c.args.peer.0) (sym c.self-in-Some.view_is)
     ∙ at_peer-found (boxed_slice_items c.self-in-Some.inside.peers) c.self-in-Some.inside.measured.items c.args.peer.0 c.in-Some.place c.index_mut.result.now
-    (Rise-numbers _ c.self-in-Some.invariant.0) c.self-in-Some.invariant.1.0 inside found.1
+    (Rise_numbers _ c.self-in-Some.invariant.0) c.self-in-Some.invariant.1.0 inside found.1
     ∙ sym c.index_mut.ensures.value in
     at_peer-put (boxed_slice_items c.self-in-Some.inside.peers) c.self-in-Some.inside.measured.items c.args.peer.0 c.in-Some.place c.start.new.self
-    (Rise-numbers _ c.self-in-Some.invariant.0) c.self-in-Some.invariant.1.0 inside found.1
+    (Rise_numbers _ c.self-in-Some.invariant.0) c.self-in-Some.invariant.1.0 inside found.1
     ∙ (rw (to_z-of_z w64 c.args.a c.ranges.a) at c.start.ensures)
     ∙ ap (λ (m : Measured). let e : Exchange = record { word = c.args.word; counter = c.args.counter; a = c.args.a } in
     record m { pending = m.pending ++ e ∷ [] }) (sym here)

@@ -2,7 +2,7 @@ use Rattle.std.proofs.Common.{◌≡◌, ◌∙◌, ◌<◌, ◌++◌, ◌∷◌
 use Rattle.std.{proofs.lemmas.Int.ints, proofs.lemmas.Int.to_z-of_z, specs.Int.w64}
 use Rattle.tsp_measure.specs.Measures.{Measured, IsReading, asks, timed_sample}
 use Rattle.tsp_measure.specs.declared.{exchange.Exchange.Exchange, sample.TimedSample.TimedSample}
-use Rattle.tsp_measure.proofs.Removals.{split_at_place, All-remove}
+use Rattle.tsp_measure.proofs.Removals.{split_at_place, All_remove}
 use Rattle.tsp_measure.proofs.peer_exchanges.PeerExchanges.reply.Goals as goal
 
 reading_fits : (a : ℤ) → IsReading a → FitsSigned w64 a
@@ -11,7 +11,7 @@ reading_fits a h = let low = h.low in let high = h.high in omega (arith, ints)
 pub invariant_of-self : goal.invariant_of-self
 invariant_of-self c = (
   omega (arith, c.remove-exchange.ensures.len, c.push.ensures.len, c.self.invariant.0),
-  rw c.remove-exchange.ensures.items (All-remove (λ (e : Exchange). IsReading e.a) c.self.inside.pending.items c.in-Some.place c.self.invariant.1),
+  rw c.remove-exchange.ensures.items (All_remove (λ (e : Exchange). IsReading e.a) c.self.inside.pending.items c.in-Some.place c.self.invariant.1),
 )
 
 pub returns-in-Some : goal.returns-in-Some

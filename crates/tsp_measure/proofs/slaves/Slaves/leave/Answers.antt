@@ -1,7 +1,7 @@
 -- The peer's entry is found and changed.
 use Rattle.std.proofs.Common.{ap, refl}
 use Rattle.std.proofs.lemmas.List.{get_or_read}
-use Rattle.tsp_measure.{proofs.Entries.Changes-put, proofs.Entries.Changes-absent, specs.Slaves.leaves, specs.declared.entry.Entry.Entry}
+use Rattle.tsp_measure.{proofs.Entries.Changes-put, proofs.Entries.Changes_absent, specs.Slaves.leaves, specs.declared.entry.Entry.Entry}
 use Rattle.tsp_measure.proofs.slaves.Slaves.leave.Goals as goal
 
 pub put-requires-clause-same : goal.put-requires-clause-same
@@ -16,7 +16,7 @@ returns-in-Ok-clause-entries c =
     (rw c.self.view_is at c.index-entry.ensures) refl c.put.ensures.value
 
 pub returns-in_default-clause-entries : goal.returns-in_default-clause-entries
-returns-in_default-clause-entries c = Changes-absent leaves c.args.self.now c.args.peer c.in_default.field-0 (rw (
+returns-in_default-clause-entries c = Changes_absent leaves c.args.self.now c.args.peer c.in_default.field-0 (rw (
   c.deref.ensures.value,
   c.self.view_is,
 ) at c.in_default.ensures) refl

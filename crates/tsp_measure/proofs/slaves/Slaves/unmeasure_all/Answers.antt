@@ -2,7 +2,7 @@
 use Rattle.std.proofs.Common.{◌≡◌, length, map, refl, ap, ◌∙◌, arith, subst, sym}
 use Rattle.std.{proofs.lemmas.List.length-map, specs.Box.boxed_slice_items, specs.Box.boxed_slice_len}
 use Rattle.tsp_base.specs.Words.{IsPeers}
-use Rattle.tsp_measure.{proofs.Entries.ChangesAll-map, proofs.Entries.peers_of-map, proofs.Entries.written, specs.Slaves.unmeasures}
+use Rattle.tsp_measure.{proofs.Entries.ChangesAll_map, proofs.Entries.peers_of_map, proofs.Entries.written, specs.Slaves.unmeasures}
 use Rattle.tsp_measure.proofs.slaves.Slaves.unmeasure_all.Goals as goal
 
 pub invariant_of-self : goal.invariant_of-self
@@ -20,7 +20,7 @@ invariant_of-self c =
     rw (
       written (boxed_slice_len c.self.inside.entries) c.unmeasure_each.new.entries (boxed_slice_items c.self.inside.entries) many,
       is,
-    ) (subst IsPeers (sym (peers_of-map unmeasures (λ e. refl) (boxed_slice_items c.self.inside.entries))) c.self.invariant)
+    ) (subst IsPeers (sym (peers_of_map unmeasures (λ e. refl) (boxed_slice_items c.self.inside.entries))) c.self.invariant)
 
 pub returns : goal.returns
 returns c =
@@ -39,10 +39,10 @@ returns c =
         written (boxed_slice_len c.self.inside.entries) c.unmeasure_each.new.entries (boxed_slice_items c.self.inside.entries) many,
         is,
         ← c.self.view_is,
-      ) (ChangesAll-map unmeasures (λ e. refl) (λ p. refl) (boxed_slice_items c.self.inside.entries));
+      ) (ChangesAll_map unmeasures (λ e. refl) (λ p. refl) (boxed_slice_items c.self.inside.entries));
       peers = rw (
         written (boxed_slice_len c.self.inside.entries) c.unmeasure_each.new.entries (boxed_slice_items c.self.inside.entries) many,
         is,
         ← c.self.view_is,
-      ) (peers_of-map unmeasures (λ e. refl) (boxed_slice_items c.self.inside.entries));
+      ) (peers_of_map unmeasures (λ e. refl) (boxed_slice_items c.self.inside.entries));
     }

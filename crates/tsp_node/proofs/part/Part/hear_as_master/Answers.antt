@@ -8,7 +8,7 @@ use Rattle.tsp_base.{proofs.PerformsLemmas.Performs_then, specs.Words.posts, spe
 use Rattle.tsp_date.proofs.KeepLemmas.{DatesStand_by}
 use Rattle.tsp_master.specs.MasterTakes.{master_takes_here}
 use Rattle.tsp_resolve.proofs.ResolveLemmas.{Performs_resolving}
-use Rattle.tsp_node.proofs.HearLemmas.{master_conflict, master_masterack, master_masterup, master_quit, master_takes-other, roles_other}
+use Rattle.tsp_node.proofs.HearLemmas.{master_conflict, master_masterack, master_masterup, master_quit, master_takes_other, roles_other}
 use Rattle.tsp_node.proofs.NodeLemmas.{Performs_led, Performs_resolved, Performs_took}
 use Rattle.tsp_node.proofs.{TakeEmits.built_master_takes_here, PartLemmas.as_many, PartLemmas.still_alike}
 use Rattle.tsp_node.proofs.part.Part.hear_as_master.Goals as goal
@@ -50,7 +50,7 @@ returns-in_default-clause-row g c =
     let m = c.args.m.now in
     let other = c.in_default in
     let take = c.take.ensures.row c.requires.role in
-    rw (master_takes-other p m m.kind (roles_other m.kind c.requires.audience) (λ e. other.not-Quit (c.kind.ensures ∙ e))
+    rw (master_takes_other p m m.kind (roles_other m.kind c.requires.audience) (λ e. other.not-Quit (c.kind.ensures ∙ e))
     (λ e. other.not-MasterUp (c.kind.ensures ∙ e)) (λ e. other.not-Conflict (c.kind.ensures ∙ e)) (λ e. other.not-MasterAck (c.kind.ensures ∙ e)))
     (Performs_led refl refl refl (emits_built refl (built_master_takes_here p m tt tt)) (emits_built refl (built_master_takes_here p m tt tt))
     (DatesStand_by (master_takes_here p m) (emits_built refl (built_master_takes_here p m tt tt))) take)

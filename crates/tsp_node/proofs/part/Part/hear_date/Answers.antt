@@ -1,13 +1,13 @@
 -- A date is handled, and a correction noted.
 use Rattle.std.proofs.Common.{true, false, refl, sym}
 use Rattle.tsp_base.specs.Words.{taken}
-use Rattle.tsp_acks.proofs.FollowLemmas.{followed-Contains}
+use Rattle.tsp_acks.proofs.FollowLemmas.{followed_Contains}
 use Rattle.tsp_slave.proofs.TellLemmas.{tells_row}
 use Rattle.tsp_node.proofs.{NodeLemmas.Performs_dated, PartLemmas.still_alike, StillTakes.took_dates, TakeEmits.emits_dates}
 use Rattle.tsp_node.proofs.part.Part.hear_date.Goals as goal
 
 pub date_take-corrected-requires-clause-followed : goal.date_take-corrected-requires-clause-followed
-date_take-corrected-requires-clause-followed g c = λ q e. followed-Contains c.args.self.now.station q e
+date_take-corrected-requires-clause-followed g c = λ q e. followed_Contains c.args.self.now.station q e
 
 pub returns-then-corrected-clause-row : goal.returns-then-corrected-clause-row
 returns-then-corrected-clause-row g c =

@@ -6,7 +6,7 @@ use Rattle.tsp_rules.specs.Values.{Act, Boot, Took, Become, Correct, Placed, Ala
 use Rattle.tsp_rules.proofs.Emits.{AllOf, Emits, Emits_more, Emits_nothing, is_in, sort_of}
 use Rattle.tsp_rules.proofs.BuiltRounds.{built_close_rings, built_probe_rings, built_round_rings, round_sorts}
 use Rattle.tsp_master.specs.{MasterAlarms.master_rings, MasterStands.RingStands}
-use Rattle.tsp_node.proofs.{AlarmCases.corrects_beside, AlarmCases.master_rings-is, AlarmCases.no_probe, PartLemmas.still_alike}
+use Rattle.tsp_node.proofs.{AlarmCases.corrects_beside, AlarmCases.master_rings_is, AlarmCases.no_probe, PartLemmas.still_alike}
 use Rattle.tsp_node.proofs.NodeLemmas.{untaken_by, untaking_sorts}
 use Rattle.tsp_node.specs.NodeStands.{PortUntaken, PortValue}
 use Rattle.tsp_base.specs.Words.{Past, Performs, said, taken, grown, correcting_of}
@@ -116,27 +116,27 @@ returns-then-not-is_of_master-clause-over g c e = absurd (no_probe c.args.terms.
 pub returns-then-corrected-clause-row : goal.returns-then-corrected-clause-row
 returns-then-corrected-clause-row g c turn =
     let same : master_rings c.args.terms.group_mean c.args.alarm ≡ alarm_rings c.args.terms.group_mean c.args.terms.wait c.args.alarm =
-    master_rings-is c.args.terms.group_mean c.args.terms.wait c.args.alarm (sym c.is_of_master.ensures ∙ c.if-not-is_of_master.false) in
+    master_rings_is c.args.terms.group_mean c.args.terms.wait c.args.alarm (sym c.is_of_master.ensures ∙ c.if-not-is_of_master.false) in
     rw (← same) (Performs_round c.args.terms.group_mean c.args.alarm true (c.ring-corrected.ensures.row turn) (λ past h. sym c.if-corrected.true ∙
     c.ring-corrected.ensures.corrects turn past h) c.moved.ensures refl refl)
 
 pub returns-else-corrected-clause-row : goal.returns-else-corrected-clause-row
 returns-else-corrected-clause-row g c turn =
     let same : master_rings c.args.terms.group_mean c.args.alarm ≡ alarm_rings c.args.terms.group_mean c.args.terms.wait c.args.alarm =
-    master_rings-is c.args.terms.group_mean c.args.terms.wait c.args.alarm (sym c.is_of_master.ensures ∙ c.if-not-is_of_master.false) in
+    master_rings_is c.args.terms.group_mean c.args.terms.wait c.args.alarm (sym c.is_of_master.ensures ∙ c.if-not-is_of_master.false) in
     rw (← same) (Performs_round c.args.terms.group_mean c.args.alarm false (c.ring-corrected.ensures.row turn) (λ past h. sym c.if-corrected.false ∙
     c.ring-corrected.ensures.corrects turn past h) refl refl refl)
 
 pub returns-then-corrected-clause-corrects : goal.returns-then-corrected-clause-corrects
 returns-then-corrected-clause-corrects g c turn past h =
     let same : master_rings c.args.terms.group_mean c.args.alarm ≡ alarm_rings c.args.terms.group_mean c.args.terms.wait c.args.alarm =
-    master_rings-is c.args.terms.group_mean c.args.terms.wait c.args.alarm (sym c.is_of_master.ensures ∙ c.if-not-is_of_master.false) in
+    master_rings_is c.args.terms.group_mean c.args.terms.wait c.args.alarm (sym c.is_of_master.ensures ∙ c.if-not-is_of_master.false) in
     rw same at (c.ring-corrected.ensures.corrects turn past (record { master = h.stands.master; station = h.stands.station; clock = h.stands.clock }))
 
 pub returns-else-corrected-clause-corrects : goal.returns-else-corrected-clause-corrects
 returns-else-corrected-clause-corrects g c turn past h =
     let same : master_rings c.args.terms.group_mean c.args.alarm ≡ alarm_rings c.args.terms.group_mean c.args.terms.wait c.args.alarm =
-    master_rings-is c.args.terms.group_mean c.args.terms.wait c.args.alarm (sym c.is_of_master.ensures ∙ c.if-not-is_of_master.false) in
+    master_rings_is c.args.terms.group_mean c.args.terms.wait c.args.alarm (sym c.is_of_master.ensures ∙ c.if-not-is_of_master.false) in
     rw same at (c.ring-corrected.ensures.corrects turn past (record { master = h.stands.master; station = h.stands.station; clock = h.stands.clock }))
 
 pub invariant_of-self : goal.invariant_of-self

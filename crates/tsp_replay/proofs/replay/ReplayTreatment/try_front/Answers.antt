@@ -2,7 +2,7 @@
 use Rattle.std.proofs.Common.{reverse, refl}
 use Rattle.tsp_lines.{proofs.Fronts.ahead_within, specs.Lines.line_ahead, specs.declared.treatment.Stop.TheVariants.WriteFault}
 use Rattle.tsp_schedule.specs.Schedules.{Progress}
-use Rattle.tsp_replay.{proofs.Places.Advances, proofs.TreatLemmas.Goes-advances, proofs.TreatLemmas.StopsAt-untold, specs.Schedules.Reaches}
+use Rattle.tsp_replay.{proofs.Places.Advances, proofs.TreatLemmas.Goes_advances, proofs.TreatLemmas.StopsAt_untold, specs.Schedules.Reaches}
 use Rattle.tsp_replay.proofs.replay.ReplayTreatment.try_front.Goals as goal
 
 pub returns-in_default-clause-tries : goal.returns-in_default-clause-tries
@@ -13,7 +13,7 @@ returns-in-Ok-clause-tries g c lines text stands accepts room =
     let line = line_ahead c.args.octets.now c.in-Some.count in
     let next = c.try_front.new.self in
     let advances : (q : Progress) → Reaches (reverse lines) q → Advances q line next = λ q r. (c.in-Some.ensures.tries q (stands q r)).4 in
-    (line, c.in-Some.ensures.front, Goes-advances lines text line accepts.0 next _ _ _ _ accepts.1 accepts.2 advances (rw c.told.ensures at c.in-Ok.ensures.ok))
+    (line, c.in-Some.ensures.front, Goes_advances lines text line accepts.0 next _ _ _ _ accepts.1 accepts.2 advances (rw c.told.ensures at c.in-Ok.ensures.ok))
 
 pub returns-in-Err-clause-tries : goal.returns-in-Err-clause-tries
 returns-in-Err-clause-tries g c lines text stands accepts room =
@@ -23,7 +23,7 @@ returns-in-Err-clause-tries g c lines text stands accepts room =
       line,
       c.in-Some.count,
       c.in-Some.ensures.front,
-      StopsAt-untold lines text line accepts.0 next _ _ _ _ WriteFault accepts.1 accepts.2 advances
+      StopsAt_untold lines text line accepts.0 next _ _ _ _ WriteFault accepts.1 accepts.2 advances
           (rw c.told.ensures at c.in-Err.ensures.err),
     )
 

@@ -6,7 +6,7 @@ use Rattle.tsp_base.specs.Words.{for_each}
 use Rattle.tsp_base.proofs.PerformsLemmas.{Performs_each_more, Performs_nothing, Performs_reading}
 use Rattle.tsp_rules.specs.{Guards.rivals_at, ResolveRows.quits_rivals, SendRows.begins, Values.QuitKind, Values.PeerId}
 use Rattle.tsp_resolve.specs.Marked.{marked}
-use Rattle.tsp_resolve.proofs.{MarkedLemmas.marked-more, ResolveLemmas.Performs_resolving_acting, ResolveLemmas.rivals-marked}
+use Rattle.tsp_resolve.proofs.{MarkedLemmas.marked_more, ResolveLemmas.Performs_resolving_acting, ResolveLemmas.rivals_marked}
 use Rattle.tsp_resolve.proofs.resolve.Resolve.quit_rivals.Goals.{then-at, else-at}
 use Rattle.tsp_rules.proofs.{BuiltShared.built_begins, Emits.Numbering, EmitsBuilt.emits_built}
 use Rattle.tsp_resolve.proofs.resolve.Resolve.quit_rivals.Goals as goal
@@ -36,7 +36,7 @@ loop-place-preserved g c =
     let inside : n < length ps = omega (arith, c.loop-place-test.true, ap length c.peers-place-end.ensures.value) in
     let here : get_or ps n p ≡ p = get_or_default ps n p none inside ∙ ap (λ l. get_or l n none) (sym there) in
     let one : n + 1 ≡ suc n = omega arith in
-    let more = ap (λ k. marked (take k ps) marks) one ∙ marked-more ps marks n p c.requires.many inside here in
+    let more = ap (λ k. marked (take k ps) marks) one ∙ marked_more ps marks n p c.requires.many inside here in
     elim c.if-at.branch [
       | then-at w ↦
           let set : get_or marks n false ≡ true = sym c.at.ensures ∙ w.if-at.true in
@@ -69,6 +69,6 @@ returns-clause-row g c =
     let ps = c.args.station.now.peers in
     let n = c.loop-place.place in
     let all : take n ps ≡ ps = take_all n ps (omega (arith, c.loop-place-test.false, ap length c.peers-place-end.ensures.value)) in
-    Performs_reading rivals_at (for_each (begins QuitKind)) (marked ps c.args.self.now.marks) (λ past h. rivals-marked c.args.tick past c.args.self.now ps
+    Performs_reading rivals_at (for_each (begins QuitKind)) (marked ps c.args.self.now.marks) (λ past h. rivals_marked c.args.tick past c.args.self.now ps
     c.peers-place-end.ensures.valid h.station.peers h.resolve)
     (rw all at c.loop-place.invariant.row)

@@ -1,12 +1,12 @@
 -- The title of either version is accepted.
 use Rattle.std.proofs.Common.{◌∙◌, ap, subst, refl, Ok}
 use Rattle.tsp_script.{proofs.Outcomes.err_or_ok, specs.Schedules.SpellsHead, specs.declared.head_line.HeadItem.TheVariants.Title}
-use Rattle.tsp_schedule.proofs.StageLemmas.{Advances-title}
+use Rattle.tsp_schedule.proofs.StageLemmas.{Advances_title}
 use Rattle.tsp_schedule.proofs.stage.Stage.title.Goals as goal
 
 pub returns-in-Ok-Title-clause-next : goal.returns-in-Ok-Title-clause-next
 returns-in-Ok-Title-clause-next g c =
-    Advances-title g.C.EventHandler.refused g.C.EventHandler.stands c.in-Ok-Title.version c.args.line.now c.head_line.result (c.in-Ok-Title.is ∙
+    Advances_title g.C.EventHandler.refused g.C.EventHandler.stands c.in-Ok-Title.version c.args.line.now c.head_line.result (c.in-Ok-Title.is ∙
     ap (λ i. Ok i) c.in-Ok-Title.field-0-is) c.head_line.ensures.one
     (subst (λ i. SpellsHead 1 c.args.line.now i) c.in-Ok-Title.field-0-is c.in-Ok-Title.ensures.reads)
 

@@ -1,5 +1,5 @@
 use Rattle.std.proofs.Common.{◌<◌, arith, length, ap, ◌∙◌, None}
-use Rattle.tsp_sends.proofs.SendsLemmas.{peers_of-fill, none_in_empty, empty_more, length-fill}
+use Rattle.tsp_sends.proofs.SendsLemmas.{peers_of_fill, none_in_empty, empty_more, length_fill}
 use Rattle.tsp_sends.proofs.sends.Sends.clear.Goals as goal
 
 pub loop-place-preserved : goal.loop-place-preserved
@@ -12,8 +12,8 @@ loop-place-preserved c =
       c.loop-place.invariant.many,
     ) in
     record {
-      peers = peers_of-fill c.loop-place.self c.end.new.self c.loop-place.place None c.end.ensures ∙ c.loop-place.invariant.peers;
-      many = length-fill c.loop-place.self c.end.new.self c.loop-place.place None c.end.ensures ∙ c.loop-place.invariant.many;
+      peers = peers_of_fill c.loop-place.self c.end.new.self c.loop-place.place None c.end.ensures ∙ c.loop-place.invariant.peers;
+      many = length_fill c.loop-place.self c.end.new.self c.loop-place.place None c.end.ensures ∙ c.loop-place.invariant.many;
       empty = empty_more c.loop-place.self c.end.new.self c.loop-place.place inside c.end.ensures c.loop-place.invariant.empty;
     }
 

@@ -3,14 +3,14 @@ use Rattle.std.proofs.Common.{◌∙◌, ap, arith, length, subst, []}
 use Rattle.tsp_base.specs.Words.{HeaderValue}
 use Rattle.tsp_script.specs.Storms.{StormValue}
 use Rattle.tsp_storm.specs.Schedules.{generator_of}
-use Rattle.tsp_storm.proofs.{Mades.length-storm_lines, Mades.made_is, Mades.whole_alone, Steps.stands_begins}
+use Rattle.tsp_storm.proofs.{Mades.length_storm_lines, Mades.made_is, Mades.whole_alone, Steps.stands_begins}
 use Rattle.tsp_storm.proofs.making.Making.begin.Goals as goal
 use Rattle.tsp_world.specs.WorldStands.{WorldStands}
 
 pub new-requires-clause-some : goal.new-requires-clause-some
 new-requires-clause-some c =
     let count = ap (λ (h : HeaderValue). length h.nodes) c.in_ok-begun.ensures.header ∙
-    length-storm_lines c.args.words.now.nodes (generator_of c.args.words.now) in
+    length_storm_lines c.args.words.now.nodes (generator_of c.args.words.now) in
     let some = c.requires.some in
     omega (arith, count, some)
 

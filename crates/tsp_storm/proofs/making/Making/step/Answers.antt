@@ -2,7 +2,7 @@
 use Rattle.std.proofs.Common.{◌∙◌, ap}
 use Rattle.tsp_rules.specs.Values.{Event}
 use Rattle.tsp_script.specs.declared.storm.Draw.TheVariants.{Event as Gives}
-use Rattle.tsp_storm.{proofs.Draws.given-next, specs.Schedules.header_of, specs.Schedules.storm_events, specs.Schedules.next_event}
+use Rattle.tsp_storm.{proofs.Draws.given_next, specs.Schedules.header_of, specs.Schedules.storm_events, specs.Schedules.next_event}
 use Rattle.tsp_storm.proofs.Steps.{made_now, more_now, world_now, event_now, on_step, stops_step}
 use Rattle.tsp_storm.proofs.making.Making.step.Goals as goal
 
@@ -27,7 +27,7 @@ happen-requires-clause-event c =
     let m = c.args.self.now in
     let st = c.requires.stands in
     let next = next_event (header_of s) (storm_events s m.storm.given) m.storm in
-    let comes = given-next _ c.draw-choice.new.storm next (c.draw-choice.ensures.next (header_of s) (storm_events s m.storm.given) st.world) in
+    let comes = given_next _ c.draw-choice.new.storm next (c.draw-choice.ensures.next (header_of s) (storm_events s m.storm.given) st.world) in
     comes.0 ∙ ap (λ (e : Event). Gives e) (event_now s m next.0 c.draw-choice.new.storm st comes.1)
 
 pub returns : goal.returns
@@ -36,7 +36,7 @@ returns c =
     let m = c.args.self.now in
     let st = c.requires.stands in
     let next = next_event (header_of s) (storm_events s m.storm.given) m.storm in
-    let comes = given-next _ c.draw-choice.new.storm next (c.draw-choice.ensures.next (header_of s) (storm_events s m.storm.given) st.world) in
+    let comes = given_next _ c.draw-choice.new.storm next (c.draw-choice.ensures.next (header_of s) (storm_events s m.storm.given) st.world) in
     let new = c.happen.new in
     record {
       stands = on_step s m next.0 c.draw-choice.new.storm new.world new.parcel c.happen.result _ st comes.1 (λ d. d.stands) c.happen.ensures.stands;

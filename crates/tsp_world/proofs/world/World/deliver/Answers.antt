@@ -2,7 +2,7 @@
 use Rattle.std.proofs.Common.{◌≡◌, ◌∙◌, ap, sym, rules, vec_len, length, slice_get}
 use Rattle.tsp_rules.specs.Values.{Good}
 use Rattle.tsp_run.specs.{Networks.networks, Refusals.node_in, declared.posted.Posted.Posted}
-use Rattle.tsp_run.proofs.{NetworkLemmas.goes_there, NetworkLemmas.some_same, RefusalLemmas.goes_to-post}
+use Rattle.tsp_run.proofs.{NetworkLemmas.goes_there, NetworkLemmas.some_same, RefusalLemmas.goes_to_post}
 use Rattle.tsp_world.proofs.Deliveries.{addressee, delivered, post_within}
 use Rattle.tsp_world.proofs.world.World.deliver.Goals as goal
 
@@ -21,14 +21,14 @@ receive-requires-clause-node c =
 pub receive-requires-clause-port : goal.receive-requires-clause-port
 receive-requires-clause-port c =
     let nets = networks c.args.self.now.header in
-    let found = goes_to-post nets (slice_get c.args.self.now.sent.items c.args.k) c.args.address c.requires.goes in
+    let found = goes_to_post nets (slice_get c.args.self.now.sent.items c.args.k) c.args.address c.requires.goes in
     (goes_there nets found.0.from found.0.port found.0.to c.args.address found.2).has
 
 pub returns : goal.returns
 returns c header events w none =
     let world = c.args.self.now in
     let len : vec_len world.nodes ≡ length world.nodes.items = search rules in
-    let found = goes_to-post (networks world.header) (slice_get world.sent.items c.args.k) c.args.address c.requires.goes in
+    let found = goes_to_post (networks world.header) (slice_get world.sent.items c.args.k) c.args.address c.requires.goes in
     let packed = c.taken.ensures ∙ c.pack.ensures found.0 found.1 in
     delivered header events world c.receive.new.self c.args.at c.args.k c.args.address c.in-Some.way c.taken.result.now len w c.requires.goes none
     (sym c.in-Some.is ∙ c.way.ensures)

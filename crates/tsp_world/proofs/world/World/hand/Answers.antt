@@ -2,9 +2,9 @@
 use Rattle.std.proofs.Common.{◌≡◌, ◌∙◌, ap, refl, rules, [], Some, vec_len, length}
 use Rattle.tsp_base.specs.Words.{Handed}
 use Rattle.tsp_rules.specs.{GateRows.GotOn, GateRows.answers_all, Values.Event, Values.Bytes}
-use Rattle.tsp_run.{proofs.RefusalLemmas.refusal-none, proofs.RefusalLemmas.up-down, specs.Refusals.scene, specs.Run.run, specs.Run.steps}
+use Rattle.tsp_run.{proofs.RefusalLemmas.refusal_none, proofs.RefusalLemmas.up_down, specs.Refusals.scene, specs.Run.run, specs.Run.steps}
 use Rattle.tsp_world.proofs.Occurrences.{can_step, declined, lacks_memory, may, occurred}
-use Rattle.tsp_world.{proofs.WorldLemmas.Alike-stands, specs.WorldStands.HappensInWorld}
+use Rattle.tsp_world.{proofs.WorldLemmas.Alike_stands, specs.WorldStands.HappensInWorld}
 use Rattle.tsp_world.proofs.world.World.hand.Goals as goal
 
 pub returns-in-Some : goal.returns-in-Some
@@ -34,7 +34,7 @@ returns c octets range is =
     let e : Event = Bytes c.args.at node c.args.port c.args.from octets in
     let happens : HappensInWorld e ready c.receive.new.self = λ header events w none.
     let len : vec_len ready.nodes ≡ length ready.nodes.items = search rules in
-    let up = (Alike-stands header events ready len w).up node ∙ up-down (scene header events) node (refusal-none (scene header events) e none).up in
+    let up = (Alike_stands header events ready len w).up node ∙ up_down (scene header events) node (refusal_none (scene header events) e none).up in
     c.receive.ensures Handed header events e w refl range none up
     (ap (λ t. Some (steps header (run header events) (answers_all (GotOn c.args.port c.args.from t)) (record { at = c.args.at; node = node; cause = Handed })))
     is) in

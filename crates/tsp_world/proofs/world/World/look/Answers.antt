@@ -4,11 +4,11 @@ use Rattle.std.proofs.Math.ListN.{set}
 use Rattle.tsp_base.specs.Words.{tick_at, Turned}
 use Rattle.tsp_rules.specs.{GateRows.NodeTurn, GateRows.answers_all, NodePerforms.PerformsAll, Values.Turn}
 use Rattle.tsp_run.specs.{Networks.networks, Networks.ports_on, Refusals.scene, Setup.node_line}
-use Rattle.tsp_run.proofs.RefusalLemmas.{refusal-none, up-down}
+use Rattle.tsp_run.proofs.RefusalLemmas.{refusal_none, up_down}
 use Rattle.tsp_world.specs.{NodesReady.PlaceReady, WorldStands.Notes, WorldStands.UpBegun, WorldStands.UpStands}
 use Rattle.tsp_networks.specs.Sheets.{acts_on}
-use Rattle.tsp_world.proofs.ReadyLemmas.{AreDues-acted, NodesReady-later, NodesReady-set, CanAct-ready, PlaceReady-acts, place_there}
-use Rattle.tsp_world.proofs.WorldLemmas.{WorldStands-handed, Alike-stands, in_header}
+use Rattle.tsp_world.proofs.ReadyLemmas.{AreDues_acted, NodesReady_later, NodesReady_set, CanAct_ready, PlaceReady_acts, place_there}
+use Rattle.tsp_world.proofs.WorldLemmas.{WorldStands_handed, Alike_stands, in_header}
 use Rattle.tsp_world.proofs.world.World.look.Goals as goal
 use Rattle.tsp_world.proofs.world.World.look.Goals.{After-index_mut-place}
 
@@ -16,21 +16,21 @@ there : (c : After-index_mut-place) → slice_get c.args.self.now.nodes.items c.
 there c = place_there c.args.self.now c.args.node c.index_mut-place.result.now c.requires.node (search rules) c.index_mut-place.ensures.value
 
 ready : (c : After-index_mut-place) → PlaceReady (ports_on c.args.node (networks c.args.self.now.header)) c.tick-tick.result c.index_mut-place.result.now
-ready c = PlaceReady-acts c.args.self.now c.args.node c.args.at c.tick-tick.result c.index_mut-place.result.now c.requires.able.order c.tick-tick.ensures.tick
+ready c = PlaceReady_acts c.args.self.now c.args.node c.args.at c.tick-tick.result c.index_mut-place.result.now c.requires.able.order c.tick-tick.ensures.tick
     (there c)
 
 pub turn-requires-clause-able : goal.turn-requires-clause-able
-turn-requires-clause-able c = CanAct-ready (ports_on c.args.node (networks c.args.self.now.header)) c.tick-tick.result c.args.self.now.desk.spare
+turn-requires-clause-able c = CanAct_ready (ports_on c.args.node (networks c.args.self.now.header)) c.tick-tick.result c.args.self.now.desk.spare
     c.index_mut-place.result.now (ready (goal.at.turn-requires-clause-able c).After-index_mut-place)
     c.requires.ready.desk
 
 pub invariant_of-self-clause-ready : goal.invariant_of-self-clause-ready
-invariant_of-self-clause-ready c = NodesReady-set c.args.node c.turn.new.place (NodesReady-later c.requires.able.order c.args.self.now.ready)
+invariant_of-self-clause-ready c = NodesReady_set c.args.node c.turn.new.place (NodesReady_later c.requires.able.order c.args.self.now.ready)
     (subst (λ t. PlaceReady (ports_on c.args.node (networks c.args.self.now.header)) t c.turn.new.place) c.tick-tick.ensures.tick
     (c.turn.ensures.ready (ports_on c.args.node (networks c.args.self.now.header)) (ready (goal.at.invariant_of-self-clause-ready c).After-index_mut-place)))
 
 pub invariant_of-self-clause-dues_are : goal.invariant_of-self-clause-dues_are
-invariant_of-self-clause-dues_are c = AreDues-acted c.args.self.now.dues.items c.args.self.now.nodes.items c.args.node c.turn.new.place c.args.self.now.dues_are
+invariant_of-self-clause-dues_are c = AreDues_acted c.args.self.now.dues.items c.args.self.now.nodes.items c.args.node c.turn.new.place c.args.self.now.dues_are
 
 pub note-requires : goal.note-requires
 note-requires c =
@@ -50,10 +50,10 @@ returns c header events w none =
     let world = c.args.self.now in
     let len : vec_len world.nodes ≡ length world.nodes.items = search rules in
     let tick_is = c.tick-tick.ensures.tick ∙ ap (λ h. tick_at (node_line h c.args.node).rate c.args.at) w.header_is in
-    let up = (Alike-stands header events world len w).up c.args.node ∙ up-down (scene header events) c.args.node
-    (refusal-none (scene header events) (Turn c.args.at c.args.node) none).up in
+    let up = (Alike_stands header events world len w).up c.args.node ∙ up_down (scene header events) c.args.node
+    (refusal_none (scene header events) (Turn c.args.at c.args.node) none).up in
     let acts = acts_on c.turn.new.desk in
-    WorldStands-handed header events (Turn c.args.at c.args.node) (answers_all NodeTurn) (record { at = c.args.at; node = c.args.node; cause = Turned }) world
+    WorldStands_handed header events (Turn c.args.at c.args.node) (answers_all NodeTurn) (record { at = c.args.at; node = c.args.node; cause = Turned }) world
     c.note.new.self c.index_mut-place.result.now c.turn.new.place (acts_on world.desk) acts
     w tt none refl refl (in_header header events world len w c.args.node c.requires.node) c.requires.ready.idle up
     (there (goal.at.returns c).After-index_mut-place)

@@ -3,7 +3,7 @@ use Rattle.std.proofs.Common.{◌≡◌, ◌∙◌, ap, refl, sym, subst, rules,
 use Rattle.tsp_run.specs.{Networks.numbers_below, Ranges.IsInRange}
 use Rattle.std.proofs.lemmas.List.Elements.{All-nil}
 use Rattle.tsp_networks.specs.Rooms.{AreRooms}
-use Rattle.tsp_world.{proofs.Replicates.slice_get-replicate, specs.WorldStands.PlaceStands}
+use Rattle.tsp_world.{proofs.Replicates.slice_get_replicate, specs.WorldStands.PlaceStands}
 use Rattle.tsp_world.proofs.world.World.new.Goals as goal
 
 pub invariant_of-result-clause-ready : goal.invariant_of-result-clause-ready
@@ -13,7 +13,7 @@ invariant_of-result-clause-ready c = record {
   one_is = c.in_ok-one.ensures ∙ ap (λ l. numbers_below (length l) ∷ []) c.nodes.ensures.nodes;
   configs_are = c.in_ok-configs.ensures;
   places = λ n place is node up.
-      let none = slice_get-replicate _ n None place (subst (λ ps. slice_get ps n ≡ Some place) c.in_ok-nodes.ensures.places is) in
+      let none = slice_get_replicate _ n None place (subst (λ ps. slice_get ps n ≡ Some place) c.in_ok-nodes.ensures.places is) in
       let bad : ⊥ = cc in absurd bad;
 }
 
@@ -22,7 +22,7 @@ invariant_of-result-clause-rooms_are c = subst (λ nets. AreRooms nets c.in_ok-r
 
 pub invariant_of-result-clause-dues_are : goal.invariant_of-result-clause-dues_are
 invariant_of-result-clause-dues_are c n due node is there =
-    let none = slice_get-replicate _ n None (Some due) (subst (λ ds. slice_get ds n ≡ Some (Some due)) c.in_ok-dues.ensures.places is) in
+    let none = slice_get_replicate _ n None (Some due) (subst (λ ds. slice_get ds n ≡ Some (Some due)) c.in_ok-dues.ensures.places is) in
     let bad : ⊥ = cc in absurd bad
 
 pub returns : goal.returns
@@ -35,7 +35,7 @@ returns c = record {
   sent = c.new.ensures.items;
   lines = c.new-2.ensures.items;
   places = search rules;
-  nodes = λ n place is. subst (λ p. PlaceStands c.args.header [] n p) (sym (slice_get-replicate _ n None place (subst (λ ps. slice_get ps n ≡
+  nodes = λ n place is. subst (λ p. PlaceStands c.args.header [] n p) (sym (slice_get_replicate _ n None place (subst (λ ps. slice_get ps n ≡
       Some place) c.in_ok-nodes.ensures.places is))) refl;
   nobody = λ n past. refl;
 }

@@ -6,29 +6,29 @@ use Rattle.tsp_rules.specs.{GateRows.GotOn, GateRows.answers_all, NodePerforms.P
 use Rattle.tsp_run.specs.{Networks.networks, Networks.ports_on, Setup.node_line}
 use Rattle.tsp_world.specs.{NodesReady.PlaceReady, WorldStands.Notes, WorldStands.UpBegun, WorldStands.UpStands}
 use Rattle.tsp_networks.specs.Sheets.{acts_on}
-use Rattle.tsp_world.proofs.ReadyLemmas.{AreDues-acted, NodesReady-later, NodesReady-set, CanTake-ready, PlaceReady-acts, place_there}
-use Rattle.tsp_world.proofs.{WorldLemmas.WorldStands-handed, WorldLemmas.in_header, world.World.receive.Goals.After-index_mut-place}
+use Rattle.tsp_world.proofs.ReadyLemmas.{AreDues_acted, NodesReady_later, NodesReady_set, CanTake_ready, PlaceReady_acts, place_there}
+use Rattle.tsp_world.proofs.{WorldLemmas.WorldStands_handed, WorldLemmas.in_header, world.World.receive.Goals.After-index_mut-place}
 use Rattle.tsp_world.proofs.world.World.receive.Goals as goal
 
 there : (c : After-index_mut-place) → slice_get c.args.self.now.nodes.items c.args.node ≡ Some c.index_mut-place.result.now
 there c = place_there c.args.self.now c.args.node c.index_mut-place.result.now c.requires.node (search rules) c.index_mut-place.ensures.value
 
 ready : (c : After-index_mut-place) → PlaceReady (ports_on c.args.node (networks c.args.self.now.header)) c.tick-tick.result c.index_mut-place.result.now
-ready c = PlaceReady-acts c.args.self.now c.args.node c.args.at c.tick-tick.result c.index_mut-place.result.now c.requires.able.order c.tick-tick.ensures.tick
+ready c = PlaceReady_acts c.args.self.now c.args.node c.args.at c.tick-tick.result c.index_mut-place.result.now c.requires.able.order c.tick-tick.ensures.tick
     (there c)
 
 pub take-requires-clause-able : goal.take-requires-clause-able
-take-requires-clause-able c = CanTake-ready (ports_on c.args.node (networks c.args.self.now.header)) c.tick-tick.result c.args.self.now.desk.spare c.args.port
+take-requires-clause-able c = CanTake_ready (ports_on c.args.node (networks c.args.self.now.header)) c.tick-tick.result c.args.self.now.desk.spare c.args.port
     c.index_mut-place.result.now (ready (goal.at.take-requires-clause-able c).After-index_mut-place)
     c.requires.ready.desk c.requires.port
 
 pub invariant_of-self-clause-ready : goal.invariant_of-self-clause-ready
-invariant_of-self-clause-ready c = NodesReady-set c.args.node c.take.new.place (NodesReady-later c.requires.able.order c.args.self.now.ready)
+invariant_of-self-clause-ready c = NodesReady_set c.args.node c.take.new.place (NodesReady_later c.requires.able.order c.args.self.now.ready)
     (subst (λ t. PlaceReady (ports_on c.args.node (networks c.args.self.now.header)) t c.take.new.place) c.tick-tick.ensures.tick
     (c.take.ensures.ready (ports_on c.args.node (networks c.args.self.now.header)) (ready (goal.at.invariant_of-self-clause-ready c).After-index_mut-place)))
 
 pub invariant_of-self-clause-dues_are : goal.invariant_of-self-clause-dues_are
-invariant_of-self-clause-dues_are c = AreDues-acted c.args.self.now.dues.items c.args.self.now.nodes.items c.args.node c.take.new.place c.args.self.now.dues_are
+invariant_of-self-clause-dues_are c = AreDues_acted c.args.self.now.dues.items c.args.self.now.nodes.items c.args.node c.take.new.place c.args.self.now.dues_are
 
 pub note-requires : goal.note-requires
 note-requires c =
@@ -50,7 +50,7 @@ returns c cause header events e w at range none up happens =
     let tick_is = c.tick-tick.ensures.tick ∙ ap (λ h. tick_at (node_line h c.args.node).rate c.args.at) w.header_is in
     let row = answers_all (GotOn c.args.port c.args.from c.args.taken.now) in
     let acts = acts_on c.take.new.desk in
-    WorldStands-handed header events e row (record { at = c.args.at; node = c.args.node; cause = cause }) world c.note.new.self c.index_mut-place.result.now
+    WorldStands_handed header events e row (record { at = c.args.at; node = c.args.node; cause = cause }) world c.note.new.self c.index_mut-place.result.now
     c.take.new.place (acts_on world.desk) acts
     w range none happens at (in_header header events world len w c.args.node c.requires.node) c.requires.ready.idle up
     (there (goal.at.returns c).After-index_mut-place)

@@ -6,13 +6,13 @@ use Rattle.tsp_base.specs.Words.{tick_at}
 use Rattle.tsp_gateway.specs.GateConfigs.{AreGatePorts, GateBootsNot, GateConfigValue, UnbootedNode, peers_of_ports}
 use Rattle.tsp_rules.specs.{GateRows.boots_all, NodePerforms.PerformsAll, NodeRows.NodePast, NodeRows.in_node_step, Values.BootAt}
 use Rattle.tsp_run.specs.{Run.boot_step, Run.run, Run.joins, Run.steps, Run.step_tick, Networks.networks, Networks.ports_on}
-use Rattle.tsp_run.{specs.Setup.node_line, specs.Setup.past_of, proofs.NetworkLemmas.some_same, proofs.BootLemmas.boots-up}
+use Rattle.tsp_run.{specs.Setup.node_line, specs.Setup.past_of, proofs.NetworkLemmas.some_same, proofs.BootLemmas.boots_up}
 use Rattle.tsp_world.specs.{Configs.config_of, NodesReady.NodeReady, WorldStands.Notes, WorldStands.PlaceStands}
-use Rattle.tsp_world.proofs.ReadyLemmas.{AreDues-acted, NodesReady-later, NodesReady-set}
+use Rattle.tsp_world.proofs.ReadyLemmas.{AreDues_acted, NodesReady_later, NodesReady_set}
 use Rattle.tsp_gateway.{proofs.LiftLemmas.set_cases, specs.GatewayStands.GatewayStands}
-use Rattle.tsp_networks.{proofs.MemberLemmas.room-many, proofs.MemberLemmas.some_port, specs.Sheets.acts_on}
-use Rattle.tsp_world.proofs.SetupLemmas.{can_boot, get_or-configs_below, length-configs_below}
-use Rattle.tsp_world.proofs.WorldLemmas.{WorldStands-acted, PlaceStands-acted, in_header}
+use Rattle.tsp_networks.{proofs.MemberLemmas.room_many, proofs.MemberLemmas.some_port, specs.Sheets.acts_on}
+use Rattle.tsp_world.proofs.SetupLemmas.{can_boot, get_or_configs_below, length_configs_below}
+use Rattle.tsp_world.proofs.WorldLemmas.{WorldStands_acted, PlaceStands_acted, in_header}
 use Rattle.tsp_world.proofs.world.World.start.Goals as goal
 use Rattle.tsp_world.proofs.world.World.start.Goals.{After-index-config}
 
@@ -20,7 +20,7 @@ pub index-config-requires : goal.index-config-requires
 index-config-requires c =
     let world = c.args.self.now in
     let len : vec_len world.configs ≡ length world.configs.items = search rules in
-    let same = ap (λ v. length v) world.ready.configs_are ∙ length-configs_below world.header (length world.header.nodes) in
+    let same = ap (λ v. length v) world.ready.configs_are ∙ length_configs_below world.header (length world.header.nodes) in
     let inside = c.requires.node in
     let count = world.places in
     omega (arith, len, same, inside, count)
@@ -32,7 +32,7 @@ configured : (c : After-index-config) → c.index-config.result.now ≡ config_o
 configured c =
     let world = c.args.self.now in
     c.index-config.ensures ∙ ap (λ v. get_or v c.args.node c.index-config.result.now) world.ready.configs_are
-    ∙ get_or-configs_below world.header (length world.header.nodes) c.args.node c.index-config.result.now (in_place c)
+    ∙ get_or_configs_below world.header (length world.header.nodes) c.args.node c.index-config.result.now (in_place c)
 
 ports_are : (c : After-index-config) → c.index-config.result.now.ports ≡ ports_on c.args.node (networks c.args.self.now.header)
 ports_are c = ap (λ (v : GateConfigValue). v.ports) (configured c)
@@ -49,7 +49,7 @@ pub boot-requires-clause-room : goal.boot-requires-clause-room
 boot-requires-clause-room c =
     let world = c.args.self.now in
     let many = ap (λ ps. length ps) (ports_are (goal.at.boot-requires-clause-room c).After-index-config) in
-    let room = room-many (ports_on c.args.node (networks world.header)) in
+    let room = room_many (ports_on c.args.node (networks world.header)) in
     let spare = c.requires.ready.desk in
     omega (arith, many, room, spare)
 
@@ -72,18 +72,18 @@ invariant_of-self-clause-ready c =
       ok.2 ∙ ap peers_of_ports (ports_are (goal.at.invariant_of-self-clause-ready c).After-index-config),
       omega (arith, clock),
     ) in
-    NodesReady-set c.args.node (Some c.in-Ok.booted) (NodesReady-later c.requires.able.order world.ready)
+    NodesReady_set c.args.node (Some c.in-Ok.booted) (NodesReady_later c.requires.able.order world.ready)
     (λ node is. subst (λ n. NodeReady ports x n) (some_same is) booted)
 
 pub invariant_of-self-clause-dues_are : goal.invariant_of-self-clause-dues_are
-invariant_of-self-clause-dues_are c = AreDues-acted c.args.self.now.dues.items c.args.self.now.nodes.items c.args.node (Some c.in-Ok.booted)
+invariant_of-self-clause-dues_are c = AreDues_acted c.args.self.now.dues.items c.args.self.now.nodes.items c.args.node (Some c.in-Ok.booted)
     c.args.self.now.dues_are
 
 pub note-requires : goal.note-requires
 note-requires c =
     let world = c.args.self.now in
     let many = ap (λ ps. length ps) (ports_are (goal.at.note-requires c).After-index-config) in
-    let room = room-many (ports_on c.args.node (networks world.header)) in
+    let room = room_many (ports_on c.args.node (networks world.header)) in
     let few = c.boot.ensures.room.few in
     let none = ap (λ ps. length ps) c.requires.ready.idle in
     let sent = c.requires.ready.sent in
@@ -127,13 +127,13 @@ returns-in-Ok-clause-happens c header events w none =
         ports = refl;
       };
     } in
-    WorldStands-acted header events (BootAt c.args.at c.args.node c.args.word) boots_all step world c.note.new.self nodes acts
+    WorldStands_acted header events (BootAt c.args.at c.args.node c.args.word) boots_all step world c.note.new.self nodes acts
     w (search rules) none refl refl (in_header header events world len w c.args.node c.requires.node) (search rules)
     (booted.acts past begun ∙ ap (λ ps. ps ++ boots_all x past) c.requires.ready.idle)
     (subst (λ t. Notes c.args.at c.args.node t world.header nodes world.events world.sent.items acts c.note.new.self) tick_is c.note.ensures)
     (λ place is. elim (set_cases world.nodes.items c.args.node c.args.node (Some node) place is) [
       | inl h ↦ subst (λ p. PlaceStands header (joins (Some (steps header (run header events) boots_all step)) (run header events)) c.args.node p) h.1
-          (PlaceStands-acted header (run header events) boots_all step node (booted.stands past begun) (boots-up x past))
+          (PlaceStands_acted header (run header events) boots_all step node (booted.stands past begun) (boots_up x past))
       | inr h ↦ absurd (h.0 refl)
     ])
     (λ n place other is. elim (set_cases world.nodes.items c.args.node n (Some node) place is) [ inl h ↦ absurd (other (sym h.0)) | inr h ↦ h.1 ])

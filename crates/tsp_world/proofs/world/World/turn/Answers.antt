@@ -2,7 +2,7 @@
 use Rattle.tsp_rules.specs.Values.{Turn}
 use Rattle.std.proofs.Common.{refl, rules, ◌∙◌}
 use Rattle.tsp_world.proofs.Occurrences.{can_step, declined, lacks_memory, may, occurred}
-use Rattle.tsp_world.proofs.WorldLemmas.{WorldStands-rested}
+use Rattle.tsp_world.proofs.WorldLemmas.{WorldStands_rested}
 use Rattle.tsp_world.proofs.world.World.turn.Goals as goal
 
 pub returns-in-Some : goal.returns-in-Some
@@ -19,7 +19,7 @@ pass-requires-clause-events c = (may (Turn c.args.at c.args.node) c.args.self.no
 pub returns-then-idles : goal.returns-then-idles
 returns-then-idles c = occurred (Turn c.args.at c.args.node) c.args.self.now c.idles.new.self c.pass.new.self c.bars_turn.result c.bars_turn.ensures
     c.in_default.is c.idles.ensures.stands
-    (WorldStands-rested c.args.at c.args.node c.idles.new.self c.pass.new.self (search rules) (may (Turn c.args.at c.args.node) c.args.self.now c.idles.new.self
+    (WorldStands_rested c.args.at c.args.node c.idles.new.self c.pass.new.self (search rules) (may (Turn c.args.at c.args.node) c.args.self.now c.idles.new.self
     c.bars_turn.result c.bars_turn.ensures c.in_default.is c.idles.ensures.same).node (c.idles.ensures.idles c.if-idles.true) c.pass.ensures)
 
 pub returns-then-is_err : goal.returns-then-is_err
