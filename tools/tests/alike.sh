@@ -1,5 +1,6 @@
 #!/bin/sh
-# The play for Ansible is well where all hosts have the same hosts file, and names who has another one; also if a daemon was started by another one.
+# The plays for Ansible. One is well where all hosts have the same hosts file, and names who has another one; also if a daemon was started by another one.
+# The other one brings a package to all hosts, and restarts them one after the other, who leads last; it ends at the first host that isn't well again.
 . "$(dirname "$0")/common.sh"
 unset TSP_HOSTS TSP_SELF
 has ansible-playbook || { skip 'there is no ansible-playbook' 'the example of a play'; exit; }
@@ -39,4 +40,49 @@ plays two 0 "$digest on all 3 hosts"
 sed -i "s/$digest/$other/" "$out/journal"
 plays two 2 'the daemon was started by another hosts file'
 plays none 2 "$out/none: there is no such file"
+
+# Three machines of which the second leads: what is called on which, in its order. The third one isn't synchronised again, if that is wanted.
+for name in apt-get systemctl tsp-now; do
+    cat >"$out/path/$name" <<END
+#!/bin/sh
+echo "\${TSP_HOSTS##*/} $name \$*" >>"$out/calls"
+case "$name \$*:\$TSP_HOSTS" in
+*--tracking*:*/two) echo '{"role": "master"}' ;;
+*--tracking*) echo '{"role": "follow"}' && exit 5 ;;
+*--wait*:*/"\$(cat "$out/ill")") exit 1 ;;
+esac
+END
+    chmod +x "$out/path/$name"
+done
+cp "$out/two" "$out/three"
+sed -i 's,other$,three,; s,none$,three,' "$out/inventory"
+echo package >"$out/new.deb"
+upgrades() {
+    : >"$out/calls"
+    echo "$1" >"$out/ill"
+    status=0
+    ansible-playbook -i "$out/inventory" -e "tsp_package=$out/new.deb" -e "tsp_copy=$out/copy.deb" examples/upgrade.yml >"$out/said" 2>&1 || status=$?
+    [ "$status" -eq "$2" ] || fail "status $status: $(cat "$out/said")"
+    grep -v -e apt-get -e tracking "$out/calls" >"$out/restarts"
+    cmp -s - "$out/restarts" || fail "the hosts were restarted so: $(cat "$out/restarts")"
+    for host in one two three; do
+        [ "$(grep -n "$host apt-get -y install $out/copy.deb" "$out/calls" | cut -d: -f1)" -lt "$(grep -n -m 1 systemctl "$out/calls" | cut -d: -f1)" ] ||
+            fail "the package wasn't on $host before the first restart"
+    done
+    cmp -s "$out/new.deb" "$out/copy.deb" || fail 'another package was brought'
+}
+ansible-playbook --syntax-check -i localhost, examples/upgrade.yml >"$out/said" 2>&1 || fail "$(cat "$out/said")"
+upgrades nobody 0 <<END
+one systemctl restart tsp
+one tsp-now --timeout 900 --wait
+three systemctl restart tsp
+three tsp-now --timeout 900 --wait
+two systemctl restart tsp
+two tsp-now --timeout 900 --wait
+END
+upgrades one 2 <<END
+one systemctl restart tsp
+one tsp-now --timeout 900 --wait
+END
+echo "$check: an upgrade of three hosts, and one that ends at a host that isn't well again"
 echo "$check: three hosts, with one file, another one, none, and a daemon that has another one"
