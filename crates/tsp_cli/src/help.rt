@@ -32,8 +32,8 @@ tsp: the time synchronization protocol, as a replay, a daemon and questions to o
 
 An address is A.B.C.D:PORT. Input is standard input, output is standard output. A refused line
 ends a command with the words `bad LINE CAUSE`. The exit status is 0 where all went well, 1 for
-wrong words, 2 for a refused line or clock, 3 and 4 for a failed read and write, 5 for a network
-that fails, 6 for no answer, 7 for a limit and 8 for want of memory.
+wrong arguments, 2 for a refused line or clock, 3 and 4 for a failed read and write, 5 for a
+network that fails, 6 for no answer, 7 for a limit and 8 for want of memory.
 
 TSP_RATE in the environment is by how many parts in 10^9 a daemon's counter is faster than the
 machine's clock at its start: a whole number from -1000000 to 1000000, 0 if it is left out.

@@ -8,7 +8,8 @@
 //! In parentheses are the contracts, clauses and definitions that say it.
 //!
 //! - A replay with status 0 read a schedule of which no event is refused, and wrote exactly the trace of its
-//!   run, whose history keeps the promises, and the premises if its text does (`headline` of `run`).
+//!   run, whose history keeps the promises, and the premises if its text and its trace do (`headline` of
+//!   `run`).
 //! - A replay that ends otherwise wrote the beginning of such a trace and of one line after it, its status
 //!   says how much (`so_far` of `run`).
 //! - The status and the output of a command are the answer to its input, unless a counted fault comes or

@@ -1,3 +1,4 @@
 mod DirectoryLemmas
 mod OriginLemmas
 mod ReachLemmas
+mod RateLemmas

@@ -46,10 +46,17 @@ impl Rate {
 
     /// How far the counter has come when the machine's clock has come `elapsed` microseconds: rounded
     /// down, and at most 2^61.
+    #[tactic(auto, using(crate::proofs::RateLemmas::by_parts))]
     pub fn ticks(&self, elapsed: u64) -> u64
         ensures { result ≡ counted self.now.speed elapsed }
     {
-        let ticks = elapsed as u128 * self.speed as u128 / 1_000_000_000;
-        ticks.min(1 << 61) as u64
+        if elapsed >= 1 << 62 {
+            return 1 << 61;
+        }
+        // (By whole quotients and what is left of them, no number of 128 bits is divided.)
+        let speed = self.speed as u64;
+        let whole = elapsed / 1_000_000_000 * speed;
+        let part = elapsed % 1_000_000_000 * speed / 1_000_000_000;
+        (whole + part).min(1 << 61)
     }
 }

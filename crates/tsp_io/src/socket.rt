@@ -121,20 +121,33 @@ impl Socket {
         })
     }
 
-    /// Sets how many microseconds receives wait. Fails if the system refuses it.
+    /// Sets how many microseconds receives wait; nothing is done if so many are set. Fails if the system
+    /// refuses it.
+    #[inline(always)]
     fn set_wait(&mut self, wait: u64) -> io::Result<()>
         ensures ok { OnOk result (self.new ≡ record self.old { wait = wait }) }
         ensures err { OnErr result (self.new ≡ self.old) }
     {
         if wait != self.wait {
-            self.udp
-                .set_read_timeout(Some(Duration::from_micros(wait)))?;
-            self.wait = wait;
+            return self.change_wait(wait);
         }
         Ok(())
     }
 
+    /// The same, by asking the system for it. (A call of its own, since most receives wait as the one before.)
+    #[inline(never)]
+    fn change_wait(&mut self, wait: u64) -> io::Result<()>
+        ensures ok { OnOk result (self.new ≡ record self.old { wait = wait }) }
+        ensures err { OnErr result (self.new ≡ self.old) }
+    {
+        self.udp
+            .set_read_timeout(Some(Duration::from_micros(wait)))?;
+        self.wait = wait;
+        Ok(())
+    }
+
     /// One call of the system's for a datagram, which waits as long as is set.
+    #[inline(always)]
     fn take(&self, buf: &mut [u8]) -> Result<Came, Untaken>
         requires { length buf.old ≡ 512 }
         ensures { IfOk result (λ came. came.count ≤ 512) }
@@ -288,7 +301,7 @@ fn is_late(ended: Option<u64>, now: Option<u64>, wait: u64) -> bool
 {
     match (ended, now) {
         (Some(ended), Some(now)) => {
-            now.saturating_sub(ended) as u128 > wait as u128 + LONGEST_PAUSE as u128
+            now.saturating_sub(ended).saturating_sub(LONGEST_PAUSE) > wait
         }
         _ => false,
     }
