@@ -7,8 +7,8 @@ usage: store.py JOURNAL        writes each line `KEY VALUE` of standard input, a
 
 Each write is stamped with the latest time that it can be. It comes into the journal, and is answered, when each later stamp of any host is greater (commit
 wait): nobody knows of it before. A round of the network's master moves clocks that agree by 40 ms at most, and hosts learn of that one after the other: so
-much more is waited for. A write is `refused` if no master is known, or if the line has no value. It is `unsure` if the wait took too long. Nothing is
-written then.
+much more is waited for. A write is `refused` if no master is known, or if the line has no value. It is `unsure` if the wait took too long, or if another
+clock counts when it is over. Nothing is written then.
 """
 import sys
 
@@ -18,12 +18,17 @@ import tsp_clock
 ROUND, LONGEST = 40_000, 10
 
 
+def clock_of(now):
+    """What stays the same as long as the times are of one master's clock."""
+    return now.status, now.master, now.life, now.steps
+
+
 def write(clock, journal, line):
     """Writes a line, and says what came of it."""
     now = clock.now()
     if now.status != tsp_clock.SYNCHRONISED or ' ' not in line:
         return 'refused'
-    if not tsp_clock.wait_after(clock, now.latest + ROUND, LONGEST):
+    if not tsp_clock.wait_after(clock, now.latest + ROUND, LONGEST) or clock_of(clock.now()) != clock_of(now):
         return 'unsure'
     journal.write(f'{now.latest} {line}\n')
     journal.flush()

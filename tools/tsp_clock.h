@@ -6,7 +6,7 @@
  *         printf("%lld to %lld\n", (long long)now.earliest, (long long)now.latest);
  *
  * Times are microseconds since 1970. A call never waits for a writer for more than some 50 milliseconds. Each thread needs a tsp_clock of
- * its own. With -std=c99 define _POSIX_C_SOURCE as 200809L first.
+ * its own. It is for gcc and clang, C from C99 on and C++ from C++11 on. With -std=c.. define _POSIX_C_SOURCE as 200809L before the first #include.
  *
  * The page has two halves. The daemon writes its own clock into one. Into the other the supervisor writes its last look at the master: it read this host's
  * clock, a, then the master's, s, and then its own again, d. Later the master's clock is ahead of this one by no less than s - d - 2 * w, and no
@@ -41,7 +41,7 @@ extern "C" {
 /* What is known of the clock. An interval comes with TSP_SYNCHRONISED and TSP_HOLDING alone. */
 enum tsp_status {
     TSP_STALE = 0,        /* the daemon ended properly, or hasn't written for 64 seconds (one that was killed may have any status until then) */
-    TSP_WAITING = 1,      /* no master yet, or nobody has looked at its clock since the daemon's start */
+    TSP_WAITING = 1,      /* no master yet in this life of the daemon, or one that hasn't corrected it yet */
     TSP_SYNCHRONISED = 2, /* the daemon leads, or follows a master that was looked at in the last 64 seconds */
     TSP_HOLDING = 3       /* it had a master, and has none now, or one that hasn't answered for 64 seconds */
 };
@@ -65,7 +65,7 @@ typedef struct {
     uint64_t sequence; /* odd while the daemon writes */
     uint64_t life;
     uint64_t counter;     /* by which clock it counts: 4 is CLOCK_MONOTONIC_RAW, 1 is CLOCK_MONOTONIC */
-    int64_t origin;       /* what that clock read in nanoseconds at the tick behind it, */
+    int64_t origin;       /* what that clock read in nanoseconds at the tick of the next field, */
     uint64_t origin_tick; /* from which on the daemon counts by this rate: */
     int64_t rate;         /* so many parts in 10^9 faster */
     uint64_t tick;        /* when the clock was corrected last, and what it aimed at then */
@@ -100,7 +100,8 @@ typedef struct {
     char master[256];
 } tsp_page;
 
-/* By how many microseconds two clocks may have parted after so many, and how many millionths of one they may part on until that is one more. */
+/* What tsp_spread reckoned last: by how many microseconds two clocks may have parted (`spread`) after so many (`passed`). It is the same after x of them as
+ * long as drift * (x - passed) < room: so much room is left until the cached value changes. */
 typedef struct {
     int64_t passed, spread;
     uint64_t room;
@@ -127,8 +128,8 @@ typedef struct {
 #define TSP_LASTS INT64_C(64000000)            /* the microseconds that an old look, or a daemon that writes nothing, counts for */
 #define TSP_RECKONED INT64_C(100000000)        /* the microseconds for which the own ticks tell the drift most narrowly */
 #define TSP_LONGEST (INT64_MAX / 2000)         /* the longest wait in microseconds: 146 years, as good as without an end */
-#define TSP_FARTHEST (UINT64_C(1) << 56)       /* the greatest time on a page, and the greatest tick */
-#define TSP_LAST_TICK (INT64_C(1) << 53)
+#define TSP_FARTHEST (UINT64_C(1) << 56)       /* the greatest time on a page */
+#define TSP_LAST_TICK (INT64_C(1) << 53)       /* the greatest tick */
 #define TSP_AT_ONCE 64
 #define TSP_PATIENCE INT64_C(40000000) /* the nanoseconds for which a page that is being written is read again */
 
@@ -152,15 +153,15 @@ static inline int64_t tsp_floor(int64_t value, int64_t by)
     return value >= 0 ? (int64_t)((uint64_t)value / (uint64_t)by) : value / by - (value % by < 0);
 }
 
-/* By how many microseconds a counter may be wrong after so many, none of both below 0. */
+/* By how many microseconds a counter may be wrong after so many (`passed`), if neither is below 0. */
 static inline int64_t tsp_width(int64_t drift, int64_t passed)
 {
     return (int64_t)(((uint64_t)drift * (uint64_t)passed + 999999) / 1000000 + 1);
 }
 
-/* By how many microseconds two clocks may have parted since the own counter was so many microseconds back: twice the width after a width more, or after
- * two. That of the last time is given again as long as it is the same, so that a read takes little more than a look at the clock. (behind TSP_RECKONED the
- * width is one more in any case, if there is a drift) */
+/* By how many microseconds two clocks may have parted after so many (x) of the own counter: 2 * width(x + width(x)), or 2 * width(x + 2 * width(x)) if x is
+ * more than TSP_RECKONED. The cached value is given while there is room left until it changes, so that a read takes little more than a look at the clock.
+ * (none is kept from one side of TSP_RECKONED to the other: the width grows by one just there, if there is a drift) */
 static inline int64_t tsp_spread(tsp_parting *last, int64_t drift, int64_t passed)
 {
     uint64_t parts, width, more, used;

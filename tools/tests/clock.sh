@@ -25,6 +25,18 @@ for shown in readme page programs; do
     # shellcheck disable=SC2086
     cc -std=gnu99 $flags -o "$out/$shown" "$out/$shown.c" || fail "what $shown shows is no program"
 done
+# What the page shows to read the master's name by.
+{
+    printf '#define _POSIX_C_SOURCE 200809L\n#include <stdio.h>\n#include <tsp_clock.h>\nint main(void)\n{\ntsp_clock clock;\ntsp_time now;\n'
+    printf 'if (tsp_clock_open(&clock, NULL) != 0 || tsp_clock_now(&clock, &now) != TSP_SYNCHRONISED)\nreturn 1;\n'
+    sed -n '/^char master\[256\]/,/^\.EE/p' man/tsp_clock.3 | sed '$d'
+    printf 'puts(master);\nreturn 0;\n}\n'
+} >"$out/master.c"
+# shellcheck disable=SC2086
+cc -std=c99 $flags -o "$out/master" "$out/master.c" || fail "what the page shows doesn't read a master's name"
+rm -f "$out/led"
+python3 -B tools/tests/made_page.py "$out/led" -3500:3500 0
+[ "$(TSP_CLOCK="$out/led" "$out/master")" = b ] || fail "the master's name is '$(TSP_CLOCK="$out/led" "$out/master")'"
 sed -n '/^import tsp_clock/,/^ *print/p' README.md >"$out/readme.py"
 sed -n '/^import tsp_clock/,/^```/p' docs/PROGRAMS.md | sed '$d' >"$out/programs.py"
 [ "$(wc -l <"$out/shown") $(wc -l <"$out/readme.py")" = '4 4' ] || fail 'the README shows no four lines'

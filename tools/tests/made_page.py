@@ -3,9 +3,10 @@
     made_page.py PATH STATUS AHEAD [REST [LIFE]]    changes or makes a page, whose clock is so many microseconds ahead of the wall clock
 
 STATUS is 0 for a daemon that has ended, 1 for one that waits, 2 for one that leads, 3 for one that has lost its master, or LOW:HIGH for one that follows and
-has looked at its master.
+has looked at its master: that one's clock is LOW to HIGH microseconds ahead, so the interval is HIGH - LOW wide, and a few more. LIFE is for 1 and 2.
 """
 import os
+import re
 import sys
 import time
 
@@ -92,4 +93,8 @@ def main(path, status, ahead, rest=0, life=1):
 
 
 if __name__ == '__main__':
-    main(*sys.argv[1:])
+    words = sys.argv[1:]
+    if not 3 <= len(words) <= 5 or not re.fullmatch('[0-3]|-?[0-9]+:-?[0-9]+', words[1]) or not all(re.fullmatch('-?[0-9]+', word) for word in words[2:]):
+        print('usage: made_page.py PATH STATUS AHEAD [REST [LIFE]]: STATUS is 0, 1, 2, 3 or LOW:HIGH, the others are whole numbers', file=sys.stderr)
+        sys.exit(2)
+    main(*words)

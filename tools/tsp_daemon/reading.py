@@ -76,18 +76,33 @@ def wait_until(clock, within, until):
         time.sleep(0.01)
 
 
-def stamp(clock, until):
-    """A stamp, once each later stamp of the network is greater."""
-    told = wait_until(clock, None, until)
+def stamp(clock, longer, until):
+    """A stamp, once each later stamp of the network is greater, and the master's clock so many milliseconds further. If another clock counts by then, or
+    the master is gone, another stamp is taken."""
+    while True:
+        wait_until(clock, None, until)
+        before = clock.now()
+        if before.status == tsp_clock.SYNCHRONISED:
+            wait_past(clock, before.latest + round(longer * 1000), until)
+            if clock_of(clock.now()) == clock_of(before):
+                return before.latest
+
+
+def clock_of(now):
+    """What has to stay the same from one reading to another if both are to be of one master's clock."""
+    return now.status, now.master, now.life, now.steps
+
+
+def wait_past(clock, moment, until):
+    """Waits until the master's clock is surely past a moment. A long wait is said once."""
     longest = None if until is None else max(until - time.monotonic(), 0)
     is_long = longest is None or longest > LONG
-    is_after = tsp_clock.wait_after(clock, told.latest, LONG if is_long else longest)
+    is_after = tsp_clock.wait_after(clock, moment, LONG if is_long else longest)
     if is_long and not is_after:
         say_status(clock.now())
-        is_after = tsp_clock.wait_after(clock, told.latest, None if longest is None else longest - LONG)
+        is_after = tsp_clock.wait_after(clock, moment, None if longest is None else longest - LONG)
     if not is_after:
         raise Fault('the network\'s time wasn\'t surely after the stamp in that time', usage.NOT_WELL)
-    return told.latest
 
 
 def by_questions(asker, own, address, file):
