@@ -39,7 +39,7 @@ def need_rt():
         return True
     say('there is no `rt` among the programs of PATH')
     say('rt is the command of the Rattle kit, which proves and builds this program.')
-    say("README.md, under 'What it needs', says which kit; add its folder bin to PATH.")
+    say("README.md, under 'Run it', says which kit; add its folder bin to PATH.")
     return False
 
 
@@ -108,11 +108,19 @@ def take_built(stamp):
     return 0
 
 
+def try_out(words, stamp):
+    """Runs the program unproved; or as `./tsp` does, if it is proved and built."""
+    if words != ['--path'] and stamp.is_fresh():
+        say('this run is proved: the program is built from these sources already, so --try changes nothing')
+        os.execv(os.path.join(HERE, 'tsp'), [os.path.join(HERE, 'tsp'), *words])
+    return attempt.run(HERE, words) if need_rt() else NO_RT
+
+
 def act(words):
     name = words[1] if words[:1] == ['--path'] and len(words) == 2 else 'tsp_cli'
     below = crates.below(crates.read(HERE), name)
     if words[:1] == ['--try']:
-        return attempt.run(HERE, words[1:]) if need_rt() else NO_RT
+        return try_out(words[1:], Stamp(HERE, name, below))
     if not below or not crates.is_program(HERE, name):
         say(f'crates.txt has no program {name}')
         return NOT_BUILT

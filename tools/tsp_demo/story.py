@@ -9,6 +9,8 @@ from tsp_texts.tool import Fault
 NOT_SEEN, NOT_RUN = 1, 3
 # How often it looks, in seconds; how long it waits for anything, in seconds of fast time; and by how many microseconds a correction is worth a line.
 LOOK, MOST, LEAST = 0.05, 2400, 1000
+# How many times as fast time may run on a busy machine too.
+SLOW = 20
 
 
 class Story:
@@ -71,7 +73,8 @@ class Story:
         begun = self.network.seconds()
         while not holds():
             if self.network.seconds() - begun > MOST:
-                raise Fault(f'not seen within {span(MOST * 10**6)}: {what}', NOT_SEEN)
+                slower = f'; if the machine is busy, try --speed {SLOW}' if self.network.speed > SLOW else ''
+                raise Fault(f'not seen within {span(MOST * 10**6)}: {what}{slower}', NOT_SEEN)
             time.sleep(LOOK)
             self.look()
 
@@ -101,7 +104,7 @@ class Story:
         for host in self.network.hosts:
             self.network.start(host)
         self.say('three hosts start, whose clocks differ' + ('' if self.is_proved else '; their program is unproved'))
-        self.until('all three run', lambda: all(self.seen.get(host) for host in self.network.hosts))
+        self.until('the daemons of all three hosts are up', lambda: all(self.seen.get(host) for host in self.network.hosts))
         at_first = self.apart
         first, apart = self.lead()
         self.network.kill(first)
