@@ -437,8 +437,10 @@ static inline int tsp_clock_now(tsp_clock *clock, tsp_time *time)
     return tsp_clock_seek(clock, time);
 }
 
-/* Waits until the master's clock is surely past this stamp: 1 when it is, and 0 if it isn't within so many microseconds. More than TSP_LONGEST
- * is taken as that, so INT64_MAX waits without an end; what is below 0 is taken as 0. */
+/* Waits until the master's clock is surely past this stamp: 1 when the interval, of whatever master the host knows then, also of one that is gone, lies after
+ * it, and 0 if it doesn't within so many microseconds. Read the time again after that: if its status isn't TSP_SYNCHRONISED, or its life, its steps or the
+ * master is another one than before, 1 says nothing. More than TSP_LONGEST is taken as that, so INT64_MAX waits without an end; what is below 0 is taken as
+ * 0. */
 static inline int tsp_clock_wait_after(tsp_clock *clock, int64_t stamp, int64_t longest)
 {
     const struct timespec pause = {0, 100000};

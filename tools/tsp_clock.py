@@ -43,7 +43,7 @@ class Daemon(NamedTuple):
     """What the daemon writes: its clock, and whom it follows. Ticks are the microseconds that it counts."""
     life: int = 0
     counter: int = RAW
-    # (what that clock read in nanoseconds at the tick behind it, from which on the daemon counts so many parts in 10^9 faster)
+    # (what that clock read in nanoseconds at the tick of the next field, from which on the daemon counts so many parts in 10^9 faster)
     origin: int = 0
     origin_tick: int = 0
     rate: int = 0
@@ -208,7 +208,7 @@ def read(octets_at):
 
 class Clock:
     """A page that is read. `path` is that of TSP_CLOCK, or /run/tsp/clock, where it is left out. OSError comes where there is no page: EINVAL if something else is
-    there, or a page of another version."""
+    there, or a page of another version. Each thread needs one of its own; it is closed once nothing refers to it."""
 
     def __init__(self, path=None):
         self.path = path or os.environ.get('TSP_CLOCK') or PATH
@@ -253,7 +253,9 @@ class Clock:
 
 
 def wait_after(clock, stamp, longest=None):
-    """Waits until the master's clock is surely past this stamp, and says whether that is so: within so many seconds, if they are given."""
+    """Waits until the master's clock is surely past this stamp, within so many seconds, if they are given. True if the interval, of whatever master the host
+    knows then, also of one that is gone, lies after it. Read the time again after that: if its status isn't SYNCHRONISED, or its life, its steps or its
+    master is another one than before, True says nothing."""
     until = None if longest is None else time.monotonic() + longest
     while True:
         now = clock.now()
