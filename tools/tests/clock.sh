@@ -78,6 +78,32 @@ python3 -B tools/tests/made_page.py "$out/led" 2 0
 printf '%s\n' 'a 1' key 'b 2 3' | TSP_CLOCK="$out/led" PYTHONPATH=tools python3 -B examples/store.py "$out/journal" >"$out/said"
 [ "$(paste -sd ' ' "$out/said")" = 'done refused done' ] || fail "a store answers $(cat "$out/said")"
 [ "$(PYTHONPATH=tools python3 -B examples/store.py --read "$out/journal" 2>&1 | paste -sd ,)" = 'a 1,b 2 3' ] || fail "a store holds $(cat "$out/journal")"
+# If another clock counts when the wait is over, a store takes no write.
+python3 -B - >"$out/said" <<'END'
+import io
+import sys
+sys.path.insert(0, 'tools')
+from tsp_clock import FOLLOWS, HOLDING, SYNCHRONISED, Now
+with open('examples/store.py', encoding='utf-8') as file:
+    store = {}
+    exec(file.read().partition('\ntry:\n')[0], store)
+first = Now(10 ** 15, 10 ** 15, 10 ** 15 + 9, SYNCHRONISED, 0, 1, 0, FOLLOWS, 'a')
+later = first._replace(earliest=2 * 10 ** 15, latest=2 * 10 ** 15)
+
+
+class Given:
+    def __init__(self, *given):
+        self.given = list(given)
+
+    def now(self):
+        return self.given.pop(0)
+
+
+for change in {}, {'status': HOLDING}, {'master': 'b'}, {'life': 2}, {'steps': 1}:
+    journal = io.StringIO()
+    print(store['write'](Given(first, later, later._replace(**change)), journal, 'a 1'), len(journal.getvalue().splitlines()))
+END
+[ "$(paste -sd , "$out/said")" = 'done 1,unsure 0,unsure 0,unsure 0,unsure 0' ] || fail "a store that finds another clock after its wait answers $(cat "$out/said")"
 # A wait is as long as it is said: the longest ones overflow nothing, and the shortest ones don't wait. (the page's interval is 300 ms wide)
 made 'made_page.following(10 ** 15, width=150000)'
 for longest in 9223372036854775807:1 9223372036854775:1 9223372036854776:1 4611686018427387:1 10000000:1 0:0 -1:0 -9223372036854775808:0; do

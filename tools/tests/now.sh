@@ -194,8 +194,8 @@ until=$(($(date -d "$said" +%s%6N) - 7200000000))
 ends 0 --after 300
 [ "$(date +%s%6N)" -ge $(($(date -d "$said" +%s%6N) - 7200000000 + 302000)) ] || fail 'a stamp is given before so many milliseconds more are over'
 # If another life's clock counts when the wait is over, another stamp is taken.
-python3 tools/tests/made_page.py "$out/page" -300000:300000 7200000000
-{ sleep 0.4; python3 tools/tests/made_page.py "$out/page" 2 7300000000 0 9; } &
+page -9000000:9000000
+{ sleep 1; python3 tools/tests/made_page.py "$out/page" 2 7300000000 0 9; } &
 ends 0 --after
 awk -v ahead=$(($(date -d "$said" +%s%6N) - $(date +%s%6N))) 'BEGIN { exit !(ahead > 7290e6 && ahead <= 7300e6) }' || fail "a stamp is of a clock that counts no more: '$said'"
 wait
