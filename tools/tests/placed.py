@@ -43,6 +43,9 @@ def says_next(folder):
         for last, silent in ((), ' if b is silent'), (('10 0 0 86000000 become loose', '10 0 0 86000000 arm elect 640000000'), ''):
             said = views.screen(daemon_of(*lines, *last), None, may_be)[2]
             assert said == f'next         {does} in 9:14{silent}', said
+    rounds = [f'10 0 0 {tick * MILLION} {act}' for tick in (440, 688) for act in ('took 1 adjtime 10 12400 b', 'correct 12400 slew 1795803775398554')]
+    said = views.screen(daemon_of(*lines, *rounds), None)[-1]
+    assert said == 'rate         -50.0 parts in a million, by its corrections of the last 4:08', said
     counts = daemon_of(START, 'tsp-launch: the daemon counts 383 parts in 10^9 faster than the machine', ROLE)
     said = views.screen(counts, None)[-1]
     assert said == 'counter      has +0.383 parts in a million, and nothing is kept for the next start yet', said

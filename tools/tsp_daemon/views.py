@@ -42,7 +42,7 @@ TEXTS = {
 
 def span(microseconds):
     """A time that passes, as hours, minutes and seconds."""
-    seconds = max(microseconds, 0) // 1_000_000
+    seconds = max(round(microseconds), 0) // 1_000_000
     hours, minutes, seconds = seconds // 3600, seconds // 60 % 60, seconds % 60
     return f'{hours}:{minutes:02}:{seconds:02}' if hours else f'{minutes}:{seconds:02}'
 
@@ -149,7 +149,7 @@ def corrected_text(told):
 
 def rate_text(rate):
     """This host's own rate, as the corrections that it took say."""
-    return f'{rate.value:+.1f} parts in a million, as its corrections of the last {span(rate.seconds * 1e6)} say'
+    return f'{rate.value:+.1f} parts in a million, by its corrections of the last {span(rate.seconds * 1e6)}'
 
 
 def learned_text(rate, is_signed=True):
