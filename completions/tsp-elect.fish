@@ -5,7 +5,7 @@ function __tsp_column --description 'A column of the list of hosts: 2 has names,
 end
 
 complete -c tsp-elect -s f -l file -r -F -d 'the hosts file'
-complete -c tsp-elect -l handover -d 'stops the daemon that leads first'
+complete -c tsp-elect -l handover -d 'first restarts the daemon that leads'
 complete -c tsp-elect -l trace -r -F -d 'HOST'\''s trace, of which it is read why it doesn'\''t lead'
 complete -c tsp-elect -l timeout -x -d 'how long an answer is waited for, over all tries'
 complete -c tsp-elect -s t -l tries -x -d 'how often a question is sent in that time'

@@ -5,7 +5,7 @@ function __tsp_column --description 'A column of the list of hosts: 2 has names,
 end
 
 complete -c tsp-launch -s n -l print -d 'prints the arguments and starts nothing'
-complete -c tsp-launch -l lint -d 'starts nothing, prints a digest of the file, which is the same where ..'
+complete -c tsp-launch -l lint -d 'starts nothing, prints a digest of the file'
 complete -c tsp-launch -s l -l list -d 'lists the hosts of the file'
 complete -c tsp-launch -l firewall -x -a 'nft systemd' -d 'prints rules that let in what the daemon needs, and questions from ..'
 complete -c tsp-launch -l wireguard -x -a 'keys netdev network nft wg-quick' -d 'prints this host'\''s part of a tunnel of WireGuard, whose addresses are ..'

@@ -43,4 +43,21 @@ ends() {
 ends /dev/null 1 "^tsp-elect: alpha doesn't lead: "
 ends "$LEADS" 0 '^alpha leads$'
 ends /dev/null 0 '^alpha leads already$'
-echo "$check: an election in which the machine stands still"
+
+# A host of this machine leads, and systemctl, which is to restart its daemon, fails: nothing is said to have been done.
+cat >"$out/fake" <<'END'
+#!/bin/sh
+case $1 in msite) echo 'master beta' ;; *) exit 6 ;; esac
+END
+cat >"$out/bin/systemctl" <<'END'
+#!/bin/sh
+echo "$*" >"$ASKED"
+exit 1
+END
+chmod +x "$out/bin/systemctl"
+status=0
+TSP_SELF=beta ASKED=$out/asked tools/tsp-elect --handover --timeout 40 --program "$out/fake" --file "$out/hosts" alpha >"$out/said" 2>"$out/told" || status=$?
+[ "$status" -eq 3 ] && [ "$(cat "$out/asked")" = 'restart tsp' ] || fail "if systemctl fails, --handover ends with status $status: $(cat "$out/told")"
+[ "$(cat "$out/said")" = 'beta leads, and its daemon is being started again' ] && [ "$(cat "$out/told")" = 'tsp-elect: systemctl restart tsp ends with status 1' ] ||
+    fail "if systemctl fails, --handover says '$(cat "$out/said" "$out/told")'"
+echo "$check: an election in which the machine stands still, and a daemon that can't be started again"

@@ -29,6 +29,7 @@ refuses() {
 # The sources, by a chronyc that prints what stands in a file, or ends with status 1.
 cat >"$out/bin/chronyc" <<'OF'
 #!/bin/sh
+case $* in *tracking) cat "$SOURCES.tracking" 2>/dev/null; exit ;; esac
 echo "$*" >"$SOURCES.words"
 [ -e "$SOURCES" ] || { echo '506 Cannot talk to daemon'; exit 1; }
 cat "$SOURCES"
@@ -61,6 +62,13 @@ for other in '^,+,192.0.2.1,2,6,377' '^,-,192.0.2.1,2,6,1' '^,*,192.0.2.1,2,6,0'
 done
 printf '%s\n' '^,?,192.0.2.1,0,6,0,-1,0.0,0.0,0.1' "$own" >"$SOURCES"
 ends 0 --status --socket "$out/socket"
+# Its own clock, by `local`; and another one, as it is while it is fed.
+own_clock='1796110410.793896048,0.000000000,0.000000000,0.000000000,0.000,0.000,0.000,0.000000000,0.000000000,0.0,Normal'
+echo "7F7F0101,,10,$own_clock" >"$SOURCES.tracking"
+refuses 5 'chronyd goes by its own clock, as a line `local` of its file says: take that out'
+echo "54535000,TSP,1,$own_clock" >"$SOURCES.tracking"
+ends 0 --status --socket "$out/socket"
+rm "$SOURCES.tracking"
 # None to feed, and what isn't known.
 : >"$SOURCES"
 refuses 6 'chronyd has no reference clock TSP: examples/chrony.conf of the package has its line'
@@ -135,6 +143,20 @@ grep -q 'Selected source TSP' "$out/chronyd" || fail "chronyd says '$(cat "$out/
 # (the seventh column is the offset of a sample as it came)
 awk '$3 == "TSP" && $7 != "-" { count++; if ($7 < 0.0025 || $7 > 0.0035) wrong = $0 } END { if (!count || wrong) { print wrong; exit 1 } }' "$out/log/refclocks.log" >"$out/wrong" || fail "chronyd has other offsets: '$(cat "$out/wrong" "$out/log/refclocks.log")'"
 ends 0 --status --socket "$out/fed" --chronyd "$out/chrony/chronyd.sock"
+# Its own clock, which a chronyd that was never fed goes by.
+mkdir -m 770 "$out/lone"
+sed "s|$out/chrony/|$out/lone/|; s|$out/fed|$out/fed.lone|; /^log\|^refclock SOCK .* GPS/d" "$out/chrony.conf" >"$out/lone.conf"
+echo 'local stratum 10 orphan' >>"$out/lone.conf"
+chronyd -x -d -U -u "$(id -un)" -f "$out/lone.conf" >"$out/lone.said" 2>&1 &
+note_process
+tries=0
+until [ -S "$out/fed.lone" ] && chronyc -h "$out/lone/chronyd.sock" -n -c sources >"$out/sources" 2>&1; do
+    tries=$((tries + 1))
+    [ "$tries" -lt 100 ] || fail "a chronyd with \`local\` doesn't answer: $(cat "$out/sources" "$out/lone.said")"
+    sleep 0.1
+done
+ends 5 --status --socket "$out/fed.lone" --chronyd "$out/lone/chronyd.sock"
+[ "$told" = 'tsp-feed: chronyd goes by its own clock, as a line `local` of its file says: take that out' ] || fail "of its own clock it tells '$told'"
 # Another source beside it.
 python3 -B tools/tests/feed_other.py "$out/other" 8 || fail 'the other source ends'
 ends 5 --status --socket "$out/fed" --chronyd "$out/chrony/chronyd.sock"

@@ -199,6 +199,25 @@ done <tools/tests/launch.cases
 refuses "$out/none: there is no such file" -n -f "$out/none" -s alpha
 refuses "$out: it can't be read" -n -f "$out" -s alpha
 refuses "$hosts: no line for this host, delta" -n -f "$hosts" -s delta
+# (a name that nobody gave is the system's, or where nothing is started that of the unit's variables; those of the caller count first)
+mkdir "$out/copy"
+cp -r tools "$out/copy/tools"
+sed -i "s|variables=/etc/default/tsp\$|variables=$out/variables|" "$out/copy/tools/tsp-launch"
+# Wants this line of it on standard output or standard error where the unit's variables are these lines.
+by_unit() {
+    printf '%b\n' "$1" >"$out/variables"
+    line=$2
+    shift 2
+    env "$@" "$out/copy/tools/tsp-launch" --firewall nft -f "$hosts" 2>&1 | grep -qxF "$line" || fail "with the unit's variables '$*' it says another thing than '$line'"
+}
+alpha='        ip daddr 192.0.2.11 udp dport 525 jump datagrams' beta='        ip daddr 192.0.2.12 udp dport 526 jump datagrams'
+by_unit '# TSP_SELF=beta\nTSP_SELF=beta\n TSP_SELF = "alpha" \n#TSP_SELF=beta' "$alpha" TSP_SELF=
+by_unit 'TSP_SELF=alpha' "$beta" TSP_SELF=beta
+by_unit 'TSP_SELF=delta' "tsp-launch: $hosts: no line for this host, delta, as $out/variables has it" TSP_SELF=
+by_unit '#TSP_SELF=alpha' "tsp-launch: $hosts: no line for this host, $(uname -n); give its name there by --self or TSP_SELF" TSP_SELF=
+status=0
+TSP_SELF='' "$out/copy/tools/tsp-launch" -f "$hosts" >"$out/said" 2>"$out/told" || status=$?
+[ "$status" -eq 78 ] && grep -q ' TSP_SELF$' "$out/told" || fail "a start takes its name from the unit's variables: $(cat "$out/told")"
 printf '# nobody\n\n' >"$out/hosts"
 refuses "$out/hosts: no host stands in it" -n -f "$out/hosts" -s alpha
 awk 'BEGIN { for (i = 1; i <= 1001; i++) printf "n%d 10.0.%d.%d master\n", i, i / 250, i % 250 + 1 }' >"$out/hosts"

@@ -66,11 +66,14 @@ if grep -q 'install libfaketime' "$out/told"; then
     echo "$check: it says what is missing"
     exit
 fi
-[ "$status" -eq 0 ] && grep -qx "$out/page: synchronised, ahead by 7[12][09][09]\.[0-9]* s" "$out/said" || fail "status $status: $(cat "$out/said" "$out/told")"
+[ "$status" -eq 0 ] && [ "$(wc -l <"$out/said")" -eq 2 ] && grep -qx "$out/page: synchronised, ahead by 7[12][09][09]\.[0-9]* s" "$out/said" || fail "status $status: $(cat "$out/said" "$out/told")"
 rm "$out/page"
 refuses 125 "there is no page of the network's time at $out/page" tools/tsp-run true
 page 0 0 1
 refuses 125 "$out/page: no master yet" tools/tsp-run true
+status=0
+tools/tsp-run --status >"$out/said" 2>"$out/told" || status=$?
+[ "$status" -eq 125 ] && [ "$(tail -n 1 "$out/said")" = "$out/page: no master yet, so nothing would be run" ] || fail "without a master --status ends with $status: $(cat "$out/said" "$out/told")"
 
 # A program's status, also by a signal, and one that isn't there or can't be run.
 page 7200000000 0 2

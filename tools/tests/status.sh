@@ -159,6 +159,17 @@ for line in 'tsp_host_rate_ppm{network="2",host="gamma"} 104.167' 'tsp_host_rate
     grep -qxF "$line" "$out/said" || fail "the metrics lack $line"
 done
 cp "$out/said" "$out/rates"
+# (a follower's trace has no rates, and tells its own correction alone; a plugin has its one line; a gateway's trace has those of its network)
+printf '%s\n' 'tsp-launch: in the trace peer 0 is beta, 1 alpha' '5 0 0 86000000 become follow 1' '6 0 0 90000000 took 1 adjtime 7 500 alpha' \
+    '6 0 0 90000000 correct 500 slew 1796110603110062' >"$out/follower"
+ends 0 --trace "$out/follower"
+grep -q '^1    beta .* +0.500  reached$' "$out/said" || fail "of a follower's trace it says '$(cat "$out/said")'"
+tells "tsp-status: $out/follower: beta doesn't lead, so it tells its own correction alone; rates are in the trace of alpha"
+ends 0 --trace "$out/follower" --check
+tells ''
+sed 's/peer 0 is beta/peer 0 is gate/; $a 7 0 1 90000000 become master' "$out/follower" >"$out/gateway"
+ends 0 --trace "$out/gateway"
+tells ''
 # (on the machine that leads it is the journal)
 mkdir "$out/journal"
 printf '#!/bin/sh\ncat %s\n' "$out/named" >"$out/journal/journalctl"

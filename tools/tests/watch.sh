@@ -80,12 +80,18 @@ says 'looks at alarms and sends came at most 0.023991 s late: for the alarm wind
     '1 of 1 questions and numbered sends were answered, within at most 0.002192 s' \
     'candidatures: 1, which ended after at most 5.023991 s; by the law at most 5.023991 s' \
     'numbered sends: 1, which ended after at most 0.002192 s; by the law at most 3.023991 s'
+cp "$out/said" "$out/progress"
 input=$trace
-ends 0 --progress
-[ "$(wc -l <"$out/said")" -eq 4 ] || fail "of standard input it says '$(cat "$out/said")'"
+ends 0 --progress -
+cmp -s "$out/said" "$out/progress" || fail "of standard input it says '$(cat "$out/said")'"
 input=/dev/null
-ends 1 --progress
+ends 1 --progress -
 tells "standard input: no line is one of a daemon's trace"
+# (without FILE it is of this machine's unit, also where standard input is no terminal)
+TSP_TRACE=$PWD/$trace ends 0 --progress
+cmp -s "$out/said" "$out/progress" || fail "of the unit it says '$(cat "$out/said")'"
+TSP_TRACE=off ends 3 --progress
+tells 'this machine keeps no trace: TSP_TRACE is off'
 ends 1 --progress examples/round.trace
 tells 'examples/round.trace: a trace of several hosts, as tsp replay writes it, and not one of a daemon'
 ends 2 --progress --since today "$trace"
@@ -197,10 +203,21 @@ if has script; then
     chmod +x "$out/draw"
     script -qec "$out/draw" /dev/null </dev/null | tr -d '\r' | sed 's/\x1b\[[0-9]*[A-Z]//g' | tail -n 6 >"$out/drawn"
     sed 's/ *$//' "$out/drawn" >"$out/said"
-    says 'a, 13:50 after its start' 'role         leads' 'next         round in 0:00' \
+    says 'a, 13:50 after its start, at its last line' 'role         leads' 'next         round in 0:00' \
         'correction   -1.423 ms slewed, 0:00 ago, to 2026-11-27 18:2' 'late         never' ''
 else
     skip 'there is no script' 'a terminal'
+fi
+
+# Where a quiet trace's last line is in time, and the unit's on a terminal: its file was written a minute ago.
+said=$(python3 -B tools/tests/placed.py "$out") || fail "the last line is placed otherwise"
+echo "$check: a daemon's tick now is found $said"
+if has script; then
+    cp "$trace" "$out/own"
+    touch -d '60 seconds ago' "$out/own"
+    printf '#!/bin/sh\nstty cols 60 rows 7\nTSP_TRACE=%s timeout 2 tools/tsp-watch\n' "$out/own" >"$out/draw"
+    script -qec "$out/draw" /dev/null </dev/null | tr -d '\r' | sed 's/\x1b\[[0-9]*[A-Z]//g' >"$out/drawn"
+    grep -q '^a, 14:5[0-9] after its start *$' "$out/drawn" || fail "of a quiet trace it draws '$(cat "$out/drawn")'"
 fi
 
 # Input that is none, or can't be read.

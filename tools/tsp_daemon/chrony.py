@@ -8,6 +8,8 @@ from collections import namedtuple
 from tsp_texts.tool import Fault
 
 SOCKET, REFID = '/run/chrony.tsp.sock', 'TSP'
+# How chronyd calls its own clock, 127.127.1.1, where it goes by that.
+LOCAL = b'7F7F0101,'
 # Why there is no feed: another source, nobody who takes samples, a counter that chronyd slews.
 ANOTHER, NOBODY, SLEWED = 5, 6, 7
 # chronyc is waited for so many seconds.
@@ -40,11 +42,25 @@ def sources_of(text):
     return found
 
 
+def asked(address, what):
+    """A call of chronyc that asks for something, once it has ended."""
+    words = ['chronyc', *(('-h', address) if address else ()), '-n', '-c', what]
+    return subprocess.run(words, stdin=subprocess.DEVNULL, stdout=subprocess.PIPE, stderr=subprocess.STDOUT, timeout=PATIENCE, check=False)
+
+
+def is_local(address=None):
+    """Whether chronyd goes by its own clock, as `local` in its file has it while it has no source. (while it follows one that isn't to be seen)"""
+    try:
+        ran = asked(address, 'tracking')
+    except (OSError, subprocess.TimeoutExpired):
+        return False
+    return not ran.returncode and ran.stdout.startswith(LOCAL)
+
+
 def sources(address=None):
     """The sources of chronyd. It is a fault that nobody answers."""
-    words = ['chronyc', *(('-h', address) if address else ()), '-n', '-c', 'sources']
     try:
-        ran = subprocess.run(words, stdin=subprocess.DEVNULL, stdout=subprocess.PIPE, stderr=subprocess.STDOUT, timeout=PATIENCE, check=False)
+        ran = asked(address, 'sources')
     except subprocess.TimeoutExpired as fault:
         raise Fault('chronyd doesn\'t answer', NOBODY) from fault
     except OSError as fault:
@@ -56,11 +72,13 @@ def sources(address=None):
     return sources_of(ran.stdout.decode('ascii', 'replace'))
 
 
-def check_sources(found):
-    """That chronyd has a clock to feed and follows nothing else."""
+def check_sources(found, is_by_itself=False):
+    """That chronyd has a clock to feed and follows nothing else, nor itself."""
     others = [source.name for source in found if not source.is_own and source.is_used]
     if others:
         raise Fault(f'chronyd has another source, {others[0]}: one clock doesn\'t follow two', ANOTHER)
+    if is_by_itself:
+        raise Fault('chronyd goes by its own clock, as a line `local` of its file says: take that out', ANOTHER)
     if not any(source.is_own for source in found):
         raise Fault(f'chronyd has no reference clock {REFID}: examples/chrony.conf of the package has its line', NOBODY)
 

@@ -39,6 +39,16 @@ def listed(file) -> list[Host]:
     return hosts
 
 
+def may_be_of(name, file) -> str | None:
+    """What a host may be by the first line of a hosts file that has its name; None where nothing says that. No address is looked up for it."""
+    try:
+        with open(file, encoding='ascii', errors='replace') as text:
+            lines = [line.partition('#')[0].split() for line in text]
+    except OSError:
+        return None
+    return next((words[2] for words in lines if len(words) == 3 and words[0] == name), None)
+
+
 def asked_at(local) -> str:
     """Where this machine asks a daemon that listens at an address: over the loopback, where that is all addresses."""
     host, port = local.split(':')

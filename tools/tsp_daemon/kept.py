@@ -5,6 +5,7 @@ import datetime
 import gzip
 import os
 import re
+import select
 import subprocess
 import time
 
@@ -22,7 +23,7 @@ START, TIME = b'in the trace peer 0 is ', re.compile(rb'^\.\.\. it is ([0-9-]{10
 # What others that rotate files put behind a name: the newer one has the less number.
 ROTATED = re.compile(r'\.([0-9]{1,5})(?:\.gz)?')
 FORMS = ('%Y-%m-%d', '%Y-%m-%d %H:%M', '%Y-%m-%d %H:%M:%S', '%Y-%m-%dT%H:%M', '%Y-%m-%dT%H:%M:%S')
-CHUNK, PAUSE = 1 << 16, 0.25
+CHUNK, PAUSE, SECOND = 1 << 16, 0.25, 1.0
 
 
 def of_unit(name):
@@ -146,17 +147,19 @@ def of_journal(since):
     yield from of_command(words)
 
 
-def of_command(words):
-    """The octets that a command writes, as they come."""
+def of_command(words, patience=None):
+    """The octets that a command writes, as they come; none where nothing came for so many seconds."""
     try:
         process = subprocess.Popen(words, stdin=subprocess.DEVNULL, stdout=subprocess.PIPE)
     except OSError as fault:
         raise Fault(f'{words[0]}: {fault.strerror}', 3) from fault
     with process:
-        octets = process.stdout.read1(CHUNK)
-        while octets:
+        while True:
+            is_ready = patience is None or select.select([process.stdout], [], [], patience)[0]
+            octets = os.read(process.stdout.fileno(), CHUNK) if is_ready else b''
+            if is_ready and not octets:
+                return
             yield octets
-            octets = process.stdout.read1(CHUNK)
 
 
 def kept(since=None):
@@ -185,7 +188,7 @@ def followed():
     path = place()
     if not path and not is_in_journal() and all(octets.strip() in NO_LINES for octets in of_command(LAST_LINE)):
         path = awaited(trail.PATH)
-    yield from (follow(path) if path else of_command([*JOURNAL, '-n', '20000', '-f']))
+    yield from (follow(path) if path else of_command([*JOURNAL, '-n', '20000', '-f'], SECOND))
 
 
 def awaited(path):

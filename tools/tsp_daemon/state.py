@@ -57,7 +57,7 @@ class Counts:
 
 class Daemon:
     """A daemon: its ports, its peers by their numbers, its last correction, what it was late with, when a QUIT came, and whom it voted for last
-    and when; and what is learned of its counter."""
+    and when; what is learned of its counter; and the last time that its supervisor told, in seconds since 1970, behind the tick of the line before."""
 
     def __init__(self, learning: learn.Learning | None = None):
         self.counts, self.learning = Counts(), learning or learn.Learning()
@@ -71,7 +71,7 @@ class Daemon:
         self.late = self.quit = self.backed = None
         self.finder = rates.Finder()
         self.is_traced = True
-        self.took = None
+        self.took = self.told = None
 
     def name(self, number):
         """A peer's name, or its number where no line told its name."""
@@ -98,6 +98,9 @@ class Daemon:
         act = trace.line_of(line)
         if act is None:
             self.applies(*(told.rate_in(line) or ()))
+            seconds = told.time_in(line)
+            if seconds is not None and self.tick:
+                self.told = self.tick, seconds
             return []
         if act.node:
             raise NoDaemon

@@ -81,6 +81,12 @@ def told_by(daemon) -> dict[str, Traced]:
     return found
 
 
+def is_leaders(daemon, leaders):
+    """Whether a trace is that of one of these hosts, or of a gateway, which leads another network by it."""
+    leads = [number for number, port in daemon.ports.items() if port.role == 'master']
+    return any(leads) or (daemon.own_name in leaders if daemon.own_name else bool(leads))
+
+
 def own_of(names):
     """Which of these names is this machine's, as tsp-launch finds it under the unit; None where none is."""
     own = kept.variable('TSP_SELF') or os.uname().nodename

@@ -12,6 +12,9 @@ ALARMS = {
     'quiet': 'its silence ends', 'search': 'its search for a master ends', 'elect': 'election', 'window': 'its election ends',
     'resolve': 'rivals are told to give way', 'round': 'round',
 }
+# What a host does when the time until its election is over, by what the hosts file lets it be; and where that isn't known.
+AT_ELECTION = {'master': 'stands for election', 'strict': 'stands for election', 'slave': 'searches for a master'}
+EITHER = 'stands, or searches for a master,'
 # Values that are printed with their sign.
 SIGNED = ('offset_us', 'mean_us', 'amount_us')
 WAYS = {'slew': 'slewed', 'step': 'stepped'}
@@ -39,7 +42,7 @@ TEXTS = {
 
 def span(microseconds):
     """A time that passes, as hours, minutes and seconds."""
-    seconds = max(microseconds, 0) // 1_000_000
+    seconds = max(round(microseconds), 0) // 1_000_000
     hours, minutes, seconds = seconds // 3600, seconds // 60 % 60, seconds % 60
     return f'{hours}:{minutes:02}:{seconds:02}' if hours else f'{minutes}:{seconds:02}'
 
@@ -101,10 +104,15 @@ def summary(daemon):
     return ', '.join(f'{where}{text}' for where, port, text in port_texts(daemon) if port.role) or 'its role is not known yet'
 
 
-def next_text(port, now):
-    """What a port does next, and when."""
+def next_text(port, now, master, may_be):
+    """What a port does next, and when. A host that may not lead doesn't stand; one that follows does neither while its master is heard."""
     alarm = min((alarm for alarm in port.alarms if alarm in ALARMS), key=port.alarms.get, default=None)
-    return 'not known yet' if alarm is None else f'{ALARMS[alarm]} in {span(port.alarms[alarm] - now)}'
+    if alarm is None:
+        return 'not known yet'
+    left = span(port.alarms[alarm] - now)
+    if alarm != 'elect':
+        return f'{ALARMS[alarm]} in {left}'
+    return f'{AT_ELECTION.get(may_be, EITHER)} in {left}' + (f' if {master} is silent' if port.role == 'follow' else '')
 
 
 def correction_text(daemon, now):
@@ -141,7 +149,7 @@ def corrected_text(told):
 
 def rate_text(rate):
     """This host's own rate, as the corrections that it took say."""
-    return f'{rate.value:+.1f} parts in a million, as its corrections of the last {span(rate.seconds * 1e6)} say'
+    return f'{rate.value:+.1f} parts in a million, by its corrections of the last {span(rate.seconds * 1e6)}'
 
 
 def learned_text(rate, is_signed=True):
@@ -152,15 +160,16 @@ def learned_text(rate, is_signed=True):
 def counter_text(learning):
     """What the counter has, and what it needs."""
     found = learning.found
-    needs = f'needs {learned_text(found.rate)}, give or take {learned_text(found.error, False)}' if found else 'nothing is learned yet'
+    needs = f'needs {learned_text(found.rate)}, give or take {learned_text(found.error, False)}' if found else 'nothing is kept for the next start yet'
     return f'has {learned_text(learning.applied)} parts in a million, and {needs}'
 
 
-def screen(daemon, now):
-    """The lines of a screen: the state as it is at this tick."""
-    lines = [f'{daemon.own_name or "a daemon"}, {span(now)} after its start' + ('' if daemon.is_traced else '; its trace is off')]
+def screen(daemon, now, may_be=None):
+    """The lines of a screen: the state as it is at this tick; where that is None, as it was at the last line. The hosts file may say what it may be."""
+    at_last, now = ', at its last line' if now is None else '', daemon.tick if now is None else now
+    lines = [f'{daemon.own_name or "a daemon"}, {span(now)} after its start{at_last}' + ('' if daemon.is_traced else '; its trace is off')]
     for where, port, role in port_texts(daemon):
-        lines += [f'{where}role'.ljust(12) + f' {role}', f'{where}next'.ljust(12) + f' {next_text(port, now)}']
+        lines += [f'{where}role'.ljust(12) + f' {role}', f'{where}next'.ljust(12) + f' {next_text(port, now, daemon.master_name(port), may_be)}']
         if port.rivals:
             lines.append(f'{where}rivals'.ljust(12) + ' ' + ', '.join(map(daemon.name, port.rivals)))
     lines += ['correction   ' + correction_text(daemon, now), 'late         ' + late_text(daemon, now)]
