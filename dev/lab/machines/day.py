@@ -45,11 +45,16 @@ class Day:
         self.since = {machine: confined.cursor(machine) for machine in net.machines}
         self.resident = {machine: [] for machine in net.machines}
         self.record = Record(net, net.hours * HOUR + BEYOND)
-        self.begun = time.monotonic()
+        self.begun, self.at = time.monotonic(), truth.now(net)
 
     def second(self):
         """The seconds since the day began."""
         return time.monotonic() - self.begun
+
+    def when(self, moment, rate):
+        """A moment of the truth's as hours, minutes and seconds of the day."""
+        seconds = int(moment - self.at / rate) // 1_000_000
+        return f'{seconds // HOUR}:{seconds // 60 % 60:02}:{seconds % 60:02}'
 
     def look(self, machine):
         """Looks at the memory of a machine's processes, if both run."""
@@ -71,21 +76,26 @@ class Day:
         second, at = self.second(), truth.now(self.net)
         victim = self.draw.choice(self.net.followers())
         self.net.choose(victim)
-        self.mark(sort, victim)
+        marked = [victim] if sort in SETS_COUNTER else []
         try:
+            self.record.mark(marked)
             said, is_well = sort(self.net), True
-            self.net.led(network.FOLLOWED, is_told=False)
+            self.record.mark(marked)
         except (Failed, OSError) as fault:
             said, is_well = str(fault), False
+        fault = self.not_well()
         took = self.second() - second
-        self.mark(sort, victim)
-        self.events.append(Event(second, at, sort.__name__, victim.name, is_well, said, took))
+        self.events.append(Event(second, at, sort.__name__, victim.name, is_well and not fault, f'{said}{fault}', took))
         self.net.say(f'    {self.line(self.events[-1])}')
 
-    def mark(self, sort, victim):
-        """Notes a machine's counter, where it may be set anew."""
-        if sort in SETS_COUNTER:
-            self.record.mark([victim])
+    def not_well(self):
+        """Waits until a host leads and all others follow it, and no unit has failed; gives what isn't so, behind a semicolon."""
+        try:
+            self.net.led(network.FOLLOWED, is_told=False)
+            self.net.each(faults.none_failed)
+        except (Failed, OSError) as fault:
+            return f'; {fault}'
+        return ''
 
     @staticmethod
     def line(event):
@@ -93,12 +103,11 @@ class Day:
         hours, minutes = divmod(int(event.second) // 60, 60)
         return f'{hours:2}:{minutes:02} {event.name} ({event.victim}): {"well" if event.is_well else "NOT WELL"} again after {event.took:.0f} s: {event.said}'
 
-    def table(self, seen):
+    def table(self, judged, rate):
         """What befell, with how many intervals were read and missed from then on until the next one."""
-        judged = [(moment, late) for _, moment, late in seen.judged()]
-        bounds = [event.at / seen.rate for event in self.events] + [float('inf')]
+        bounds = [event.at / rate for event in self.events] + [float('inf')]
         for event, begun, ended in zip(self.events, bounds, bounds[1:]):
-            those = [late for moment, late in judged if begun <= moment < ended]
+            those = [late for _, moment, late in judged if begun <= moment < ended]
             yield f'{self.line(event)}; {sum(late != 0 for late in those)} of {len(those)} intervals missed'
 
     def grown(self):
@@ -114,12 +123,14 @@ class Day:
         return lines, too_much
 
     def errors(self):
-        """The lines of the journal that are errors, have a traceback, or are the kernel's of what the profile lacks."""
+        """The lines of the journal that are errors, have a traceback, or are the kernel's of what the profile lacks. The journal stays in the lab's folder."""
         found = []
         for machine, since in self.since.items():
-            after = f'-o cat --no-pager --after-cursor="{since}"'
-            said = machine.says(f'journalctl {UNITS} -p err {after}; journalctl {UNITS} {after} | grep -A 20 Traceback').splitlines()
-            found += [f'{machine.name}: {line}' for line in [*said, *confined.noted(machine, since)] if line and line != '-- No entries --']
+            after = f'--no-pager -q --after-cursor="{since}"'
+            with open(machine.path('journal'), 'w', encoding='utf-8') as file:
+                file.write(machine.says(f'journalctl {UNITS} -o short-iso-precise {after}'))
+            said = machine.says(f'journalctl {UNITS} -o cat -p err {after}; journalctl {UNITS} -o cat {after} | grep -A 20 Traceback').splitlines()
+            found += [f'{machine.name}: {line}' for line in [*said, *confined.noted(machine, since)]]
         return found
 
 
@@ -137,21 +148,20 @@ def day(net):
         one.wait(second)
         one.befall(sort)
     one.wait(net.hours * HOUR)
-    net.led(network.FOLLOWED, is_told=False)
+    last = one.not_well()
     one.wait(one.second())
     lasted, errors = one.second() / HOUR, one.errors()
-    net.each(faults.none_failed)
     seen = one.record.end()
-    table = list(one.table(seen))
-    for line in table:
+    judged = seen.judged()
+    for line in one.table(judged, seen.rate):
         net.say(f'    {line}')
-    missed = [f'{machine.name} by {late} us' for machine, _, late in seen.judged() if late]
-    fallen = [f'{machine.name} by {by} us' for machine, _, by in seen.falls()]
+    bad = [*filter(None, [last]), *(event.name for event in one.events if not event.is_well)]
+    missed, fallen = ([f'{machine.name} at {one.when(moment, seen.rate)} by {by:.0f} us' for machine, moment, by in found if by]
+                      for found in (judged, seen.falls()))
     lines, too_much = one.grown()
-    bad = [event.name for event in one.events if not event.is_well]
-    faults_seen = [*verdict(bad, 'events weren\'t well'), *verdict(missed, 'intervals missed the master\'s clock'), *verdict(fallen, 'shown values fell'),
-                   *verdict(too_much, 'processes grew'), *verdict(errors, 'lines of the journal')]
-    summed = (f'{lasted:.1f} hours, {len(one.events)} events, {len(missed)} of {len(seen.judged())} intervals missed the master\'s clock, {len(fallen)} shown '
-              f'values fell; shown values were apart by {truth.three(seen.apart("shown"))} us; KiB in memory, the most at first and the last: {", ".join(lines)}')
-    wanted(not faults_seen, f'{"; ".join(faults_seen)} ({summed})')
+    amiss = [*verdict(bad, 'events weren\'t well'), *verdict(missed, 'intervals missed the master\'s clock'), *verdict(fallen, 'shown values fell'),
+             *verdict(too_much, 'processes grew'), *verdict(errors, 'lines of the journal')]
+    summed = (f'{lasted:.1f} hours, {len(one.events)} events, {len(missed)} of {len(judged)} intervals missed the master\'s clock, {len(fallen)} shown values '
+              f'fell; shown values were apart by {truth.three(seen.apart("shown"))} us; KiB in memory, the most at first and the last: {", ".join(lines)}')
+    wanted(judged and not amiss, f'{"; ".join(amiss)} ({summed})')
     return summed

@@ -49,12 +49,14 @@ class Record:
             self.marks[machine].append(Mark(boot, int(lines), ahead))
 
     def samples(self, _, machine):
-        """The samples of a machine, by the host's counter."""
+        """The samples of a machine, by the host's counter. They stay in the lab's folder."""
         marks, found = self.marks[machine], []
         for boot in dict.fromkeys(mark.boot for mark in marks):
             lines = machine.get(f'{PLACE}/{boot}').decode().split('\n')
             for first, last, ahead in pieces([mark for mark in marks if mark.boot == boot], len(lines)):
                 found += truth.of_lines(lines[first:last], ahead)
+        with open(machine.path('samples'), 'w', encoding='ascii') as file:
+            file.writelines(' '.join(map(str, sample)) + '\n' for sample in found)
         return found
 
     def end(self):
