@@ -55,7 +55,7 @@ def upgrade(net):
     wanted(after != before, f'the version is {after}, as before')
     each = ', '.join(f'{seconds:.0f}' for seconds in followed)
     return (f'{before} to {after}, no daemon restarted by the package; followers were synchronised {each} s after their restarts; after that of the master, '
-            f'{master.name}, {last.name} led {led:.0f} s later, and all followed it {all_follow:.0f} s later; {(time.monotonic() - begun) / 60:.1f} minutes in all')
+            f'{master.name}, {last.name} led {led:.0f} s later, and all followed it {all_follow:.0f} s later; {time.monotonic() - begun:.0f} s in all')
 
 
 def purge(net):
