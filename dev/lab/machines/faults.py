@@ -156,9 +156,8 @@ def restarted(net):
 
 def next_master(net):
     """The master's unit is restarted: another host leads within 11.5 minutes, or the same one again, and all others follow it."""
-    first = net.master()
-    last, led, all_follow = net.restart_master()
-    return f'after {first.name}, {last.name} led {led:.0f} s after the restart, and all followed it {all_follow:.0f} s after that restart'
+    first, last, led, all_follow = net.restart_master()
+    return f'{first.name} led; {last.name} led {led:.0f} s after its restart, and all followed it {all_follow:.0f} s after that'
 
 
 def rotated(net):

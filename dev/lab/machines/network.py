@@ -161,12 +161,14 @@ class Network:
         return self.joined_anew(machine, before)
 
     def restart_master(self):
-        """Restarts the unit of the host that leads, and waits until a host leads again, which nobody tells to, and all others follow it. Gives which one it is,
-        and the seconds until both."""
-        self.master().must('systemctl restart tsp', patience=UP)
+        """Restarts the unit of the host that leads, and waits until a host leads again, which nobody tells to, and all others follow it. Gives which one led
+        and which one leads, and the seconds until both."""
+        master = self.master()
+        wanted(master, f'nobody leads: {self.each(page_of)}')
+        master.must('systemctl restart tsp', patience=UP)
         led = self.leads(self.machines, STOOD)
         begun = time.monotonic()
-        return self.led(FOLLOWED, is_told=False), led, led + time.monotonic() - begun
+        return master, self.led(FOLLOWED, is_told=False), led, led + time.monotonic() - begun
 
     def joined(self, machines, longest=JOINED):
         """Waits until these hosts are synchronised, by their own pages; gives the seconds that this took."""

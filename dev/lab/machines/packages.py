@@ -50,7 +50,7 @@ def upgrade(net):
         beneath(net, one)
         followed.append(net.restart(one))
     beneath(net, master)
-    last, led, all_follow = net.restart_master()
+    _, last, led, all_follow = net.restart_master()
     after = net[1].says(VERSION)
     wanted(after != before, f'the version is {after}, as before')
     each = ', '.join(f'{seconds:.0f}' for seconds in followed)
