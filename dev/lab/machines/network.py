@@ -1,6 +1,5 @@
 """A network of machines: the package on each, one hosts file, and what is wanted of it."""
 import os
-import re
 import subprocess
 import sys
 import threading
