@@ -292,7 +292,8 @@ class Kept:
         by more is worth nothing, as one of few corrections may be."""
         learning = self.learning
         if learning.kept and learning.kept.error > most:
-            self.say(f'{self.path}: it may be wrong by {learning.kept.error / 1000:.3f} parts in a million, more than TSP_DRIFT allows a counter; the rate is 0')
+            self.say(f'{self.path}: it may be wrong by {learning.kept.error / 1000:.3f} parts in a million, more than TSP_DRIFT allows a counter; '
+                     'the rate is 0')
             learning.kept, learning.hours = None, []
         known = learning.wanted or 0
         learning.begin(learning.kept.rate if learning.kept else known if abs(known) <= most else 0)
