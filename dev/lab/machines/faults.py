@@ -11,8 +11,8 @@ from lab.machines.network import journal, life_of, status_of, wanted
 # looks in it; and how long something is waited for.
 ASLEEP, STOPPED, SHORT, GRACE, LONG, LOOKS = 30, 60, 10, 600, 660, 20
 AGAIN = 240
-# Seconds: for how long programs take a processor, and by when a trace that logrotate has put aside grows again.
-BURDENED, GROWS = 180, 60
+# Seconds: for how long programs take a processor, and by when a trace that logrotate has put aside grows again: a follower writes little between rounds.
+BURDENED, GROWS = 180, 300
 CUTS, APART = 20, 90
 # What logrotate is told of a trace, and that trace.
 ROTATES, DAILY = '/etc/logrotate.d/tsp', '/var/log/tsp/daily'
