@@ -7,8 +7,8 @@ HERE = os.path.dirname(os.path.realpath(__file__))
 TOP = os.path.dirname(os.path.dirname(HERE))
 sys.dont_write_bytecode = True
 sys.path[:0] = os.path.join(TOP, 'dev'), os.path.join(TOP, 'tools')
-from lab.machines import pages, paths, printed  # noqa: E402
-from lab.machines.truth import LEADS, SYNCHRONISED, Clock, Sample, Truth, three  # noqa: E402
+from lab.machines import day, pages, paths, printed, record  # noqa: E402
+from lab.machines.truth import LEADS, SYNCHRONISED, Clock, Sample, Truth, of_lines, three  # noqa: E402
 
 # Counts in a microsecond, and microseconds: between two samples, and of the whole.
 RATE, PACE, LASTS = 2500, 500_000, 60_000_000
@@ -21,10 +21,10 @@ def wanted(is_so, text):
         sys.exit(f'machines: {text}')
 
 
-def sample(moment, ahead, role, low=0, high=0, own=0):
+def sample(moment, ahead, role, low=0, high=0, own=0, life=1, steps=0):
     """A sample of a clock that is ahead of the true one by so much, with an interval around that."""
     shown = BASE + moment + ahead
-    return Sample(moment * RATE, (BASE + moment + own) * 1000, moment * RATE, shown, shown + low, shown + high, SYNCHRONISED, role, 1000)
+    return Sample(moment * RATE, (BASE + moment + own) * 1000, moment * RATE, shown, shown + low, shown + high, SYNCHRONISED, role, life, steps, 1000)
 
 
 def made(*machines):
@@ -37,6 +37,35 @@ def made(*machines):
 def moments(shift=0):
     """The moments of samples; machines aren't sampled at the same ones."""
     return range(shift, LASTS, PACE)
+
+
+def falls(leads, half):
+    """A shown value that goes back by 2 s (of which half a second passed meanwhile) fell; it didn't where the clock was stepped, or another daemon began."""
+    for told, count in (({}, 1), ({'steps': 1}, 0), ({'life': 2}, 0)):
+        back = [sample(moment, -2_000_000, 1, **told) if moment >= half else sample(moment, 0, 1) for moment in moments()]
+        seen = made(leads, back)
+        seen.machines = ['m1', 'm2']
+        found = seen.falls()
+        wanted(found == [('m2', half, 1_500_000)][:count], f'with {told} in the second half these fell: {found}')
+    # Of a reading that misses the master it is told by how much: an interval from 1 to 400 above the master's clock, and one below it.
+    for ahead, low, high, late in ((300, -299, 100, 1), (-300, -100, 290, -10), (300, -300, 100, 0)):
+        judged = made(leads, [sample(moment, ahead, 1, low, high) for moment in moments(123_456)]).judged()
+        wanted({one for _, _, one in judged} == {late}, f'an interval from {low} to {high} around {ahead} misses by {judged[:3]}')
+
+
+def day_and_record():
+    """A day has each sort of event as often as the others, one in the first half of each part of it, and the same by the same seed; samples are told from
+    the counters that were asked for before and after."""
+    for hours, times in ((24, 4), (1.2, 1), (0.5, 1)):
+        plan = day.planned(hours, 7)
+        sorts, part = [sort for _, sort in plan], hours * 3600 / (times * len(day.SORTS))
+        wanted(all(sorts.count(sort) == times for sort in day.SORTS) and len(sorts) == times * len(day.SORTS), f'a day of {hours} hours has {sorts}')
+        wanted(all(number * part <= second <= (number + 0.5) * part for number, (second, _) in enumerate(plan)), f'the events are at {plan}')
+        wanted(plan == day.planned(hours, 7) != day.planned(hours, 8), 'the seed isn\'t what the plan is drawn from')
+    marks = [record.Mark('a', 10, 500), record.Mark('a', 20, 510), record.Mark('a', 30, 90_000)]
+    wanted(record.pieces(marks, 40) == [(0, 10, 500), (10, 20, 500), (30, 40, 90_000)], f'the pieces are {record.pieces(marks, 40)}')
+    found = of_lines(['100 5 200 6 7 8 2 1 9 3 1000', '100 5 200 6 7 8 2 1 9 3 2000000', '100 5'], 40)
+    wanted(found == [Sample(140, 5, 240, 6, 7, 8, 2, 1, 9, 3, 1000)], f'the samples of three lines are {found}')
 
 
 def main():
@@ -69,6 +98,8 @@ def main():
     seen = made(leads, [sample(moment, 300 + 700 * (moment >= half), 1) for moment in moments()])
     first = three(seen.apart('shown', 0, half - PACE))
     wanted(first == '300, 300, 300', f'in the first half shown values are {first} apart')
+    falls(leads, half)
+    day_and_record()
     # Each command for systemd on the pages has a step, and no step is without a page; the guide has the blocks that the lab runs.
     wanted(printed.not_tried() == ([], []), f'commands without a step, and steps without a command: {printed.not_tried()}')
     wanted(len(pages.blocks(paths.SECTION)) == 3 and len(pages.blocks(printed.NEAR)) == 3, 'the guide has other blocks than the lab runs')

@@ -15,6 +15,8 @@ says 2 '^machines: which scenarios? ' dev/machines
 says 2 "^machines: 'no-such' is no scenario: " dev/machines install no-such
 says 2 "^machines: 'x' is no scenario: " dev/machines install+x
 says 2 '^machines: argument -n/--count' dev/machines --count 6 install
+says 2 '^machines: argument -H/--hours' dev/machines --hours 0 day
+says 2 '^machines: argument -s/--seed' dev/machines --seed -1 day
 dev/machines --list >"$out/list" || fail 'it lists nothing'
 [ "$(grep -c '^[a-z_]* *[A-Z]' "$out/list")" -eq "$(wc -l <"$out/list")" ] || fail 'a scenario has no text'
 # (a PATH with nothing in it that the lab needs but python3)

@@ -636,12 +636,15 @@ def replaced():
 
 
 def learned():
-    """The daemon counts with the rate that was learned, and takes a new one when it starts again; a file without a rate, of another counter, or that is none,
-    is told of; `--rate learn` goes on where the hosts file is read again. Of two supervisors only the first one keeps what it learns."""
+    """The daemon counts with the rate that was learned, and takes a new one when it starts again; a file without a rate, of another counter, that is none, or
+    that may be wrong by more than a counter, is told of; `--rate learn` goes on where the hosts file is read again. Of two supervisors only the first one
+    keeps what it learns."""
     file = Supervised.path('rate')
     no_rate = 'it has no rate from -1000000 to 1000000, and its error'
     for text, rate, fault in (('', 0, no_rate), ('123456 90\n123456 20\ncounter raw\n', 123456, None), ('1000001 9\n', 0, no_rate),
-                              ('123456 90\n', 0, 'it was learned of another counter than the raw one')):
+                              ('123456 90\n', 0, 'it was learned of another counter than the raw one'),
+                              ('184727 605132\n184727 100000\ncounter raw\n', 184727, None),
+                              ('9 605132\n9 605132\ncounter raw\n', 0, 'it may be wrong by 605.132 parts in a million, more than TSP_DRIFT allows a counter')):
         with open(file, 'w', encoding='ascii') as out:
             out.write(text)
         server = Supervised('--rate', 'learn', TSP_LEARN=file)

@@ -287,10 +287,16 @@ class Kept:
             return None
         return number
 
-    def begin(self):
-        """The daemon starts: the rate with which it is to count at first."""
+    def begin(self, most):
+        """The daemon starts: the rate with which it is to count at first. Counters are wrong by so many parts in 10^9 at most, so an estimate that may be wrong
+        by more is worth nothing, as one of few corrections may be."""
         learning = self.learning
-        learning.begin(learning.kept.rate if learning.kept else learning.wanted or 0)
+        if learning.kept and learning.kept.error > most:
+            self.say(f'{self.path}: it may be wrong by {learning.kept.error / 1000:.3f} parts in a million, more than TSP_DRIFT allows a counter; '
+                     'the rate is 0')
+            learning.kept, learning.hours = None, []
+        known = learning.wanted or 0
+        learning.begin(learning.kept.rate if learning.kept else known if abs(known) <= most else 0)
         return learning.applied
 
     def write(self):

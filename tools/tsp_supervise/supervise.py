@@ -225,7 +225,8 @@ class Supervisor:
 
     def apply_rate(self):
         """The rate with which the daemon that starts is to count. It reads that from the environment."""
-        rate = self.learned.begin() if self.learned else int(os.environ.get('TSP_RATE', 0))
+        drift = self.drift()
+        rate = self.learned.begin(1000 * drift) if self.learned else int(os.environ.get('TSP_RATE', 0))
         os.environ['TSP_RATE'] = str(rate)
         if self.keeper:
             self.keeper.learned = rate
@@ -234,7 +235,6 @@ class Supervisor:
         if rate:
             self.say(f'the daemon counts {faster(rate)}', log.INFO)
             self.note(rate_line(rate))
-        drift = self.drift()
         if abs(rate) > 1000 * drift:
             self.say(f'that is more than TSP_DRIFT, {drift} parts in a million, allows a counter to be wrong: are intervals wide enough?', log.WARNING)
 

@@ -54,7 +54,7 @@ def measured(net, machines=None, busy=None):
     what = sorts(machines)
     truth.begin(net, int(60 * net.minutes), machines)
     if busy:
-        busy.must(f'systemd-run --quiet --collect --unit=busy stress-ng --cpu 2 --io 1 --timeout {int(60 * net.minutes)}')
+        busy.burden(60 * net.minutes)
     time.sleep(60 * net.minutes + 5)
     seen = truth.Truth(net, machines)
     judged, outside = seen.missed()
@@ -212,10 +212,7 @@ def feed_gone(net):
 
     def is_over(_):
         begun, others = time.monotonic(), [machine for machine in net.machines if machine is not victim]
-        while not any(page_of(machine).role == 'leads' for machine in others):
-            wanted(time.monotonic() - begun < network.LED, 'nobody leads')
-            time.sleep(network.OFTEN)
-        led = time.monotonic() - begun
+        led = net.leads(others)
         net.led(machines=others)
         return f'another host led {led:.0f} s after the power went, and all followed it after {time.monotonic() - begun:.0f}'
     return gone(net, victim, is_over, 'tsp')

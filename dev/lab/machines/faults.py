@@ -11,7 +11,11 @@ from lab.machines.network import journal, life_of, status_of, wanted
 # looks in it; and how long something is waited for.
 ASLEEP, STOPPED, SHORT, GRACE, LONG, LOOKS = 30, 60, 10, 600, 660, 20
 AGAIN = 240
+# Seconds: for how long programs take a processor, and by when a trace that logrotate has put aside grows again: a follower writes little between rounds.
+BURDENED, GROWS = 180, 300
 CUTS, APART = 20, 90
+# What logrotate is told of a trace, and that trace.
+ROTATES, DAILY = '/etc/logrotate.d/tsp', '/var/log/tsp/daily'
 # Fills a disk without writing all of it.
 FILL = 'mkdir /var/filler; for size in 256M 32M 4M 512K 64K 4K; do while fallocate -l $size /var/filler/$((number++)) 2>/dev/null; do :; done; done; sync'
 
@@ -19,6 +23,12 @@ FILL = 'mkdir /var/filler; for size in 256M 32M 4M 512K 64K 4K; do while falloca
 def lives(machines):
     """The lives of daemons, by which one that was started again is known."""
     return [life_of(machine) for machine in machines]
+
+
+def none_failed(machine):
+    """That no unit of a machine has failed."""
+    failed = machine.says('systemctl --failed --no-legend --plain | cut -d " " -f 1')
+    wanted(not failed, f'{machine.name} has failed units: {failed}')
 
 
 def offset_ms(machine):
@@ -109,12 +119,7 @@ def master_long(net):
     """The master's cable is out for 10 minutes: another host leads meanwhile, and once the cable is in again one of both leads, and all others follow."""
     first = net.master()
     first.pull()
-    begun = time.monotonic()
-    others = [machine for machine in net.machines if machine is not first]
-    while not [machine for machine in others if network.page_of(machine).role == 'leads']:
-        wanted(time.monotonic() - begun < network.LED, 'without its master the network has none')
-        time.sleep(5)
-    led = time.monotonic() - begun
+    led = net.leads([machine for machine in net.machines if machine is not first])
     time.sleep(max(0, GRACE - led))
     first.plug()
     begun = time.monotonic()
@@ -142,6 +147,47 @@ def killed(net):
         one.must(command)
         found.append(f'{what}: {net.joined_anew(one, before):.0f} s')
     return f'synchronised again after the kill of {", ".join(found)}'
+
+
+def restarted(net):
+    """A follower's unit is restarted by systemctl: it is synchronised within 350 s."""
+    return f'synchronised {net.restart(net.victim()):.0f} s after its restart'
+
+
+def next_master(net):
+    """The master's unit is restarted: another host leads within 11.5 minutes, or the same one again, and all others follow it."""
+    first, last, led, all_follow = net.restart_master()
+    return f'{first.name} led; {last.name} led {led:.0f} s after its restart, and all followed it {all_follow:.0f} s after that'
+
+
+def rotated(net):
+    """All logs of a follower are put aside by logrotate and journald, and with them a trace that is set up as the example has it: a new file grows, and the
+    daemon goes on."""
+    one = net.victim()
+    if one.run(f'[ -e {ROTATES} ]')[0]:
+        one.must(f'cp /usr/share/doc/tsp/examples/logrotate {ROTATES}; echo TSP_OUTPUT={DAILY} >>/etc/default/tsp')
+        net.restart(one)
+    before, until = life_of(one), time.monotonic() + GROWS
+    one.must('journalctl --rotate; logrotate --force /etc/logrotate.conf', patience=300)
+    while not one.says(f'find {DAILY} -size +0'):
+        wanted(time.monotonic() < until, f'the new trace of {one.name} doesn\'t grow: {one.says(f"ls -l {DAILY}*")}')
+        time.sleep(network.OFTEN)
+    aside = one.must(f'ls {DAILY}[.-]*').split()
+    wanted(life_of(one) == before and status_of(one) == 'synchronised', f'the daemon was started again, or is no longer synchronised: {journal(one)}')
+    return f'{len(aside)} traces are put aside, the new one grows, and the daemon went on'
+
+
+def burdened(net):
+    """Programs take a follower's processor for three minutes: its daemon goes on, and its page says that it is synchronised all the time."""
+    one = net.victim()
+    before, until, seen = life_of(one), time.monotonic() + BURDENED, []
+    one.burden(BURDENED)
+    while time.monotonic() < until:
+        seen.append(network.page_of(one))
+        time.sleep(network.OFTEN)
+    odd = [page for page in seen if (page.life, page.status) != (before, 'synchronised')]
+    wanted(not odd, f'of {len(seen)} looks {len(odd)} are {odd[:3]}')
+    return f'{len(seen)} looks at the page in {BURDENED} s, all synchronised'
 
 
 def full(net):
@@ -213,8 +259,7 @@ def power(net):
     net.each(cut, followers)
     took = net.joined(followers, 2 * AGAIN)
     for machine in followers:
-        failed = machine.says('systemctl --failed --no-legend --plain | cut -d " " -f 1')
-        wanted(not failed, f'{machine.name} has failed units: {failed}')
+        none_failed(machine)
         size = machine.says('wc -c </etc/tsp/hosts; tsp-launch --lint && echo well')
         wanted(size.endswith('well'), f'the hosts file of {machine.name} is no longer well: {size}')
         odd = machine.says('for file in /var/lib/tsp/rate; do [ ! -e $file ] || head -n 1 $file; done')

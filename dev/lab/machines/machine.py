@@ -9,8 +9,8 @@ import time
 
 from lab.hosts import Failed
 
-# Octets of memory in MiB, and how many octets of a file go into a machine at once.
-MEMORY, PART = 384, 1 << 18
+# Octets of memory in MiB, and how many octets of a file go into a machine at once, and out of it.
+MEMORY, PART, TAKEN = 384, 1 << 18, 1 << 21
 # Seconds: until a machine has booted at most, an answer of a machine that does nothing long, and between two looks.
 BOOTED, PATIENCE, OFTEN = 900, 120, 0.5
 # The kernel's line: no clock of the processor, so that the machine counts by hardware that QEMU counts.
@@ -137,6 +137,10 @@ class Machine:
         """What a command writes, whatever its status."""
         return self.run(command)[1].decode('utf-8', 'replace').strip()
 
+    def burden(self, seconds):
+        """Has programs reckon and write in the machine for so many seconds, and doesn't wait."""
+        self.must(f'systemd-run --quiet --collect --unit=busy stress-ng --cpu 2 --io 1 --timeout {seconds:.0f}')
+
     def put(self, file, place, mode='644'):
         """Copies a file into the machine."""
         self.must(f'mkdir -p $(dirname {place}); : >{place}; chmod {mode} {place}')
@@ -150,10 +154,13 @@ class Machine:
 
     def get(self, place):
         """The octets of a file in the machine."""
-        status, octets = self.run(f'cat {place}')
-        if status:
-            raise Failed(f'{self.name}: {place} can\'t be read')
-        return octets
+        parts = []
+        while not parts or len(parts[-1]) == TAKEN:
+            status, part = self.run(f'[ -r {place} ] && tail -c +{TAKEN * len(parts) + 1} {place} | head -c {TAKEN}')
+            if status:
+                raise Failed(f'{self.name}: {place} can\'t be read')
+            parts.append(part)
+        return b''.join(parts)
 
     def ready(self, longest=BOOTED):
         """Waits until it has booted, and gives how the system says that it runs."""

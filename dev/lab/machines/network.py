@@ -1,6 +1,5 @@
 """A network of machines: the package on each, one hosts file, and what is wanted of it."""
 import os
-import re
 import subprocess
 import sys
 import threading
@@ -21,6 +20,8 @@ SLAVE_FROM = 4
 # Seconds: after which a host may be told to stand, a network has a master, a host has joined it (80 of quiet, and a round more, since a master
 # that still counts it among its slaves corrects it in its next round), a unit is up, and between two looks.
 MAY_STAND, LED, JOINED, UP, OFTEN = 300, 900, 350, 300, 4
+# Seconds: by when a host leads that nobody told to stand, and by when all others follow it then (a minute until supervisors see it, and they join it anew).
+STOOD, FOLLOWED = 690, 60 + 350
 # The place of the role in a line of `tsp-status --csv`; and what a page says, by its numbers.
 ROLE = 7
 STATUSES, ROLES = ('stale', 'waiting', 'synchronised', 'holding'), ('nobody', 'follows', 'leads')
@@ -85,7 +86,7 @@ class Network:
         def one(machine):
             machine.put(package, f'/srv/{os.path.basename(package)}')
             # (the machines have no way to Debian: what a package needs is in their image)
-            machine.must(f'cd /srv && DEBIAN_FRONTEND=noninteractive apt-get install -y ./{os.path.basename(package)}', patience=900)
+            machine.must(f'cd /srv && DEBIAN_FRONTEND=noninteractive apt-get install -y --reinstall ./{os.path.basename(package)}', patience=900)
         self.each(one, machines)
 
     def set_up(self, package):
@@ -95,8 +96,8 @@ class Network:
         self.each(lambda machine: machine.must('tsp-launch --lint; systemctl enable --now tsp', patience=UP))
         self.led()
 
-    def led(self, longest=LED, machines=None):
-        """Waits until a host leads and all others follow it; the first one is told to stand, as soon as it may."""
+    def led(self, longest=LED, machines=None, is_told=True):
+        """Waits until a host leads and all others follow it; the first one may be told to stand, as soon as it can."""
         machines = machines or self.machines
         until = time.monotonic() + longest
         while time.monotonic() < until:
@@ -104,10 +105,18 @@ class Network:
             roles = [one.role for one in seen]
             if sorted(roles) == ['follows'] * (len(roles) - 1) + ['leads'] and all(one.status == 'synchronised' for one in seen):
                 return machines[roles.index('leads')]
-            if 'leads' not in roles and self.up(machines[0]) > MAY_STAND:
+            if is_told and 'leads' not in roles and self.up(machines[0]) > MAY_STAND:
                 machines[0].says(f'tsp-elect {machines[0].name}')
             time.sleep(OFTEN)
         raise Failed(f'after {longest} s the hosts are {self.each(page_of, machines)}')
+
+    def leads(self, machines, longest=LED):
+        """Waits until one of these hosts leads, which nobody tells to stand; gives the seconds that this took."""
+        begun = time.monotonic()
+        while not any(seen.role == 'leads' for seen in self.each(page_of, machines)):
+            wanted(time.monotonic() - begun < longest, f'after {longest} s nobody leads: {self.each(page_of, machines)}')
+            time.sleep(OFTEN)
+        return time.monotonic() - begun
 
     @staticmethod
     def up(machine):
@@ -138,6 +147,27 @@ class Network:
             if self.chains.get(chain) not in followers:
                 self.chains[chain] = [machine for machine in followers if machine not in taken][-1]
             return self.chains[chain]
+
+    def choose(self, machine):
+        """Has something befall this machine, if it follows, in the chain that calls this."""
+        with self.lock:
+            self.chains[threading.get_ident()] = machine
+
+    def restart(self, machine):
+        """Restarts the unit of a host that follows, and waits until it does so again; gives the seconds that this took."""
+        before = life_of(machine)
+        machine.must('systemctl restart tsp', patience=UP)
+        return self.joined_anew(machine, before)
+
+    def restart_master(self):
+        """Restarts the unit of the host that leads, and waits until a host leads again, which nobody tells to, and all others follow it. Gives which one led
+        and which one leads, and the seconds until both."""
+        master = self.master()
+        wanted(master, f'nobody leads: {self.each(page_of)}')
+        master.must('systemctl restart tsp', patience=UP)
+        led = self.leads(self.machines, STOOD)
+        begun = time.monotonic()
+        return master, self.led(FOLLOWED, is_told=False), led, led + time.monotonic() - begun
 
     def joined(self, machines, longest=JOINED):
         """Waits until these hosts are synchronised, by their own pages; gives the seconds that this took."""

@@ -4,11 +4,10 @@ import time
 
 from lab.machines.network import life_of, page_of, status_of, wanted
 
+VERSION = 'dpkg-query -W -f \'${Version}\' tsp'
 # What bears the package's name on a machine; what is there before the package is, and what lies in memory.
 NAMED = 'find / -xdev -name "*tsp*" -not -path "/srv/*" | sort'
 BEFORE, IN_MEMORY = '/srv/before', 'ls -d /run/tsp /dev/shm/*tsp* 2>/dev/null; grep "^tsp " /sys/kernel/security/apparmor/profiles'
-# An upgraded host is waited for, in seconds, as the pages say.
-FOLLOWS = 350
 
 
 def install(net):
@@ -23,22 +22,40 @@ def install(net):
     return f'{net.master().name} leads {led:.0f} s after the first command, and all are synchronised; exposure {found.group() if found else exposure}'
 
 
+def beneath(net, one):
+    """Installs the package on a machine whose daemon runs, and sees that this one went on."""
+    life = life_of(one)
+    net.install(net.package, [one])
+    wanted(life_of(one) == life and status_of(one) == 'synchronised', f'the package restarted the daemon of {one.name}')
+
+
+def again(net):
+    """The package is installed again on a follower, as an unattended upgrade does: the daemon goes on, and the unit is as it was."""
+    one = net.victim()
+    begun = time.monotonic()
+    beneath(net, one)
+    took = time.monotonic() - begun
+    said = one.says('systemctl is-active tsp; systemctl is-enabled tsp').split()
+    wanted(said == ['active', 'enabled'], f'the unit of {one.name} is {said}')
+    return f'no daemon restarted by the package, which took {took:.0f} s'
+
+
 def upgrade(net):
-    """From the version before to this one, host by host, the master last: the package restarts no daemon, and one host leads in the end."""
+    """From the version before to this one, host by host, the master last: the package restarts no daemon. Then another host leads within 11.5 minutes, or the
+    same one again, and all others follow it."""
     wanted(net.earlier, 'an upgrade needs --earlier, the package of the version before')
-    begun, before = time.monotonic(), net[1].says('dpkg-query -W -f \'${Version}\' tsp')
-    followers, master = net.followers(), net.master()
-    for one in [*followers, master]:
-        life = life_of(one)
-        net.install(net.package, [one])
-        wanted(life_of(one) == life and status_of(one) == 'synchronised', f'the package restarted the daemon of {one.name}')
-        one.must('systemctl restart tsp', patience=200)
-        if one is not master:
-            net.joined_anew(one, life, FOLLOWS)
-    last = net.led()
-    after = net[1].says('dpkg-query -W -f \'${Version}\' tsp')
+    begun, before = time.monotonic(), net[1].says(VERSION)
+    master, followed = net.master(), []
+    for one in net.followers():
+        beneath(net, one)
+        followed.append(net.restart(one))
+    beneath(net, master)
+    _, last, led, all_follow = net.restart_master()
+    after = net[1].says(VERSION)
     wanted(after != before, f'the version is {after}, as before')
-    return f'{before} to {after}, no daemon restarted by the package; {last.name} leads {time.monotonic() - begun:.0f} s after the first command'
+    each = ', '.join(f'{seconds:.0f}' for seconds in followed)
+    return (f'{before} to {after}, no daemon restarted by the package; followers were synchronised {each} s after their restarts; after that of the master, '
+            f'{master.name}, {last.name} led {led:.0f} s later, and all followed it {all_follow:.0f} s later; {time.monotonic() - begun:.0f} s in all')
 
 
 def purge(net):

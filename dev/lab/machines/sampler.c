@@ -6,7 +6,7 @@
  *                          how many were answered; the host answers by a page that both share
  *
  * A line has the counter and CLOCK_REALTIME at it in nanoseconds; the counter and the page's shown, earliest and latest time at it in microseconds, its status
- * and role; and how many counts the line took.
+ * and role, the number of the daemon's life and of its clock's steps in it; and how many counts the line took.
  */
 #define _GNU_SOURCE
 #include "tsp_clock.h"
@@ -118,8 +118,8 @@ int main(int count, char **words)
     setvbuf(stdout, NULL, _IOLBF, 0);
     while (tsp_nanoseconds_by(CLOCK_BOOTTIME) < until) {
         moment is = look(&clock);
-        printf("%" PRIu64 " %" PRId64 " %" PRIu64 " %" PRId64 " %" PRId64 " %" PRId64 " %d %d %" PRIu64 "\n", is.real_at, is.real, is.page_at, is.page.shown,
-               is.page.earliest, is.page.latest, is.page.status, is.page.role, is.width);
+        printf("%" PRIu64 " %" PRId64 " %" PRIu64 " %" PRId64 " %" PRId64 " %" PRId64 " %d %d %" PRIu64 " %" PRIu64 " %" PRIu64 "\n", is.real_at, is.real,
+               is.page_at, is.page.shown, is.page.earliest, is.page.latest, is.page.status, is.page.role, is.page.life, is.page.steps, is.width);
         if (is.page.status == TSP_STALE) {
             tsp_clock_close(&clock);
             tsp_clock_open(&clock, NULL);

@@ -8,7 +8,7 @@ from lab.hosts import Failed
 
 # A line of the sampler that took more counts than this was cut in two by something else; samples between which a clock is read are no farther apart.
 WIDEST, APART = 1_000_000, 3_000_000
-SYNCHRONISED, LEADS = 2, 2
+STALE, SYNCHRONISED, LEADS = 0, 2, 2
 # Microseconds: by how many a correction of a master is noted, and until each host has looked at it since.
 NOTED, LOOKED = 150, 20_000_000
 # A clock is stepped if it moves by more than so many microseconds, and by more than chronyd slews, which is a twelfth.
@@ -17,7 +17,7 @@ STEPPED, SLEWED = 10_000, 0.084
 ANSWERS, PACE = 60, 0.5
 
 
-class Sample(namedtuple('Sample', 'real_at real page_at shown earliest latest status role width')):
+class Sample(namedtuple('Sample', 'real_at real page_at shown earliest latest status role life steps width')):
     """A line of the sampler."""
     __slots__ = ()
 
@@ -75,25 +75,31 @@ def offset(network, machine):
 def samples(network, machine):
     """The samples of a machine, by the host's counter."""
     ahead, _ = offset(network, machine)
+    return of_lines(machine.get('/srv/samples').decode().split('\n'), ahead)
+
+
+def of_lines(lines, ahead):
+    """The samples of lines of the sampler, where the host's counter is ahead by so many counts."""
     found = []
-    for line in machine.get('/srv/samples').decode().split('\n'):
+    for line in lines:
         words = line.split(' ')
         if len(words) == len(Sample._fields) and int(words[-1]) <= WIDEST:
             one = Sample(*map(int, words))
             found.append(one._replace(real_at=one.real_at + ahead, page_at=one.page_at + ahead))
-    if not found:
-        raise Failed(f'{machine.name} has no samples')
     return found
 
 
 class Truth:
-    """What was sampled on machines: the samples of each, and how many counts a microsecond has."""
+    """What was sampled on machines: the samples of each, and how many counts a microsecond has. `taken` gives those of a machine."""
 
-    def __init__(self, network, machines=None):
+    def __init__(self, network, machines=None, taken=samples):
         self.rate = counts_in_microsecond(network.answerer)
         self.machines = machines or network.machines
         # (one after the other, since each keeps a processor busy)
-        self.samples = [samples(network, machine) for machine in self.machines]
+        self.samples = [taken(network, machine) for machine in self.machines]
+        empty = [machine.name for machine, found in zip(self.machines, self.samples) if not found]
+        if empty:
+            raise Failed(f'{", ".join(empty)} has no samples')
 
     def clocks(self, what):
         """The clocks of all machines: `own`, `shown` or `middle`."""
@@ -119,19 +125,33 @@ class Truth:
         return sorted(found)
 
     def missed(self):
-        """How many readings of followers had an interval, and how many of these didn't have the master's clock in it. Those that came between a
-        correction of the master and the next look at it aren't judged."""
+        """How many readings of followers had an interval, and how many of these didn't have the master's clock in it."""
+        found = self.judged()
+        return len(found), sum(late != 0 for _, _, late in found)
+
+    def judged(self):
+        """Of each reading of a follower that had an interval: its machine, when it was, and by how many microseconds the interval is too late (or early, below
+        0) to have the master's clock in it. Those that came between a correction of the master and the next look at it aren't judged."""
         leading = [[sample for sample in found if sample.role == LEADS] for found in self.samples]
         clocks = [Clock([(sample.page_at / self.rate, sample.earliest) for sample in led]) for led in leading]
-        moved = [moment for led in leading for moment in self.corrected(led)]
-        judged = outside = 0
-        for sample in (sample for found in self.samples for sample in found if sample.status == SYNCHRONISED and sample.role != LEADS):
-            moment = sample.page_at / self.rate
-            true = [value for value in (clock.read(moment) for clock in clocks) if value is not None]
-            if len(true) == 1 and not any(-PACE * 1e6 <= moment - at <= LOOKED for at in moved):
-                judged += 1
-                outside += not sample.earliest <= true[0] <= sample.latest
-        return judged, outside
+        moved, judged = sorted(moment for led in leading for moment in self.corrected(led)), []
+        for machine, found in zip(self.machines, self.samples):
+            for sample in (sample for sample in found if sample.status == SYNCHRONISED and sample.role != LEADS):
+                moment = sample.page_at / self.rate
+                true = [value for value in (clock.read(moment) for clock in clocks) if value is not None]
+                if len(true) == 1 and not is_within(moved, moment - LOOKED, moment + PACE * 1e6):
+                    judged.append((machine, moment, max(sample.earliest - true[0], 0) + min(sample.latest - true[0], 0)))
+        return judged
+
+    def falls(self):
+        """Of each shown value that is below the one before, in the same life of a daemon and without a step between them: its machine, when it was, and by how
+        many microseconds."""
+        fallen = []
+        for machine, found in zip(self.machines, self.samples):
+            shown = [sample for sample in found if sample.status != STALE]
+            fallen += [(machine, one.page_at / self.rate, before.shown - one.shown) for before, one in zip(shown, shown[1:])
+                       if (before.life, before.steps) == (one.life, one.steps) and one.shown < before.shown]
+        return fallen
 
     def stepped(self):
         """By how many milliseconds machines' own clocks were stepped: by more than chronyd slews from one sample to the next."""
@@ -148,6 +168,12 @@ class Truth:
         """The moments before which a master's clock was corrected."""
         return [one.page_at / self.rate for before, one in zip(led, led[1:])
                 if abs((one.earliest - before.earliest) - (one.page_at - before.page_at) / self.rate) > NOTED]
+
+
+def is_within(moments, begun, ended):
+    """Whether one of these moments, which are in order, is in a part of the time."""
+    place = bisect.bisect_left(moments, begun)
+    return place < len(moments) and moments[place] <= ended
 
 
 def three(values):
