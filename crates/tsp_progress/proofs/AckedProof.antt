@@ -29,7 +29,7 @@ use Rattle.tsp_progress.proofs.SendKept.{Still, kept, never, sending}
 use Rattle.tsp_progress.proofs.{StandsProof.Rising, StandsProof.rising, TableProof.clocked_runs_by_table}
 use Rattle.tsp_progress.proofs.WorldPlaces.{Among, act_place, own_place}
 
-owes_within : (s seen : List Seen) → Within s seen → Owes GaveFits seen → Owes GaveFits s
+pub owes_within : (s seen : List Seen) → Within s seen → Owes GaveFits seen → Owes GaveFits s
 owes_within s [] w f = subst (λ k. Owes GaveFits k) (sym w) tt
 owes_within s (k ∷ before) (inl e) f = subst (λ k. Owes GaveFits k) (sym e) f
 owes_within s (Here d ∷ before) (inr w) f = owes_within s before w f.1

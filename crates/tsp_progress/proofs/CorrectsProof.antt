@@ -92,7 +92,7 @@ module _ (node : NodePast) (lines : List Line) (table : KeepsTable node lines) (
   past = port_before node l older
 
   -- the acts that stand from the line on, the first of which is the line's
-  abbrev Stands : List Act → Type 0
+  abbrev pub Stands : List Act → Type 0
   Stands acts = Within (joined l.did.step l.did.tick (placed l.port acts) older) lines
 
   head_is : (cue : Act) (rest : List Act) → Stands (cue ∷ rest) → l ≡ line_of l.did.step l.did.tick l.port (Acts cue)
@@ -102,15 +102,15 @@ module _ (node : NodePast) (lines : List Line) (table : KeepsTable node lines) (
       (line_of l.did.step l.did.tick l.port (Acts cue) ∷ older) (Within_all (line_of l.did.step l.did.tick l.port (Acts cue) ∷ older))) w)
 
   -- what comes after it
-  rest_stands : (cue : Act) (rest : List Act) → Stands (cue ∷ rest) → DoesNext rest l older lines
+  pub rest_stands : (cue : Act) (rest : List Act) → Stands (cue ∷ rest) → DoesNext rest l older lines
   rest_stands cue rest w = subst (λ k. Within (joined l.did.step l.did.tick (placed l.port rest) (k ∷ older)) lines) (sym (head_is cue rest w)) w
 
-  late_no : {A : Type 0} (a b : Alarm) (rest : List Act) → l.did.deed ≡ Acts (Ring a) → Stands (Late b ∷ rest) → A
+  pub late_no : {A : Type 0} (a b : Alarm) (rest : List Act) → l.did.deed ≡ Acts (Ring a) → Stands (Late b ∷ rest) → A
   late_no a b rest ring w =
       let is : Acts (Ring a) ≡ Acts (Late b) = sym ring ∙ ap (λ (k : Line). k.did.deed) (head_is (Late b) rest w) in
       let bad : ⊥ = cc in absurd bad
 
-  row_stands : (a : Alarm) → l.did.deed ≡ Acts (Ring a) → Stands (alarm_row node l older a l.did.tick (port_before node l older))
+  pub row_stands : (a : Alarm) → l.did.deed ≡ Acts (Ring a) → Stands (alarm_row node l older a l.did.tick (port_before node l older))
   row_stands a ring = subst (λ d. TableAt d node l older lines) ring (table l older place)
 
   pub closes_at : l.did.deed ≡ Acts (Ring CloseAlarm) → ClosesAt node l older lines

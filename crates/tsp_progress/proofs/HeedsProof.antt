@@ -43,7 +43,7 @@ is_said LoopKind = false
 is_said _ = true
 
 -- the row of a role for a message of this kind
-says_kind : PeerId → MessageValue → Kind → Role → Row
+unfoldable pub says_kind : PeerId → MessageValue → Kind → Role → Row
 says_kind p m k Starting = nothing
 says_kind p m k Loose = slave_takes_kind p m k
 says_kind p m k (Follow q) = slave_takes_kind p m k
@@ -78,7 +78,7 @@ said_loop LoopKind e = absurd (true≢false (sym e))
 said_loop _ e = refl
 
 -- a correction at a follower that doesn't steer the clock is left alone; nothing else is
-abbrev Heard : Bool → Kind → Type 0
+abbrev pub Heard : Bool → Kind → Type 0
 Heard steer k = (is_correction k ≡ true) → steer ≡ true
 
 unleft : (steer : Bool) (k : Kind) (x : ℕ) (past : Past) → Heard steer k → is_left steer k x past ≡ false
@@ -90,11 +90,11 @@ unleft false k x past h = by_case (is_correction k) refl where
 
 module _ (node : NodePast) (lines : List Line) (table : KeepsTable node lines) (l : Line) (older : List Line) (p : PeerId) (m : MessageValue)
     (hears : Hears node lines l older p m) where
-  abbrev Before : Past
+  abbrev pub Before : Past
   Before = port_before node l older
 
   -- the past after the taking
-  abbrev After : Past
+  abbrev pub After : Past
   After = grown l.did.tick Before (Took (Peer p) (Good (Message m)) ∷ [])
 
   said_acts : (k : Kind) (r : Role) → m.kind ≡ k → role_before node l older ≡ r → is_said k ≡ true → (steer charge : Bool) → Heard steer k →
@@ -110,7 +110,8 @@ module _ (node : NodePast) (lines : List Line) (table : KeepsTable node lines) (
       rw (hears.other, left, row, hears.peer, says) refl
 
   -- what the port's role has for this kind comes next
-  next : (k : Kind) (r : Role) → m.kind ≡ k → role_before node l older ≡ r → is_said k ≡ true → Heard (steers l.port l.did.tick (before_line node l older)) k →
+  pub next : (k : Kind) (r : Role) → m.kind ≡ k → role_before node l older ≡ r → is_said k ≡ true →
+      Heard (steers l.port l.did.tick (before_line node l older)) k →
       (acts : List Act) → says_kind p m k r l.did.tick After ≡ acts → DoesNext acts l older lines
   next k r kind_is role_is said heard acts same =
       let took = Took (Peer p) (Good (Message m)) in
@@ -123,7 +124,7 @@ module _ (node : NodePast) (lines : List Line) (table : KeepsTable node lines) (
       subst (λ acts. Within (joined l.did.step l.did.tick (placed l.port acts) older) lines) acts_are stands in
       subst (λ d. Within (joined l.did.step l.did.tick (placed l.port acts) (line_of l.did.step l.did.tick l.port d ∷ older)) lines) (sym hears.took) whole
 
-unsteered : (steer : Bool) (k : Kind) → is_correction k ≡ false → Heard steer k
+pub unsteered : (steer : Bool) (k : Kind) → is_correction k ≡ false → Heard steer k
 unsteered steer k e c = absurd (true≢false (sym c ∙ e))
 
 -- a role that is Loose, and so on
@@ -135,7 +136,7 @@ candidate_is : (r : Role) → is_candidate_role r ≡ true → r ≡ Candidate
 candidate_is Candidate e = refl
 candidate_is _ e = absurd (true≢false (sym e))
 
-master_is : (r : Role) → is_master_role r ≡ true → r ≡ Master
+pub master_is : (r : Role) → is_master_role r ≡ true → r ≡ Master
 master_is Master e = refl
 master_is _ e = absurd (true≢false (sym e))
 

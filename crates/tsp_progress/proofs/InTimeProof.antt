@@ -122,7 +122,7 @@ started_is_holds (Here d ∷ before) = by_deed d.deed (started_is_holds before) 
   by_deed _ e = e
 
 -- how far ahead
-ahead_most : (a : Alarm) (arm : Did) (idle : List Seen) (at : ℕ) → ArmFits a arm idle at → at ≤ arm.tick + longest a
+pub ahead_most : (a : Alarm) (arm : Did) (idle : List Seen) (at : ℕ) → ArmFits a arm idle at → at ≤ arm.tick + longest a
 ahead_most Elect arm idle at f = let less = mod-lt (word (plain idle)) {m = ELECT_SPREAD} (omega arith) in omega (arith, f, less)
 ahead_most Round arm idle at (inl f, by) = omega (arith, f)
 ahead_most Round arm idle at (inr f, by) = omega (arith, f)

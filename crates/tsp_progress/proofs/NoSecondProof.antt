@@ -19,7 +19,7 @@ candidate_alone _ e = absurd (true≢false (sym e))
 module _ {clocks : Clocks} {header : HeaderValue} {setting : Setting} (set : SetByClocks clocks header setting) (world : List Line)
     (table : ByTable header world) (fits : Fits setting world) (wins : WinsLate world) (long t : ℕ) (stays : ℕ → Bool) (s : List Line)
     (delivered : Delivered setting long t stays s world) (quick : IsQuick setting long) where
-  none : (l : Line) (older : List Line) (p : PeerId) (m : MessageValue) → Asks setting long t stays s l older world p (Message m) →
+  pub none : (l : Line) (older : List Line) (p : PeerId) (m : MessageValue) → Asks setting long t stays s l older world p (Message m) →
       is_candidate_role (role (view l.port (of (node_of l) older))) ≡ true → SentAway header long l older world p → (c : Line) (before : List Line) →
       WinsAfter l older c before world → ⊥
   none l older p m asks stands away c before w =

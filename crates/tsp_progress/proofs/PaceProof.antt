@@ -15,7 +15,7 @@ use Rattle.tsp_progress.proofs.AloneProof.{Paced, PacedAt, idle_waits}
 use Rattle.tsp_progress.proofs.NeverLateProof.{fit_before, newest, on_time, same_tick}
 use Rattle.tsp_progress.proofs.StandsProof.{rising, stands_on}
 
-newest-is : (lines : List Line) → newest lines ≡ tick_of (dids lines)
+pub newest-is : (lines : List Line) → newest lines ≡ tick_of (dids lines)
 newest-is [] = refl
 newest-is (l ∷ before) = refl
 

@@ -45,8 +45,8 @@ module _ (p : PeerId) (m : MessageValue) (start : Did) (was : List Seen) (posts 
     by-flag true other = inl refl
     by-flag false other = inr stays
 
-    too-young : (q : PeerId) → (q.0 == p.0) ≡ true → IsOld q d before → {A : Type 0} → A
-    too-young q same old =
+    too_young : (q : PeerId) → (q.0 == p.0) ≡ true → IsOld q d before → {A : Type 0} → A
+    too_young q same old =
         let is : open_send p before ≡ Some old.sending = subst (λ k. open_send k before ≡ Some old.sending) (same_peer q p same) old.open_is in
         let began_is : start.tick ≡ old.sending.began = ap began (sym (sending before still.open_is) ∙ is) in
         let age = old.old in
@@ -54,7 +54,7 @@ module _ (p : PeerId) (m : MessageValue) (start : Did) (was : List Seen) (posts 
         absurd bad
 
     gives : (q : PeerId) → IsOld q d before → (b : Bool) → (q.0 == p.0) ≡ b → ((if b then [] else open_to p before) ≡ First) × (role before ≡ role was)
-    gives q old true e = too-young q e old
+    gives q old true e = too_young q e old
     gives q old false e = stays
 
     by_deed_holds : (deed : Deed) → GaveFits deed d before → After deed

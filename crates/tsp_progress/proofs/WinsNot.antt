@@ -20,14 +20,15 @@ use Rattle.tsp_progress.proofs.TableRows.{within_joined}
 use Rattle.tsp_progress.proofs.WorldPlaces.{Among, WorldPlace, act_place, world_place}
 
 -- what is owed at a place
-owed_at : (debt : Deed → Did → List Seen → Type 0) (d : Did) (before seen : List Seen) → Owes debt seen → Within (Here d ∷ before) seen → debt d.deed d before
+pub owed_at : (debt : Deed → Did → List Seen → Type 0) (d : Did) (before seen : List Seen) → Owes debt seen → Within (Here d ∷ before) seen →
+    debt d.deed d before
 owed_at debt d before [] o w = let bad : ⊥ = cc in absurd bad
 owed_at debt d before (s ∷ rest) o (inl e) = (subst (λ k. Owes debt k) (sym e) o).0
 owed_at debt d before (Here k ∷ rest) o (inr w) = owed_at debt d before rest o.1 w
 owed_at debt d before (Elsewhere k ∷ rest) o (inr w) = owed_at debt d before rest o w
 
 -- no change of the role comes after the last one
-last_change : (start : Did) (idle seen : List Seen) → stood seen ≡ Here start ∷ idle → (d : Did) (w : List Seen) (r : Role) → d.deed ≡ Acts (Become r) →
+pub last_change : (start : Did) (idle seen : List Seen) → stood seen ≡ Here start ∷ idle → (d : Did) (w : List Seen) (r : Role) → d.deed ≡ Acts (Become r) →
     Within (Here d ∷ w) seen → Within (Here d ∷ w) (Here start ∷ idle)
 last_change start idle [] e d w r is v = let bad : ⊥ = cc in absurd bad
 last_change start idle (s ∷ seen) e d w r is (inl same) =
@@ -45,7 +46,7 @@ last_change start idle (Here k ∷ seen) e d w r is (inr v) = by_deed k.deed e (
   by_deed _ f more = more f
 
 -- the last change of the role was the last one before, if it stands there
-stood_back : (start : Did) (idle s t : List Seen) → Within s t → Within (Here start ∷ idle) s → stood t ≡ Here start ∷ idle → stood s ≡ Here start ∷ idle
+pub stood_back : (start : Did) (idle s t : List Seen) → Within s t → Within (Here start ∷ idle) s → stood t ≡ Here start ∷ idle → stood s ≡ Here start ∷ idle
 stood_back start idle s [] w v e = let bad : ⊥ = cc in absurd bad
 stood_back start idle s (k ∷ t) (inl same) v e = subst (λ u. stood u ≡ Here start ∷ idle) (sym same) e
 stood_back start idle s (Elsewhere d ∷ t) (inr w) v e = stood_back start idle s t w v e
@@ -62,7 +63,7 @@ stood_back start idle s (Here d ∷ t) (inr w) v e = stood_back start idle s t w
   by_deed _ f = f
 
 -- the role is that of the last change
-stood_role : (start : Did) (idle seen : List Seen) → stood seen ≡ Here start ∷ idle → role seen ≡ role (Here start ∷ idle)
+pub stood_role : (start : Did) (idle seen : List Seen) → stood seen ≡ Here start ∷ idle → role seen ≡ role (Here start ∷ idle)
 stood_role start idle [] e = let bad : ⊥ = cc in absurd bad
 stood_role start idle (Elsewhere d ∷ before) e = stood_role start idle before e
 stood_role start idle (Here d ∷ before) e = by_deed d.deed refl e (λ f. stood_role start idle before f) where

@@ -96,7 +96,7 @@ pub record Among (a : Act) (acts : List Act) : Type 0 where
   pub back : List Act
   pub is : acts ≡ front ++ a ∷ back
 
-placed_append : (q : Port) (xs ys : List Act) → placed q (xs ++ ys) ≡ placed q xs ++ placed q ys
+pub placed_append : (q : Port) (xs ys : List Act) → placed q (xs ++ ys) ≡ placed q xs ++ placed q ys
 placed_append q [] ys = refl
 placed_append q (x ∷ xs) ys = ap (λ ps. record { port = q; act = x } ∷ ps) (placed_append q xs ys)
 

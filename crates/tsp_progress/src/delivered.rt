@@ -45,9 +45,9 @@ pub fn meanwhile_use()
     ensures { MeanwhileUse }
 {}
 
-/// What a node is told reaches it in time: a MASTERUP or a QUIT, whose sender it follows if it has
-/// no master then, a SLAVEUP, whose sender a master takes in, and its master's correction, which
-/// moves its clock if it may take it then.
+/// What a node is told reaches it in time: a MASTERUP or a QUIT, whose sender it follows if it is
+/// Loose or a candidate then, a SLAVEUP, whose sender a master takes in, and its master's correction,
+/// which moves its clock if it may take it then.
 pub fn runs_reach()
     ensures { RunsReach }
 {}
@@ -96,7 +96,7 @@ pub fn first_search_use()
 {}
 
 /// Where datagrams are delivered in time, a candidate that asks a master for its vote is sent away
-/// in time, and then follows it, if it has no other master; and a QUIT is acknowledged in time.
+/// in time, and then follows it, if it is Loose or a candidate; and a QUIT is acknowledged in time.
 pub fn runs_send_away()
     ensures { RunsSendAway }
 {}

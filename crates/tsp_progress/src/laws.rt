@@ -176,7 +176,9 @@ pub fn clocked_runs_progress()
     ensures { ClockedRunsProgress }
 {}
 
-/// Each premise is needed: small histories and runs without it, of which the promise isn't so.
+/// These premises are needed, by small histories and runs without them, of which a promise isn't so:
+/// that what a role asks for is armed, that a send has three posts, that looks come in time, that the
+/// node may be master, and that elections aren't strict.
 pub fn needed()
     ensures { Needed }
 {}

@@ -28,10 +28,16 @@
 //! `AloneStands`, `AloneLeads`, `FreshLeads`, `LoneLeads`, `OneMay`, and `Progress`, which puts
 //! most of them together; then `Worked`, `Needed` and `OneUse`, small runs. Of what is done at once
 //! read `ByTable`, `Heeds`, `Measures` and `Corrects`; of two nodes `Delivered`, `ReachesInTime`,
-//! `AnswersInTime`, `FoundInTime`, `FirstSearch`, `SentAway`, `Obedient`, `GivenUp`,
-//! `AckedInTime`, `WinsLate`, `RefusedLoses`, `NoSecondMaster` and `SampledInTime`; then `TableUse`, `AnswersUse`,
-//! `ReachUse`, `FoundUse`, `FirstSearchUse`, `SentAwayUse`, `AckedUse`, `MeanwhileUse`, `RefusedUse`,
-//! `SecondUse` and `SampledUse`, small runs. The words of histories are those of `tsp_promises`.
+//! `AnswersInTime`, `FoundInTime`, `FirstSearch`, `SentAway`, `Obedient`, `GivenUp`, `AckedInTime`
+//! and `SampledInTime`; then `TableUse`, `AnswersUse`, `ReachUse`, `FoundUse`, `FirstSearchUse`,
+//! `SentAwayUse`, `AckedUse`, `MeanwhileUse` and `SampledUse`, small runs. Of elections read
+//! `WinsLate`, `Decided`, `RefusedLoses`, `NoSecondMaster`, `AsksAll`, `OneAtATime`,
+//! `WinsUnopposed` and `LoneWins`; then `RefusedUse`, `SecondUse`, `ElectUse` and `WinUse`. Of
+//! masters that find each other read `Resolving`, `MastersTell`, `RivalsFound`, `RivalsQuit`,
+//! `OneStops`, `NoneBeside` and `OneLeft`; then `RivalsUse`, `RivalsStay`, `LeadOnUse` and
+//! `OneLeftUse`. Of a network that follows one master read `RolesLast`, `FollowOn`, `Obeyed`,
+//! `MovedBy`, `TicketKept`, `ErrSoon` and `AgreesSoon`; then `FollowUse` and `ObeyedUse`. The words
+//! of histories are those of `tsp_promises`.
 //!
 //! # What is proved
 //!
@@ -62,54 +68,99 @@
 //!   others post nothing that stirs but LOOPs (`one_leads`, `one_leads_run`).
 //! - All of this holds of the run of each possible schedule that is attended (`runs_progress`), and
 //!   of each possible run by any clocks (`clocked_runs_progress`).
-//! - In every run a port does at once what the table of rows has for an alarm that goes off, and for
-//!   a datagram that it takes (`runs_by_table`, `clocked_runs_by_table`).
+//! - In every run a port does at once what the table of rows has for an alarm that goes off, and
+//!   for a datagram that it takes (`runs_by_table`, `clocked_runs_by_table`).
 //! - So a port without a master follows who says that it is one, and who sends it away; it votes,
 //!   answers, takes in slaves, obeys its master and ends its sends (`all_heed`). It answers a stamp
-//!   request, and a master takes a sample from a reply (`all_measure`). A close moves the own clock,
-//!   where its port leads it, and then corrects each measured peer, and at the end of a resolution a
-//!   QUIT begins to each rival (`all_correct`).
+//!   request, and a master takes a sample from a reply (`all_measure`). A close moves the own
+//!   clock, where its port leads it, and then corrects each measured peer, and at the end of a
+//!   resolution a QUIT begins to each rival (`all_correct`).
 //! - Where datagrams are delivered within `long`, what is asked of a node is answered, and the
 //!   answer taken, within twice `long`: stamp requests, searches, questions for rivals, QUITs, and
 //!   ELECTIONs to another candidate (`runs_answer`, `clocked_runs_answer`).
 //! - So a port that searches beside a master follows it within that time, if that is less than 5 s
 //!   and its role didn't change before (`runs_find`, `clocked_runs_find`). A candidate that asks a
-//!   master for its vote is sent away, and follows it, and a QUIT is acknowledged (`runs_send_away`,
-//!   `clocked_runs_send_away`).
+//!   master for its vote is sent away, and follows it, and a QUIT is acknowledged
+//!   (`runs_send_away`, `clocked_runs_send_away`).
 //! - A port whose quiet time ends beside a master asks for one in the same step, and so finds it
 //!   (`runs_find_first`, `clocked_runs_find_first`). Within `long` a MASTERUP or a QUIT reaches its
-//!   addressee, which follows the sender if it has no master then, a SLAVEUP reaches a master, which
-//!   takes its sender in, and a correction a follower, which moves its clock if it may
-//!   (`runs_reach`, `clocked_runs_reach`).
-//! - In every run no send is given up before it is 3 s old (`runs_give_up`, `clocked_runs_give_up`).
-//!   So a QUIT, a CONFLICT, a correction and an ELECTION whose addressee acts on it end within twice
-//!   `long`, if that is less than 3 s, and are never given up (`runs_acknowledge`,
-//!   `clocked_runs_acknowledge`).
+//!   addressee, which follows the sender if it is Loose or a candidate then, a SLAVEUP reaches a
+//!   master, which takes its sender in, and a correction a follower, which moves its clock if it
+//!   may (`runs_reach`, `clocked_runs_reach`).
+//! - In every run no send is given up before it is 3 s old (`runs_give_up`,
+//!   `clocked_runs_give_up`). So a QUIT, a CONFLICT, a correction and an ELECTION whose addressee
+//!   acts on it end within twice `long`, if that is less than 3 s, and are never given up
+//!   (`runs_acknowledge`, `clocked_runs_acknowledge`).
 //! - In every possible run no candidate wins before 5 s after it stood (`runs_win_late`,
 //!   `clocked_runs_win_late`). So one that is refused in time doesn't win, unless its send to who
-//!   refuses ended otherwise before (`runs_refuse`, `clocked_runs_refuse`); nor does one that asks a
-//!   master for its vote, if no QUIT to it is open yet (`runs_lead_alone`,
+//!   refuses ended otherwise before (`runs_refuse`, `clocked_runs_refuse`); nor does one that asks
+//!   a master for its vote, if no QUIT to it is open yet (`runs_lead_alone`,
 //!   `clocked_runs_lead_alone`). An ELECTION is acknowledged only by an ACCEPT or a REFUSE of its
 //!   addressee with its number (`runs_decide`, `clocked_runs_decide`).
-//! - Each peer that is measured has a sample when its round closes, if twice `long` is less than 8 s
-//!   (`runs_sample`, `clocked_runs_sample`).
+//! - Who stands for election backs itself, and asks each other member of its network for its vote,
+//!   in the same step (`runs_ask`, `clocked_runs_ask`).
+//! - Of two candidatures of different nodes in one network that begin near each other the later one
+//!   loses, in elections that aren't strict too: from the earlier one until twice `long` after the
+//!   later one it is less than `HOLD`, 60 s (`runs_elect_one`, `clocked_runs_elect_one`).
+//! - A candidate that no peer refuses or sends away wins when its `WINDOW` ends, 5 s and `late`
+//!   after it stood, where elections aren't strict (`runs_win`, `clocked_runs_win`); so does one
+//!   that whoever takes its question may back, if no master says anything to it (`runs_win_alone`,
+//!   `clocked_runs_win_alone`).
+//! - Each peer that is measured has a sample when its round closes, if twice `long` is less than 8
+//!   s (`runs_sample`, `clocked_runs_sample`).
+//! - A master whose node has one port tells each other member within 240 s and `late` of each tick
+//!   that it is master (`runs_tell`, `clocked_runs_tell`). A master that hears so looks for
+//!   rivals, unless it does so already (`all_resolve`); whoever does has asked each other peer
+//!   since it began (`runs_ask_rivals`, `clocked_runs_ask_rivals`), and knows who answers as a
+//!   rival before its Resolve is due, if twice `long` is less than 5 s (`runs_find_rivals`,
+//!   `clocked_runs_find_rivals`). It sends each one away at most `late` after that
+//!   (`runs_quit_rivals`, `clocked_runs_quit_rivals`), which then follows it (`runs_stop_by_quit`,
+//!   `clocked_runs_stop_by_quit`). So of two such masters on one network one stops within 250 s,
+//!   three times `late`, twice `long` and 3 microseconds, with what the drift adds
+//!   (`runs_leave_one`, `clocked_runs_leave_one`). Beside a master that leads on no candidate wins
+//!   that asks it for its vote, also if a QUIT to it is open (`runs_lead_on`,
+//!   `clocked_runs_lead_on`). So of two such nodes on one network at most one is master from 20 s
+//!   later on (`runs_have_one_left`, `clocked_runs_have_one_left`).
+//! - In every possible run a port leaves the master that it follows only at a boot, in a step that
+//!   took a TEST, or when it armed its Elect 300 s ago or longer; a master stops only at a boot, by
+//!   a QUIT or by a LOOP, and only masters send QUITs (`runs_keep_roles`,
+//!   `clocked_runs_keep_roles`).
+//! - So where all nodes of a network that stay have followed one master for 242 s and `long`, and
+//!   nothing comes from elsewhere, they follow it on (`runs_follow_on`, `clocked_runs_follow_on`).
+//! - In such a network an ADJTIME of the master reaches each member that stays within `long`; where
+//!   its clock may take it, it is moved at once (`runs_obey`, `clocked_runs_obey`), and nothing
+//!   else moves it (`runs_move_by_master`, `clocked_runs_move_by_master`), so that its ticket stays
+//!   meanwhile (`runs_keep_ticket`, `clocked_runs_keep_ticket`). A reading whose datagrams take at
+//!   most `long` has an error of at most `long`, and half of what the clock drifts meanwhile
+//!   (`runs_err_soon`, `clocked_runs_err_soon`). So two clocks that one Close corrected differ by
+//!   at most twice that, and the drift since, as long as they are left alone (`runs_agree_soon`,
+//!   `clocked_runs_agree_soon`).
 //! - It says something: a worked run (`prompt_use`), one that leads one tick before the bound
 //!   (`slow_use`), runs that are looked at one tick too late (`late_use`), histories without each
 //!   premise (`needed`), a run in which a second node may be master, and leads (`one_use`), one in
 //!   which a node finds its master and is set (`table_use`), with datagrams that are delivered in
 //!   time (`answers_use`), and others without that (`answers_use`, `found_use`), one in which a
-//!   candidate is sent away (`sent_away_use`), one in which a quiet time ends beside a master and one
-//!   in which nobody leads (`first_search_use`), one in which a report reaches a master and one in
-//!   which it is lost (`reach_use`), one in which a correction is acknowledged and three in which one
-//!   is given up (`acked_use`), runs in which nobody is up to answer (`meanwhile_use`), two candidates
-//!   at once that lose, and two that both win since datagrams take too long (`refused_use`),
-//!   candidates beside a master that lose and that win (`second_use`), and rounds in which a slave
-//!   has samples and in which it has none (`sampled_use`).
+//!   candidate is sent away (`sent_away_use`), one in which a quiet time ends beside a master and
+//!   one in which nobody leads (`first_search_use`), one in which a report reaches a master and one
+//!   in which it is lost (`reach_use`), one in which a correction is acknowledged and three in
+//!   which one is given up (`acked_use`), runs in which nobody is up to answer (`meanwhile_use`),
+//!   two candidates at once that lose, and two that both win since datagrams take too long
+//!   (`refused_use`), candidates beside a master that lose and that win (`second_use`), two
+//!   candidates at once of which the later one loses, and five runs in which it wins (`elect_use`),
+//!   a candidate that nobody opposes, and three that don't win (`win_use`), rounds in which a slave
+//!   has samples and in which it has none (`sampled_use`), two masters of which one stops
+//!   (`rivals_use`), and two that stay (`rivals_stay`), a candidate that is sent away already
+//!   (`lead_on_use`), two nodes of which one is left, and two of which both are (`one_left_use`), a
+//!   network that follows its master on, and ones that don't (`follow_use`), and corrections that
+//!   are taken, and that aren't (`obeyed_use`).
 //!
-//! It isn't proved that of two candidates at most one wins where elections aren't strict, that a
-//! network in which several nodes may be master gets one, or that all follow it and agree.
+//! It isn't proved that a network in which several nodes may be master gets one, or that all come
+//! to follow it and agree at each time from then on.
 #![tactic(auto)]
 
 pub mod delivered;
+pub mod elections;
+pub mod follow;
 pub mod laws;
+pub mod rivals;
 pub mod table;

@@ -163,16 +163,16 @@ dated_by setting l c post world past older rest fw f m w honest life f_in x net 
     let i = since setting (line_on l.port c.did ∷ of n past) (line_on l.port h.correct ∷ h.rest) own h.after in
     let z_at : h.correct.step.at ≤ l.did.step.at = (let t = place_time setting (line_on l.port h.correct ∷ z.world) world w.1 z.place in
     omega (arith, w.0.order)) in
-    by-number (h.last.number == m.number) refl z.world z.place z.own z.node (omega (arith, i.time)) (omega arith) (omega (arith, i.tick))
+    by_number (h.last.number == m.number) refl z.world z.place z.own z.node (omega (arith, i.time)) (omega arith) (omega (arith, i.tick))
   where
     not-number : (h.last.number == m.number) ≡ false → h.last.number ≡ m.number → ⊥
     not-number e k = true≢false (sym (eq-eqb h.last.number m.number k) ∙ e)
 
-    by-number : (b : Bool) → (h.last.number == m.number) ≡ b → (zw : List Line) → Within (line_on l.port h.correct ∷ zw) world → of (node_of l) zw ≡ h.rest →
+    by_number : (b : Bool) → (h.last.number == m.number) ≡ b → (zw : List Line) → Within (line_on l.port h.correct ∷ zw) world → of (node_of l) zw ≡ h.rest →
         h.correct.step.node ≡ node_of l → f.step.at ≤ h.correct.step.at → h.correct.step.at ≤ f.step.at + 34004007 →
         c.did.tick ≤ h.correct.tick → ⊥
-    by-number true e zw z_in own node a b t = omega (arith, dates.again h.last x.kind h.is (eqb-true h.last.number m.number e), h.at)
-    by-number false e zw z_in own node a b t =
+    by_number true e zw z_in own node a b t = omega (arith, dates.again h.last x.kind h.is (eqb-true h.last.number m.number e), h.at)
+    by_number false e zw z_in own node a b t =
         no_other setting (node_of l) (node_of post) l.port post.port f h.correct fw zw world m h.message h.amount h.stepped h.shown w.1 honest.1 life.1 net f_in
         x z_in node h.deed
         (subst (λ k. Receives (view l.port k) (peer_of (node_of post)) (Message h.message)) (sym own) h.took) h.kind (λ k. not-number e (sym h.number ∙ k)) a b

@@ -61,7 +61,7 @@ obeys_by setting l world q amount stepped shown f h is follows (ByMaster t) =
     let seen = view l.port (of (node_of l) world) in
     let took = taken_of l.did seen amount t in
     let k = known setting l world (Correct amount stepped shown) t.from (Message t.message) f h is took in
-    let from : t.from ≡ q = same-master t.from q (sym t.follows ∙ follows) in
+    let from : t.from ≡ q = same_master t.from q (sym t.follows ∙ follows) in
     let clock : target (plain seen) l.did.tick ≡ clock_at setting (node_of l) world l.did.step.at =
     ap (λ ds. target ds l.did.tick) (plain_view l.port (of (node_of l) world)) ∙ sym
     (target_is setting l world f (correct_up setting l world amount stepped shown f.0 is)) in
@@ -74,8 +74,8 @@ obeys_by setting l world q amount stepped shown f h is follows (ByMaster t) =
       amount_is = t.amount_is ∙ ap (λ z. amount_of t.message.kind (time_in t.message.body) z) clock;
     }
   where
-    same-master : (p q : PeerId) → Follow p ≡ Follow q → p ≡ q
-    same-master p q e = cc
+    same_master : (p q : PeerId) → Follow p ≡ Follow q → p ≡ q
+    same_master p q e = cc
 
 pub once_obeyed : (setting : Setting) (world : List Line) → Fits setting world → Honest world → OnceObeyed setting world
 once_obeyed setting world f h = Everywhere_from (ObeysAt setting) world (λ l s w q amount stepped shown is follows.
