@@ -1,7 +1,7 @@
 -- Of two nodes at most one is left that is master, and never two again.
 use Rattle.std.proofs.Common.{sym, ap, subst, arith, true≢false, inl, inr, ◌∙◌, ◌≡◌, ◌≤◌, ◌<◌, ℕ, ◌+◌, ◌*◌, ◌==◌, Bool, true, false}
 use Rattle.std.proofs.Common.{List, ◌∷◌, eq-eqb}
-use Rattle.std.proofs.lemmas.{Bool.cases_lt, Nat.mul_le}
+use Rattle.std.proofs.lemmas.{Bool.cases_lt, Nat.mul-le}
 use Rattle.tsp_rules.specs.Values.{Become, Candidate, Event, Master, Message, Peer, Port, Post, ROUND, SLACK, WINDOW}
 use Rattle.tsp_base.specs.Words.{Acts, HeaderValue, Here, Line, Within, dids, is_among, is_shared, of, peer_of, role, role_after, stood, time_of, view}
 use Rattle.tsp_base.proofs.PlaceLemmas.{Within_all, Within_comparable, Within_tail, Within_through}
@@ -229,7 +229,7 @@ module _ {clocks : Clocks} {header : HeaderValue} {setting : Setting} (set : Set
           first_stays = c-stays;
           second_stays = d-stays;
           early = early;
-          near = λ x e. (let few : x ≤ 12000000 = omega (arith, e, near, quick) in let product = mul_le setting.drift x 1000 12000000 setting.small few in
+          near = λ x e. (let few : x ≤ 12000000 = omega (arith, e, near, quick) in let product = mul-le setting.drift x 1000 12000000 setting.small few in
               omega (arith, product, few));
         })
 
