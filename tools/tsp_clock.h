@@ -43,12 +43,13 @@ enum tsp_status {
     TSP_STALE = 0,        /* the daemon ended properly, or hasn't written for 64 seconds (one that was killed may have any status until then) */
     TSP_WAITING = 1,      /* no master yet in this life of the daemon, or one that hasn't corrected it yet */
     TSP_SYNCHRONISED = 2, /* the daemon leads, or follows a master that was looked at in the last 64 seconds */
-    TSP_HOLDING = 3       /* it had a master, and has none now, or one that hasn't answered for 64 seconds */
+    TSP_HOLDING = 3       /* its master is gone, hasn't answered for 64 seconds, or doesn't say that it leads; or it is another one by now */
 };
 
 enum tsp_role { TSP_NOBODY = 0, TSP_FOLLOWS = 1, TSP_LEADS = 2 };
 
-/* The network's time at a moment. With TSP_STALE only `life` and `steps` are told, and not even these if the daemon ended properly or there is no page. */
+/* The network's time at a moment. With TSP_STALE only `life` and `steps` are told, and not even these if the daemon ended properly, its writer was
+ * killed in the middle of a write, or there is no page. */
 typedef struct {
     int64_t shown;    /* it never falls within a life, except at a step */
     int64_t earliest; /* the master's clock, as it ran on since it was asked, is no less */
@@ -126,11 +127,11 @@ typedef struct {
 #define TSP_VERSION 2
 #define TSP_MAGIC UINT64_C(0x6b636f6c63707374) /* "tspclock" */
 #define TSP_LASTS INT64_C(64000000)            /* the microseconds that an old look, or a daemon that writes nothing, counts for */
-#define TSP_RECKONED INT64_C(100000000)        /* the microseconds for which the own ticks tell the drift most narrowly */
+#define TSP_RECKONED INT64_C(100000000)        /* a look that is older than this has the wider width(x + 2 * width(x)) */
 #define TSP_LONGEST (INT64_MAX / 2000)         /* the longest wait in microseconds: 146 years, as good as without an end */
 #define TSP_FARTHEST (UINT64_C(1) << 56)       /* the greatest time on a page */
 #define TSP_LAST_TICK (INT64_C(1) << 53)       /* the greatest tick */
-#define TSP_AT_ONCE 64
+#define TSP_AT_ONCE 64                         /* how often a page that is being written is read again without a pause */
 #define TSP_PATIENCE INT64_C(40000000) /* the nanoseconds for which a page that is being written is read again */
 
 /* Nanoseconds of a clock of the kernel. */

@@ -37,6 +37,16 @@ cc -std=c99 $flags -o "$out/master" "$out/master.c" || fail "what the page shows
 rm -f "$out/led"
 python3 -B tools/tests/made_page.py "$out/led" -3500:3500 0
 [ "$(TSP_CLOCK="$out/led" "$out/master")" = b ] || fail "the master's name is '$(TSP_CLOCK="$out/led" "$out/master")'"
+# A host that leads, and whose look is still that of the time when it followed: no name in C, as in Python.
+python3 -B -c "
+import sys, time
+sys.path[:0] = 'tools', 'tools/tests'
+import made_page, tsp_clock
+page = made_page.following(time.time_ns() // 1000)
+made_page.write('$out/led', page._replace(daemon=page.daemon._replace(role=tsp_clock.LEADS)))"
+[ -z "$(TSP_CLOCK="$out/led" "$out/master")" ] || fail "a host that leads has the former master's name, '$(TSP_CLOCK="$out/led" "$out/master")'"
+[ -z "$(TSP_CLOCK="$out/led" python3 -B -c 'import sys; sys.path.insert(0, "tools"); import tsp_clock; print(tsp_clock.Clock().now().master)')" ] ||
+    fail 'in Python a host that leads has the former master'
 sed -n '/^import tsp_clock/,/^ *print/p' README.md >"$out/readme.py"
 sed -n '/^import tsp_clock/,/^```/p' docs/PROGRAMS.md | sed '$d' >"$out/programs.py"
 [ "$(wc -l <"$out/shown") $(wc -l <"$out/readme.py")" = '4 4' ] || fail 'the README shows no four lines'
