@@ -85,7 +85,8 @@ class Day:
             said, is_well = str(fault), False
         fault = self.not_well()
         took = self.second() - second
-        self.events.append(Event(second, at, sort.__name__, victim.name, is_well and not fault, f'{said}{fault}', took))
+        told = ' '.join(f'{said}{fault}'.split())
+        self.events.append(Event(second, at, sort.__name__, victim.name, is_well and not fault, told, took))
         self.net.say(f'    {self.line(self.events[-1])}')
 
     def not_well(self):
