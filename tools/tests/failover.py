@@ -88,7 +88,7 @@ class Failover:
         self.lab.sleep(310)
         # (systemctl is one that kills this daemon)
         self.script(os.path.join(self.bin, 'systemctl'), f'echo "$@" >{FOLDER}/asked; kill {lead.process.pid}')
-        self.says(self.tool(0, 'tsp-elect', '--handover', other.name, self_name=lead.name), f'{lead.name} leads, and its daemon is started again', f'{other.name} leads')
+        self.says(self.tool(0, 'tsp-elect', '--handover', other.name, self_name=lead.name), f'{lead.name} leads, and its daemon is being started again', f'{other.name} leads')
         with open(os.path.join(FOLDER, 'asked'), encoding='ascii') as file:
             self.trial.wants(file.read() == 'restart tsp\n', 'systemctl is told something else')
         lead.process.wait()
