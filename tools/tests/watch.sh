@@ -215,7 +215,7 @@ echo "$check: a daemon's tick now is found $said"
 if has script; then
     cp "$trace" "$out/own"
     touch -d '60 seconds ago' "$out/own"
-    printf '#!/bin/sh\nstty cols 60 rows 7\nTSP_TRACE=%s timeout 2 tools/tsp-watch\n' "$out/own" >"$out/draw"
+    printf '#!/bin/sh\nstty cols 60 rows 7\nTSP_TRACE=%s timeout 6 tools/tsp-watch\n' "$out/own" >"$out/draw"
     script -qec "$out/draw" /dev/null </dev/null | tr -d '\r' | sed 's/\x1b\[[0-9]*[A-Z]//g' >"$out/drawn"
     grep -q '^a, 14:5[0-9] after its start *$' "$out/drawn" || fail "of a quiet trace it draws '$(cat "$out/drawn")'"
 fi
@@ -315,6 +315,7 @@ status=0
 PATH=$out/path:$PATH TSP_TRACE='' python3 "$out/elsewhere" "$out/log/none/trace" --lines >"$out/said" 2>"$out/told" || status=$?
 [ "$status" -eq 3 ] && [ ! -s "$out/said" ] || fail "without a trace --lines ends with $status: $(cat "$out/said")"
 tells "there is no trace at $out/log/none/trace"
+: >"$out/told"
 PATH=$out/path:$PATH TSP_TRACE='' python3 "$out/elsewhere" "$out/log/none/trace" --own >"$out/said" 2>"$out/told" &
 note_process
 for _ in $(seq 200); do [ ! -s "$out/told" ] || break; sleep 0.1; done
