@@ -34,8 +34,8 @@ TellsSoFar (Running header events) text = KeepsPromises header events × (text �
 TellsSoFar (Ended header events) text = KeepsPromises header events × (text ≡ trace header events)
 TellsSoFar _ text = text ≡ []
 
--- what may come after the trace of these lines: nothing, or one line, which refuses the next line of the input or says
--- that it passes a limit
+-- what may come after the trace of these lines: nothing, or one line: that the next line of the input is bad, for some
+-- cause, or passes a limit
 abbrev pub IsLastLine : List (List ℕ) → List ℕ → Type 0
 IsLastLine lines said = (said ≡ []) ⊎ (((cause : List ℕ) × (said ≡ bad_line (length lines + 1) cause)) ⊎ (said ≡ limit_line (length lines + 1)))
 

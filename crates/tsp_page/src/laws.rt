@@ -21,9 +21,9 @@ pub fn octets_are_read_back()
     ensures look { (h : LookHalf) → IsLookHalf h → look_half_of (look_octets h) ≡ h }
 {}
 
-/// A half that has the clock of a node gives its target and its shown value at each tick, to the microsecond, until the
-/// clock is corrected; the page shows the greater of that value and the half's least. A deed that is neither a boot nor a
-/// correction changes nothing of it, and a node's clock gives such a half.
+/// A half that has the clock of a node gives its target and its shown value at each tick, until the clock is corrected;
+/// the page shows the greater of that value and the half's least. A deed that is neither a boot nor a correction changes
+/// nothing of it, and a node's clock gives such a half.
 #[tactic(auto, using(crate::proofs::PastLemmas::target_told, crate::proofs::PastLemmas::shown_told, crate::proofs::PastLemmas::told_on, crate::proofs::PastLemmas::told_by_clock))]
 pub fn halves_tell_of_pasts()
     ensures target { (ds : List Did) (h : DaemonHalf) (x : ℕ) → TellsOf ds h

@@ -16,8 +16,8 @@
 //! In parentheses are the contracts, clauses and definitions that say it.
 //!
 //! - What is written of a half is read back (`octets_are_read_back`).
-//! - A half that has a node's clock gives its target and its shown value, to the microsecond, until the clock is corrected
-//!   (`halves_tell_of_pasts`).
+//! - A half that has a node's clock gives its target, and its shown value or the half's least, if that is greater, until
+//!   the clock is corrected (`halves_tell_of_pasts`).
 //! - Of two reads, one after the other, the later one shows no less, within a life but at a step (`reads_dont_fall`).
 //! - Tick, target, shown value, width, status and interval by their definitions (`read`, `status_at`, `interval_at`); no
 //!   sum leaves 64 bits.

@@ -39,7 +39,7 @@
 //! [`safe`], [`date`] and [`loops`] say that a history in which that is so keeps the promises,
 //! whichever nodes there are and however many. [`alone`] says that a gateway, a node with several
 //! ports, runs as a node does if it has one port. Small histories show that each promise can be
-//! kept with all of its premises, and that each can be broken.
+//! kept with all of its premises, and that nearly each can be broken.
 //!
 //! # What is proved
 //!
@@ -52,8 +52,8 @@
 //!   only port give (`answers_alone`), boots alike (`boots_alone`), and so runs as that port does, from
 //!   nothing on and through any steps (`runs_alone`).
 //! - A history that fits keeps every promise (`safe`, and a theorem for each).
-//! - The promises are neither empty nor always true (`ordinary_use`, `rivals_meet`, `dates_use`, `loops_use`,
-//!   `promises_can_be_broken`, `dates_can_be_broken`, `loops_can_be_broken`).
+//! - The promises aren't empty, and nearly none is always true (`ordinary_use`, `rivals_meet`,
+//!   `dates_use`, `loops_use`, `promises_can_be_broken`, `dates_can_be_broken`, `loops_can_be_broken`).
 //! - No clock needs to be constant: a counter may be any that keeps the drift, as one of a constant rate does
 //!   (`ticks_keep_width`), and each life of a node may have another wall clock (`wander_use`).
 //! - In a history that fits a master alone sets the date, and what is acknowledged was set (`dated`), LOOPs

@@ -485,7 +485,7 @@ pub fn wander_use()
 {}
 
 ghost use Rattle.tsp_promises.specs.Broken.{AllBreak};
-/// Each promise says something: a small history breaks it.
+/// Nearly each promise says something: a small history breaks it.
 #[tactic(auto, using(crate::proofs::witness::BrokenRounds::all_break))]
 pub fn promises_can_be_broken()
     ensures { AllBreak }

@@ -27,7 +27,7 @@ pub fn answer_octets_can_be_broken()
 {}
 
 /// A premise of the promises holds of a run if its counterpart holds of the text of its schedule,
-/// so a reader can check it there.
+/// or of that and its trace, so a reader can check it there.
 #[tactic(auto, using(crate::proofs::RunPremises::runs_keep_premises))]
 pub fn runs_keep_premises()
     ensures { RunsKeepPremises }
@@ -46,7 +46,7 @@ pub fn possible_runs_keep_promises()
 {}
 
 /// A premise of the promises holds of a possible schedule's run if its counterpart holds of the
-/// schedule's text.
+/// schedule's text, or of that and what the run posts.
 #[tactic(auto, using(crate::proofs::RunPremises::possible_runs_keep_premises))]
 pub fn possible_runs_keep_premises()
     ensures { PossibleRunsKeepPremises }
@@ -70,7 +70,8 @@ pub fn clocked_runs_keep_promises()
     ensures { ClockedRunsKeepPromises }
 {}
 
-/// A premise of the promises holds of a run by any clocks if its counterpart holds of its events.
+/// A premise of the promises holds of a run by any clocks if its counterpart holds of its events,
+/// or of them and of what the run posts.
 #[tactic(auto, using(crate::proofs::RunPremises::clocked_runs_keep_premises))]
 pub fn clocked_runs_keep_premises()
     ensures { ClockedRunsKeepPremises }

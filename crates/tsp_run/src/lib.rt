@@ -27,14 +27,14 @@
 //! - The history of every schedule, over its networks, fits and keeps the promises, in strict elections that
 //!   of one winner too, and those of dates and LOOPs (`runs_fit`, `runs_keep_promises`).
 //! - The promise of the octets of answers isn't always true (`answer_octets_can_be_broken`).
-//! - It keeps a premise if its text does (`runs_keep_premises`).
+//! - It keeps a premise if its text does, or its text and its trace (`runs_keep_premises`).
 //! - The same is so without the limits of a replay, however many events there are, if each can
 //!   happen and fewer than 2^64 datagrams are posted (`possible_runs_fit`,
 //!   `possible_runs_keep_promises`, `possible_runs_keep_premises`). Every accepted schedule is such
 //!   a one (`accepted_is_possible`).
 //! - By any clocks it fits and keeps the promises, and a premise holds of it if its counterpart
-//!   holds of the events (`clocked_runs_fit`, `clocked_runs_keep_promises`,
-//!   `clocked_runs_keep_premises`). Clocks that stay within the drift have a setting
+//!   holds of the events, or of them and of what it posts (`clocked_runs_fit`,
+//!   `clocked_runs_keep_promises`, `clocked_runs_keep_premises`). Clocks that stay within the drift have a setting
 //!   (`clocks_are_set`). The run of a schedule is the one by its header's clocks
 //!   (`runs_by_own_clocks`), and what is said of it follows from that.
 //! - The worked run on two networks gives its acts (`joins_two_networks`).
