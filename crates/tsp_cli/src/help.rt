@@ -12,9 +12,9 @@ tsp: the time synchronization protocol, as a replay, a daemon and questions to o
     tsp icmp       reads exchanges of ICMP Timestamp messages, writes offsets and corrections
     tsp audit      reads a schedule and the trace that is claimed of it, writes whether that keeps five promises
     tsp serve LOCAL NAME FLAG TURNS PEER..
-                   runs a daemon at the address LOCAL for so many turns: FLAG is m where it may be
-                   master, x where it may by a majority of its peers, and s where it may not; a word + among
-                   the PEERs begins the next network that the daemon joins
+                   runs a daemon at the address LOCAL for so many turns: FLAG is m if it may be
+                   master, x if it may, with votes of most hosts of its network, itself counted, and
+                   s if it may not; an argument + among the PEERs begins the next network that it joins
     tsp msite ADDR
                    asks the daemon at an address who is master
     tsp clockdiff ADDR
@@ -31,12 +31,12 @@ tsp: the time synchronization protocol, as a replay, a daemon and questions to o
     tsp --version  prints the program's version
 
 An address is A.B.C.D:PORT. Input is standard input, output is standard output. A refused line
-ends a command with the words `bad LINE CAUSE`. The exit status is 0 where all went well, 1 for
+ends a command with the words `bad LINE CAUSE`. The exit status is 0 if all went well, 1 for
 wrong arguments, 2 for a refused line or clock, 3 and 4 for a failed read and write, 5 for a
 network that fails, 6 for no answer, 7 for a limit and 8 for want of memory.
 
-TSP_RATE in the environment is by how many parts in 10^9 a daemon's counter is faster than the
-machine's clock at its start: a whole number from -1000000 to 1000000, 0 if it is left out.
+TSP_RATE in the environment is by how many parts in 10^9 a daemon's counter is faster, at its
+start, than the clock that it reads: a whole number from -1000000 to 1000000, 0 if it is left out.
 TSP_COUNTER is that clock: raw, which nobody slews and which is meant if it is left out, or monotonic.
 TSP_PAGE is the file on which a daemon writes what its clock is, and from which it reads the rate
 at which it is to count from then on; it must be there. If it is left out, nothing is written or read.
