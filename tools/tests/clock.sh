@@ -81,6 +81,23 @@ for words in '' 'a b'; do
     # shellcheck disable=SC2086
     says_one_line 2 'usage: store.py JOURNAL | --read FILE..' python3 -B examples/store.py $words
 done
+# A stamp in C: at status 2 alone, past the interval and 40 ms, with the master's name; and none if another clock counts meanwhile.
+# shellcheck disable=SC2086
+cc -std=c99 $flags -o "$out/stamp" examples/stamp.c || fail 'the example that stamps warns'
+for status in 0 1 3; do
+    python3 -B tools/tests/made_page.py "$out/led" "$status" 0
+    says_one_line 1 "no stamp: status $status" env TSP_CLOCK="$out/led" "$out/stamp"
+done
+says_one_line 1 "there is no page of the network's time: No such file or directory" env TSP_CLOCK="$out/none" "$out/stamp"
+python3 -B tools/tests/made_page.py "$out/led" -3500:3500 0
+before=$(date +%s%6N)
+TSP_CLOCK="$out/led" "$out/stamp" >"$out/said" || fail 'there is no stamp at status 2'
+after=$(date +%s%6N) stamp=$(sed -n 's/^\([0-9]*\) us, by b$/\1/p' "$out/said")
+[ "$stamp" -gt $((before + 3000)) ] && [ $((stamp + 36000)) -lt "$after" ] || fail "between $before and $after '$(cat "$out/said")' was printed"
+python3 -B tools/tests/made_page.py "$out/led" -1000000:1000000 0
+{ sleep 0.05 && python3 -B tools/tests/made_page.py "$out/led" 2 0 0 2; } &
+says_one_line 1 "no stamp: another clock counts now, or its name isn't known yet" env TSP_CLOCK="$out/led" "$out/stamp"
+wait
 says_one_line 1 "logger.py: $out/none: No such file or directory" env TSP_CLOCK="$out/none" python3 -B examples/logger.py a
 says_one_line 1 "store.py: $out/none: No such file or directory" env TSP_CLOCK="$out/none" python3 -B examples/store.py "$out/journal"
 says_one_line 1 "store.py: $out/none: No such file or directory" python3 -B examples/store.py --read "$out/none"

@@ -178,6 +178,7 @@ if has cc; then
     cc -std=c99 -Wall -Wextra -Werror -isystem "$out/root/usr/include" -o "$out/read_time" "$examples/read_time.c" || fail 'the packed example does not compile'
     TSP_CLOCK="$out/clock" timeout 1 "$out/read_time" >"$out/said" || :
     grep -q "the daemon doesn't run$" "$out/said" || fail "the packed example says $(cat "$out/said")"
+    cc -std=c99 -Wall -Wextra -Werror -isystem "$out/root/usr/include" -o "$out/stamp" "$examples/stamp.c" || fail 'the packed example of a stamp does not compile'
 fi
 cmp -s "$out/root/etc/default/tsp" daemon/tsp.default || fail 'other variables of the daemon are packed'
 [ "$(sort "$out/control/conffiles" | paste -sd ' ')" = '/etc/apparmor.d/tsp /etc/default/tsp /etc/needrestart/conf.d/tsp.conf' ] || fail "what is kept of the administrator's is $(cat "$out/control/conffiles")"
