@@ -46,6 +46,7 @@ python3 tools/tests/headline_names.py >"$out/names" || fail 'a name of docs/HEAD
 dev/wrap --check || fail 'a line of a definition or a proof has more than 160 characters: dev/wrap breaks it'
 dev/sizes --check || fail 'the sizes of crates in docs/ARCHITECTURE.md are others: dev/sizes writes them'
 dev/layers --check || fail 'docs/layers.svg is out of date: dev/layers writes it'
+dev/premises --check || fail 'docs/PROGRESS.md says something else of what laws ask for'
 python3 tools/tests/proofs.py || fail 'docs/PROOFS.md names what is not there'
 [ "$count" -ge 4 ] || fail "only $count examples were tried"
 # The README is short, and no line of these pages is wide but in tables.
