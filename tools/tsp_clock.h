@@ -415,13 +415,14 @@ static inline __attribute__((cold)) int tsp_clock_anew(tsp_clock *clock, tsp_tim
 /* The same; and if nobody writes that page any more, by the one that stands at its path now, which is looked for once a second. */
 static inline __attribute__((cold)) int tsp_clock_seek(tsp_clock *clock, tsp_time *time)
 {
+    int64_t begun = tsp_nanoseconds(), now;
     int status = tsp_clock_anew(clock, time);
-    int64_t now = tsp_nanoseconds();
+    now = tsp_nanoseconds();
     if (status != TSP_STALE || now - clock->tried <= INT64_C(1000000000))
         return status;
-    /* (a service that started again may have put another page there) */
+    /* (a service that started again may have put another page there; a call that has waited for a writer leaves that page to the next call) */
     clock->tried = now;
-    return tsp_clock_map(clock) == 0 ? tsp_clock_anew(clock, time) : TSP_STALE;
+    return tsp_clock_map(clock) == 0 && now - begun < TSP_PATIENCE ? tsp_clock_anew(clock, time) : TSP_STALE;
 }
 
 /* The network's time now; its status is given too. The page is copied only if it was written since the last time. */

@@ -235,20 +235,22 @@ class Clock:
 
     def now(self):
         """The network's time now."""
+        begun = time.monotonic()
         found = self.read()
         now = now_of(*found) if found else Now()
         if now.status == STALE and time.monotonic() - self.tried > 1:
             self.tried = time.monotonic()
-            now = self.anew() or now
+            # (one that has waited for a writer leaves that page to the next call)
+            now = self.anew(self.tried - begun < PATIENCE) or now
         return now
 
-    def anew(self):
-        """The time by the page that is at the path by now, where a service that started again has put another one there."""
+    def anew(self, is_read):
+        """Opens the page that is at the path by now, if a service that started again has put another one there; the time by that one, if it is to be read."""
         try:
             self.open()
         except OSError:
             return None
-        found = self.read()
+        found = self.read() if is_read else None
         return now_of(*found) if found else None
 
 

@@ -36,16 +36,23 @@ __attribute__((constructor)) static void begin(void)
     renew();
 }
 
-/* The shown time in microseconds; where the page is written no more, it runs on. 0 where there is none. */
+/* The shown time in microseconds; if the page is written no more, it runs on, also if the daemon ended properly. 0 if there is none. */
 static int look(int64_t *shown)
 {
     tsp_halves page;
     int64_t now, tick;
+    int is_over;
     const tsp_page *at = __atomic_load_n(&led.page, __ATOMIC_ACQUIRE);
-    if (at == NULL || !tsp_read(at, &page, &now) || !tsp_is_sound(&page.daemon))
+    if (at == NULL || !tsp_read(at, &page, &now))
+        return 0;
+    /* (a daemon that ends writes a 0 there, and leaves its clock) */
+    is_over = page.daemon.sequence == 0;
+    if (is_over)
+        page.daemon.sequence = 2;
+    if (!tsp_is_sound(&page.daemon))
         return 0;
     tick = tsp_tick_at(&page.daemon, now);
-    if (page.daemon.sequence == 0 || tick - (int64_t)page.daemon.alive > TSP_LASTS) {
+    if (is_over || tick - (int64_t)page.daemon.alive > TSP_LASTS) {
         static int64_t tried;
         int64_t last = __atomic_load_n(&tried, __ATOMIC_RELAXED), seen = tsp_nanoseconds();
         if (seen - last > INT64_C(1000000000) && __atomic_compare_exchange_n(&tried, &last, seen, 0, __ATOMIC_RELAXED, __ATOMIC_RELAXED))

@@ -110,11 +110,45 @@ for rest in 15000 -15000; do
     page -3000000 "$rest" 2
     tools/tsp-run python3 -B "$out/compare" >"$out/said" 2>"$out/told" || fail "$(cat "$out/told")"
 done
-# The same while the daemon ends and starts again, with a clock that is five seconds ahead of the last one's; and where the wall clock is set.
-page -3000000 0 2
-{ sleep 0.6; page -3000000 0 0; sleep 0.5; page 2000000 3000 2 2; } &
-tools/tsp-run python3 -B "$out/compare" >"$out/restarted" 2>"$out/told" || fail "a restart: $(cat "$out/told")"
-wait
+# The same while the daemon ends and starts again, with a clock that is five seconds ahead of the last one's, both of which are behind the wall clock, or ahead
+# of it; and where the wall clock is set.
+cat >"$out/falls.c" <<'END'
+#include <stdio.h>
+#include <time.h>
+/* Looks at the wall clock each millisecond for 8 seconds by the monotonic one; it ends with 1 if it falls, or doesn't rise by 9 at last. */
+int main(void)
+{
+    struct timespec begun, now, wall, pause = {0, 1000000};
+    double first = 0, last = 0, read;
+    clock_gettime(CLOCK_MONOTONIC, &begun);
+    puts("begun");
+    fflush(stdout);
+    do {
+        clock_gettime(CLOCK_REALTIME, &wall);
+        read = wall.tv_sec + wall.tv_nsec / 1e9;
+        if (read < last)
+            return printf("it falls by %.3f s\n", last - read), 1;
+        last = read;
+        first = first ? first : read;
+        nanosleep(&pause, NULL);
+        clock_gettime(CLOCK_MONOTONIC, &now);
+    } while (now.tv_sec - begun.tv_sec < 8);
+    return last - first > 9 ? 0 : (printf("it rises by %.3f s\n", last - first), 1);
+}
+END
+for ahead in -3000000 3000000; do
+    page "$ahead" 0 2
+    { sleep 0.6; page "$ahead" 0 0; sleep 0.5; page $((ahead + 5000000)) 3000 2 2; } &
+    tools/tsp-run python3 -B "$out/compare" >"$out/restarted" 2>"$out/told" || fail "a restart, $ahead us ahead: $(cat "$out/told")"
+    wait
+    # (by some ways libfaketime answers in our place, so a program in C tries it too)
+    cc -O2 -Wall -o "$out/falls" "$out/falls.c" 2>"$out/told" || { skip 'there is no cc' 'a restart as a program in C sees it'; continue; }
+    page "$ahead" 0 2
+    : >"$out/said"
+    { until [ -s "$out/said" ]; do sleep 0.1; done; sleep 0.5; page "$ahead" 0 0; sleep 0.5; page $((ahead + 5000000)) 3000 2 2; } &
+    tools/tsp-run "$out/falls" >"$out/said" 2>&1 || fail "a restart, $ahead us ahead, for a program in C: $(cat "$out/said")"
+    wait
+done
 if cc -O2 -Wall -shared -fPIC -o "$out/stepped.so" tools/tsp_fast.c 2>"$out/told"; then
     # Runs a command whose wall clock is set by an hour 1.5 seconds later.
     stepped() {
