@@ -3,8 +3,9 @@
 
 usage: logger.py NAME
 
-A line is `SECONDS ERROR NAME LINE`: the time since 1970, and how far it may be from the master's clock, both in seconds. Of two lines of any hosts that
-were logged farther apart than both errors together, the later one sorts later: `sort -n host1.log host2.log host3.log`. A line that has no time, `- -`, comes
+A line is `SECONDS ERROR NAME LINE`: the time since 1970, and how far it may be from the master's clock, both in seconds. Of two lines of any hosts,
+under one master, that were logged farther apart than both errors together, and 40 ms if a round came between, the later one sorts later: `sort -n host1.log
+host2.log host3.log`. A line that has no time, `- -`, comes
 first.
 """
 import sys

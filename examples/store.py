@@ -1,6 +1,6 @@
 #!/usr/bin/env python3
-"""A store of several hosts that don't talk to each other: each writes to a journal of its own, and of two writes that came one after the other, on any
-two hosts, all who read the journals find the later one.
+"""A store of several hosts that don't talk to each other: each writes to a journal of its own, and of two writes under one master that came one after
+the other, on any two hosts, all who read the journals find the later one. Writes before and after a change of masters, or a date that is set, aren't in order.
 
 usage: store.py JOURNAL        writes each line `KEY VALUE` of standard input, and answers `done`, `unsure` or `refused`
        store.py --read FILE..  prints what all journals together hold

@@ -28,7 +28,7 @@ DAEMON_FIELDS, LOOK_FIELDS = struct.Struct('<QQqQqQqqqqQQQQ'), struct.Struct('<Q
 COUNTERS = RAW, MONOTONIC = 4, 1
 # A look, and a daemon that writes nothing, count for so many microseconds.
 LASTS = 64_000_000
-# The microseconds for which the own ticks tell the drift most narrowly.
+# A look that is older than these microseconds has the wider width(x + 2 * width(x)).
 RECKONED = 100_000_000
 SLEW, MILLION, BILLION = 200, 1_000_000, 1_000_000_000
 # How often a page that is being written is read again at once, and then for how many seconds after pauses of so many.

@@ -25,7 +25,8 @@ def launched(file, *words) -> str:
         raise Fault(f'{LAUNCH}: {fault.strerror}', NO_PROGRAM) from fault
     if ran.returncode:
         told = ran.stderr.decode('ascii', 'replace').strip().splitlines() or [f'it ends with status {ran.returncode}']
-        text = told[-1]
+        # (other tools have no --self)
+        text = told[-1].replace('by --self or TSP_SELF', 'by TSP_SELF')
         raise Fault(text[len('tsp-launch: '):] if text.startswith('tsp-launch: ') else f'tsp-launch: {text}', BAD_FILE)
     return ran.stdout.decode('ascii')
 
