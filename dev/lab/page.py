@@ -96,7 +96,7 @@ def judged(cases):
     if not faulty:
         return f'{told}, and each history holds'
     count = NUMBERS[len(faulty)] if len(faulty) < len(NUMBERS) else len(faulty)
-    return f'{told}; not all acts are in {"this case" if len(faulty) == 1 else f"these {count} cases"}: {"; ".join(faulty)}'
+    return f'{told}; in {"this case" if len(faulty) == 1 else f"these {count} cases"} it named a fault: {"; ".join(faulty)}'
 
 
 def place(millis):

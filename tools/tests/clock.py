@@ -208,6 +208,19 @@ def statuses(path, status, text):
     wanted(found == status and taken < 200_000, f'{text} has status {found} in C, after {taken} us')
 
 
+def patient(path):
+    """Wants that a call waits once for a page that is written for ever, also where it looks for another one; the shortest of some calls tells."""
+    clock, took = tsp_clock.Clock(path), []
+    for _ in range(4):
+        begun = time.monotonic()
+        clock.now()
+        took.append(time.monotonic() - begun)
+        time.sleep(1.1)
+    wanted(min(took) < 0.07, f'a page that is written for ever takes {min(took):.3f} s to read')
+    least = int(subprocess.run([READER, 'now', path, '4'], stdout=subprocess.PIPE, check=True).stdout.split()[2])
+    wanted(least < 70_000, f'a page that is written for ever takes {least} us to read in C')
+
+
 def dead():
     """A writer that was killed between the two numbers of its lock, and a daemon that wrote last a while ago, or that will."""
     path = os.path.join(FOLDER, 'dead')
@@ -219,6 +232,7 @@ def dead():
         with open(path, 'r+b') as file:
             os.pwrite(file.fileno(), SEQUENCE.pack(7), place)
         statuses(path, tsp_clock.STALE, 'a half that is being written for ever')
+    patient(path)
     for ago, status in ((63_000_000, tsp_clock.SYNCHRONISED), (65_000_000, tsp_clock.STALE), (-2_000_000, tsp_clock.STALE)):
         daemon = leads.daemon
         made_page.write(path, leads._replace(daemon=daemon._replace(alive=daemon.tick_at(time.clock_gettime_ns(tsp_clock.RAW)) - ago)))

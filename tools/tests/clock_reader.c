@@ -4,7 +4,8 @@
  *   torn   reads so often a page that is written without pause, in each half of which all fields come from one number, and counts those that don't; also
  *          of as many reads that don't look at the locks
  *   open   opens the page, and writes the errno that this gives, or 0
- *   now    reads the page once, and writes its status and the microseconds that this took
+ *   now    reads the page once, and writes its status and the microseconds that this took; and then so often again, each time more than a second later,
+ *          and writes the least that these took
  *   after  waits for so many microseconds until each later time is after the latest that it is now, and writes whether it is
  *   kept   changes a copy of the page so often, and reads it with and without what was kept of the read before; writes how often both were the same, and
  *          fails at the first that aren't
@@ -70,12 +71,23 @@ static int torn(const tsp_clock *clock, long count)
     return torn != 0;
 }
 
-static int now(tsp_clock *clock)
+static int now(tsp_clock *clock, long more)
 {
+    const struct timespec pause = {1, 100000000};
     tsp_time time;
-    int64_t before = tsp_nanoseconds();
+    int64_t before = tsp_nanoseconds(), took, least = INT64_MAX;
     int status = tsp_clock_now(clock, &time);
-    printf("%d %lld\n", status, (long long)(tsp_nanoseconds() - before) / 1000);
+    printf("%d %lld", status, (long long)(tsp_nanoseconds() - before) / 1000);
+    for (; more > 0; more--) {
+        nanosleep(&pause, NULL);
+        before = tsp_nanoseconds();
+        tsp_clock_now(clock, &time);
+        took = tsp_nanoseconds() - before;
+        least = took < least ? took : least;
+    }
+    if (least != INT64_MAX)
+        printf(" %lld", (long long)least / 1000);
+    puts("");
     return 0;
 }
 
@@ -190,5 +202,5 @@ int main(int count, char **words)
         return after(&clock, number);
     if (strcmp(words[1], "kept") == 0)
         return kept(&clock, (long)number);
-    return strcmp(words[1], "cost") == 0 ? cost(&clock, (long)number) : now(&clock);
+    return strcmp(words[1], "cost") == 0 ? cost(&clock, (long)number) : now(&clock, count == 4 ? (long)number : 0);
 }
