@@ -66,7 +66,7 @@ with open('docs/ACCURACY.md', encoding='utf-8') as file:
     text = file.read()
 case = {'hosts': 3, 'drift': 20, 'jitter': 100, 'faults': [], 'alike': 7}
 faulty = {**case, 'faults': ['x']}
-judged = re.compile(r'[0-9]+ acts are those of the rules(, and each history holds|; not all acts are in (this case|these [a-z]+ cases): [0-9]+ hosts, )')
+judged = re.compile(r'[0-9]+ acts are those of the rules(, and each history holds|; in (this case|these [a-z]+ cases) it named a fault: [0-9]+ hosts, )')
 sys.exit(not (judged.search(text) and all(judged.match(page.judged(cases)) for cases in ([case], [case, faulty], [faulty] * 3))
               and all(part in text for part in page.TEXT.split('\n\n') if '{' not in part)))
 END
