@@ -7,7 +7,7 @@ use Rattle.tsp_promises.specs.Once.{OnceConfirmed, OnceObeyed, OnceSpaced, OnceT
 
 -- the parts, the least first
 pub data Part : Type 0 where
-  -- no node backs two candidates within the hold
+  -- no port backs two candidates within the hold
   Backing : Part
   -- only masters correct
   Leading : Part

@@ -8,7 +8,7 @@ pub enum Verdict {
     /// All parts hold.
     Holds,
     /// Some part fails. Up to the first event at which one does, this is the least part that fails,
-    /// by the number that the program prints: 12 that no node backs two candidates within the hold,
+    /// by the number that the program prints: 12 that no port backs two candidates within the hold,
     /// 13 that only masters correct, 14 that each correction acts at most once, 15 that each
     /// measurement errs by at most half its round trip, 16 that clocks which one round corrected
     /// agree.

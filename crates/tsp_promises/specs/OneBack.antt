@@ -1,4 +1,4 @@
--- The promise that no node backs two candidates within HOLD ticks.
+-- The promise that no port backs two candidates within HOLD ticks.
 use Rattle.std.specs.Prelude.{◌≡◌, ◌≤◌, ◌⊎◌, ℕ, ◌+◌, false, List, ◌∷◌, Option, Some}
 use Rattle.tsp_rules.specs.Values.{Post, Back, Message, Accept, Election, PeerId, Place, Peer, Stranger, Port, HOLD}
 use Rattle.tsp_base.specs.Words.{Begins, Acts, Line, of, view, MessageValue, Within}

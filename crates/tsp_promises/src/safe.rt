@@ -22,7 +22,7 @@ pub fn safe()
 {}
 
 ghost use Rattle.tsp_promises.specs.OneBack.{OneBack};
-/// No node backs two candidates within `HOLD` ticks, 60 s, even if datagrams are forged.
+/// No port backs two candidates within `HOLD` ticks, 60 s, even if datagrams are forged.
 #[tactic(auto, using(crate::proofs::promised::ResolvedProof::one_back))]
 pub fn one_back()
     ensures { (setting : Setting) (world : List Line) → Fits setting world → Finished setting world
