@@ -16,11 +16,20 @@ done
 # Bounds that are a microsecond less aren't kept.
 mkdir -p "$out/other/dev"
 ln -s "$PWD/tools" "$out/other/tools"
+ln -s "$PWD/dev/lab" "$out/other/dev/lab"
 sed 's/, bound + late$/, bound + late - 1/' dev/worst-cases >"$out/other/dev/worst-cases"
 ! cmp -s dev/worst-cases "$out/other/dev/worst-cases" || fail 'nothing is changed'
 status=0
 python3 -B "$out/other/dev/worst-cases" --seeds 25 --program "$program" >"$out/said" 2>"$out/told" || status=$?
 [ "$status" -eq 1 ] && [ "$(cat "$out/told")" = 'worst-cases: something took longer than the law says' ] || fail "of bounds that aren't kept it says '$(cat "$out/told")', status $status"
+# Whole networks, once they are calm.
+dev/worst-cases --whole --seeds 12 --program "$program" >"$out/said" 2>"$out/told" || fail "$(cat "$out/said" "$out/told")"
+for row in 'a network has no master' 'not all follow the only master, since it is that' 'clocks are apart between rounds, once all follow'; do
+    grep -q "^| $row | [1-9]" "$out/said" || fail "there is no row '$row': $(cat "$out/said")"
+done
+sed 's/2150\.13, 2, 5/2.13, 2, 5/' dev/worst-cases >"$out/other/dev/worst-cases"
+! cmp -s dev/worst-cases "$out/other/dev/worst-cases" || fail 'nothing is changed'
+! python3 -B "$out/other/dev/worst-cases" --whole --seeds 12 --program "$program" >"$out/said" 2>"$out/told" || fail "networks have a master within seconds: $(cat "$out/said")"
 for words in '--seeds 0' '--late 1.1' '--long x' 'more'; do
     # shellcheck disable=SC2086  # words
     ! dev/worst-cases $words >"$out/said" 2>"$out/told" || fail "'$words' is accepted"
@@ -28,4 +37,4 @@ for words in '--seeds 0' '--late 1.1' '--long x' 'more'; do
 done
 ! dev/worst-cases --program "$out/none" >"$out/said" 2>"$out/told" || fail 'a program that is not there can be run'
 [ "$(cat "$out/told")" = "worst-cases: $out/none: No such file or directory" ] || fail "of no program it says '$(cat "$out/told")'"
-echo "$check: nothing in 35 networks takes longer than the laws say"
+echo "$check: nothing in 47 networks takes longer than the laws say"
