@@ -52,6 +52,7 @@ use std::rt::Env;
 use std::{env, io};
 use streams::is_closed;
 use tsp_io::clock::MachineTicker;
+use tsp_io::coarse::Coarse;
 use tsp_io::counter::Counter;
 use tsp_io::file_board::FileBoard;
 use tsp_io::machine::{Reading, Writing};
@@ -180,7 +181,7 @@ fn answer_by(rt: HostRuntime, words: &[String], clocks: Clocks) -> Status {
     }
     let mut source = Reading::new(rt.reader());
     let mut sink = Writing::new(io::writer(&rt));
-    let mut link = UdpLink::new(rt, rt.alloc());
+    let mut link = UdpLink::new(Coarse::new(rt), rt.alloc());
     let ticker = MachineTicker::new(unslewed, rate).counted_by(counter);
     let mut ticker = Paged::new(ticker, board);
     let status = run(

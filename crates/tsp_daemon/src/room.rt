@@ -1,4 +1,5 @@
 //! What a turn needs room for.
+ghost use Rattle.std.specs.Prelude.{◌≡◌};
 
 use std::alloc::Global;
 use tsp_base::pad::Pad;
@@ -8,15 +9,20 @@ use tsp_base::pad::Pad;
 pub(crate) struct Room {
     /// On it the acts are put.
     pub pad: Pad,
+    /// How many acts a step may put there. (Noted once, since it stays the same from turn to turn.)
+    pub acts: usize,
     /// The datagram's octets are at its front.
     pub buf: [u8; 512],
 }
 
 impl Room {
-    /// Room without any act.
-    pub(crate) fn new(alloc: Global) -> Room {
+    /// Room without any act, for steps that put so many at most.
+    pub(crate) fn new(alloc: Global, acts: usize) -> Room
+        ensures { result.acts ≡ acts }
+    {
         Room {
             pad: Pad::new(alloc),
+            acts,
             buf: [0; 512],
         }
     }

@@ -1,5 +1,5 @@
 //! The sends of a step.
-ghost use Rattle.std.specs.Prelude.{◌≡◌, ◌≤◌, ◌<◌, ◌+◌, [], ◌∷◌, length, OnOk, OnErr, true};
+ghost use Rattle.std.specs.Prelude.{◌≡◌, ◌≤◌, ◌<◌, ◌+◌, [], ◌∷◌, length, IfOk, OnOk, OnErr, true};
 ghost use Rattle.tsp_rules.specs.Strangers.{IsKnown};
 ghost use Rattle.tsp_codec.specs.Canon.{canon};
 ghost use Rattle.tsp_daemon.specs.Ends.{OnlySends, TriesAll, TriesSome};
@@ -42,37 +42,45 @@ fn send_any<L: Link>(link: &mut L, to: Place, datagram: &Datagram) -> Result<(),
     send_octets(link, to, encode(datagram).as_slice())
 }
 
-/// Tries the send of an act, if it is a post. A send that fails is a lost datagram, and no error.
-/// Fails only if out of memory: then the send wasn't tried.
-fn send_one<L: Link>(link: &mut L, act: &Act) -> Result<(), AllocError>
+/// Tries the send of an act, if it is a post, and says how many sends that were: one or none. A send that
+/// fails is a lost datagram, and no error. Fails only if out of memory: then the send wasn't tried.
+fn send_one<L: Link>(link: &mut L, act: &Act) -> Result<u64, AllocError>
     requires known { IsKnown (L.stranger link.old) act.now }
     ensures ok { OnOk result (TriesAll (send_of act.now) (L.tried link.old) (L.tried link.new)) }
+    ensures count { IfOk result (λ count. count ≡ length (send_of act.now)) }
+    ensures one { IfOk result (λ count. count ≤ 1) }
     ensures err { OnErr result (L.tried link.new ≡ L.tried link.old) }
     ensures some { OnErr result (0 < length (send_of act.now)) }
     ensures only { OnlySends L.Link link.old link.new }
 {
     match act {
-        Act::Post(to, datagram) => match datagram {
-            Datagram::Stamp(stamp) => send_octets(link, *to, encode_stamp(stamp).as_slice()),
-            Datagram::Message(_) => send_any(link, *to, datagram),
-        },
-        _ => Ok(()),
+        Act::Post(to, datagram) => {
+            match datagram {
+                Datagram::Stamp(stamp) => send_octets(link, *to, encode_stamp(stamp).as_slice())?,
+                Datagram::Message(_) => send_any(link, *to, datagram)?,
+            }
+            Ok(1)
+        }
+        _ => Ok(0),
     }
 }
 
-/// Tries the sends of all posts among the acts, in order. Fails only if out of memory: then only
-/// the first of them were tried, and not all.
-pub(crate) fn send_all<L: Link>(link: &mut L, acts: &[Placed]) -> Result<(), AllocError>
+/// Tries the sends of all posts among the acts, in order, and says how many these were. Fails only if out of
+/// memory: then only the first of them were tried, and not all.
+pub(crate) fn send_all<L: Link>(link: &mut L, acts: &[Placed]) -> Result<u64, AllocError>
     requires known { AreKnown (L.stranger link.old) acts.now }
     ensures ok { OnOk result (TriesAll (sends_of acts.now) (L.tried link.old) (L.tried link.new)) }
+    ensures count { IfOk result (λ count. count ≡ length (sends_of acts.now)) }
+    ensures few { IfOk result (λ count. count ≤ length acts.now) }
     ensures err { OnErr result (TriesSome (sends_of acts.now) (L.tried link.old)
         (L.tried link.new)) }
     ensures only { OnlySends L.Link link.old link.new }
 {
+    let mut count = 0;
     for placed in acts {
-        send_one(link, &placed.act)?;
+        count += send_one(link, &placed.act)?;
     }
-    Ok(())
+    Ok(count)
 }
 
 /// How many sends an act asks for: one if it is a post.
@@ -84,16 +92,4 @@ pub(crate) fn posts_by(act: &Act) -> u64
         Act::Post(..) => 1,
         _ => 0,
     }
-}
-
-/// How many sends acts ask for.
-pub(crate) fn posts_in(acts: &[Placed]) -> u64
-    ensures count { result ≡ length (sends_of acts.now) }
-    ensures few { result ≤ length acts.now }
-{
-    let mut count = 0;
-    for placed in acts {
-        count += posts_by(&placed.act);
-    }
-    count
 }

@@ -68,7 +68,7 @@ pub fn serve<K: Sink, L: Link, T: Ticker>(
         (result ≡ ServeEnd.WriteFault) }
     ensures sends { L.send_faults link.old ≤ L.send_faults link.new }
 {
-    let mut room = Room::new(alloc);
+    let mut room = Room::new(alloc, gateway.room());
     let mut counters = Counters { turns: 0, posts: 0 };
     let mut page = begin(&gateway, ticker);
     for _ in 0..turns {

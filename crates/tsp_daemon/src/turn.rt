@@ -1,5 +1,5 @@
 //! A turn of the daemon.
-ghost use Rattle.std.specs.Prelude.{◌≡◌, ℕ, ◌≤◌, ◌<◌, ◌+◌, ◌^◌, length, IfErr, List, MatchResult, OnOk, Err};
+ghost use Rattle.std.specs.Prelude.{◌≡◌, ℕ, ◌≤◌, ◌<◌, ◌+◌, ◌^◌, length, IfErr, IfOk, List, MatchResult, OnOk, Err};
 ghost use Rattle.std.specs.Prelude.{None, Some};
 ghost use Rattle.tsp_io.specs.Boards.{Mark};
 ghost use Rattle.tsp_io.specs.Streams.{Grows};
@@ -20,7 +20,7 @@ use crate::end::ServeEnd;
 use crate::lines::{is_shown, tell};
 use crate::page::{Page, show};
 use crate::room::Room;
-use crate::sends::{posts_in, send_all};
+use crate::sends::send_all;
 use crate::step::{make_room, step};
 use crate::wait::wait_until;
 use tsp_base::act::Placed;
@@ -29,8 +29,8 @@ use tsp_io::link::{Link, Recv};
 use tsp_io::sink::Sink;
 use tsp_io::ticker::Ticker;
 
-/// Tries the sends of the acts of a turn, and then writes their lines, if they are to be shown.
-/// Fails if a write fails, or if out of memory.
+/// Tries the sends of the acts of a turn, and then writes their lines, if they are to be shown. Says how
+/// many sends these were. Fails if a write fails, or if out of memory.
 fn finish<K: Sink, L: Link>(
     shown: bool,
     counters: &Counters,
@@ -38,13 +38,15 @@ fn finish<K: Sink, L: Link>(
     acts: &[Placed],
     sink: &mut K,
     link: &mut L,
-) -> Result<(), ServeEnd>
+) -> Result<u64, ServeEnd>
     requires known { AreKnown (L.stranger link.old) acts.now }
     requires few { counters.now.posts + length acts.now < 2 ^ 64 }
     requires turns { counters.now.turns + 1 < 2 ^ 64 }
     ensures ok { OnOk result (TriesAll (sends_of acts.now) (L.tried link.old) (L.tried link.new)
         × Grows (K.written sink.old) (K.written sink.new) (shown_lines shown (counters.now.turns + 1)
         tick counters.now.posts acts.now)) }
+    ensures posts { IfOk result (λ posts. posts ≡ length (sends_of acts.now)) }
+    ensures few { IfOk result (λ posts. posts ≤ length acts.now) }
     ensures err { IfErr result (FinishesUntil (sends_of acts.now)
         (shown_lines shown (counters.now.turns + 1) tick counters.now.posts acts.now) (L.tried link.old)
         (L.tried link.new) (K.written sink.old) (K.written sink.new)) }
@@ -52,13 +54,13 @@ fn finish<K: Sink, L: Link>(
     ensures write { Counts (K.faults sink.old) (K.faults sink.new)
         (result ≡ Err ServeEnd.WriteFault) }
 {
-    if send_all(link, acts).is_err() {
+    let Ok(posts) = send_all(link, acts) else {
         return Err(ServeEnd::OutOfMemory);
-    }
+    };
     if shown {
-        return tell(sink, counters.turns + 1, tick, counters.posts, acts);
+        tell(sink, counters.turns + 1, tick, counters.posts, acts)?;
     }
-    Ok(())
+    Ok(posts)
 }
 
 /// A turn: reads the tick, waits for a datagram, reads the tick again, and lets the node step; writes
@@ -74,6 +76,7 @@ pub(crate) fn turn<K: Sink, L: Link, T: Ticker>(
     ticker: &mut T,
 ) -> Result<(), ServeEnd>
     requires lives { Lives node.old }
+    requires size { room.old.acts ≡ room_of_ports (ports_in node.old) }
     requires later { clock_at node.old ≤ T.last ticker.old }
     requires few { counters.old.posts + room_of_ports (ports_in node.old) < 2 ^ 64 }
     requires turns { counters.old.turns + 1 < 2 ^ 64 }
@@ -111,13 +114,14 @@ pub(crate) fn turn<K: Sink, L: Link, T: Ticker>(
     ensures counts { OnOk result ((counters.new.turns ≡ counters.old.turns + 1)
         × (counters.new.posts ≤ counters.old.posts + room_of_ports (ports_in node.old))) }
     ensures ports { OnOk result (ports_in node.new ≡ ports_in node.old) }
+    ensures size { room.new.acts ≡ room.old.acts }
     ensures link { Counts (L.faults link.old) (L.faults link.new)
         (result ≡ Err ServeEnd.LinkFault) }
     ensures write { Counts (K.faults sink.old) (K.faults sink.new)
         (result ≡ Err ServeEnd.WriteFault) }
     ensures sends { L.send_faults link.old ≤ L.send_faults link.new }
 {
-    if make_room(&mut room.pad, node.room()).is_err() {
+    if make_room(&mut room.pad, room.acts).is_err() {
         return Err(ServeEnd::OutOfMemory);
     }
     let first = ticker.tick();
@@ -131,10 +135,11 @@ pub(crate) fn turn<K: Sink, L: Link, T: Ticker>(
     let shown = is_shown(before, node.tracing());
     let acts = room.pad.acts();
     show(page, node, tick, acts, ticker);
-    if let Err(end) = finish(shown, counters, tick, acts, sink, link) {
-        return Err(end);
-    }
+    let posts = match finish(shown, counters, tick, acts, sink, link) {
+        Ok(posts) => posts,
+        Err(end) => return Err(end),
+    };
     counters.turns += 1;
-    counters.posts += posts_in(acts);
+    counters.posts += posts;
     Ok(())
 }

@@ -18,7 +18,8 @@
 //! - `icmp_decode` answers a message exactly if the octets are that message's, and else their first fault
 //!   (`reads`, `spelled`, `faulty`).
 //! - `icmp_encode` gives its octets (`octets`).
-//! - `difference` is right for clocks that are at most half a day apart (`dayside`).
+//! - `difference` is right if the asked clock, when the request came, showed less than half a day before or after the time
+//!   at which that was sent (`dayside`).
 //!
 //! # What is only tested
 //!

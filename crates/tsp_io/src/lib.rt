@@ -12,6 +12,7 @@
 //!
 //! [`paged::Paged`] gives a ticker a board, on which other programs read what its ticks mean.
 //! [`unslewed::Unslewed`] are the machine's clocks with a counter whose rate no program changes.
+//! [`coarse::Coarse`] are the machine's clocks with a monotonic one that is cheap to read, for a link.
 //!
 //! The contracts of a trait speak of what an object holds: the octets left or written, the arrivals
 //! to come, the sends that were tried, the readings to come. In memory these are *told*: contracts know
@@ -87,6 +88,7 @@ pub mod addr;
 mod arrivals;
 pub mod board;
 pub mod clock;
+pub mod coarse;
 pub mod counter;
 mod directory;
 mod failing;

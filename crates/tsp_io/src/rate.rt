@@ -46,10 +46,14 @@ impl Rate {
 
     /// How far the counter has come when the machine's clock has come `elapsed` microseconds: rounded
     /// down, and at most 2^61.
-    #[tactic(auto, using(crate::proofs::RateLemmas::by_parts))]
+    #[tactic(auto, using(crate::proofs::RateLemmas::by_parts, crate::proofs::RateLemmas::own))]
     pub fn ticks(&self, elapsed: u64) -> u64
         ensures { result ≡ counted self.now.speed elapsed }
     {
+        // (Most counters run at the machine's own rate, and each turn of a daemon asks twice.)
+        if self.speed == 1_000_000_000 {
+            return elapsed.min(1 << 61);
+        }
         if elapsed >= 1 << 62 {
             return 1 << 61;
         }

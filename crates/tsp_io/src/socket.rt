@@ -124,7 +124,7 @@ impl Socket {
     /// Sets how many microseconds receives wait; nothing is done if so many are set. Fails if the system
     /// refuses it.
     #[inline(always)]
-    fn set_wait(&mut self, wait: u64) -> io::Result<()>
+    fn set_wait(&mut self, wait: u64) -> Result<(), ReceiveFault>
         ensures ok { OnOk result (self.new ≡ record self.old { wait = wait }) }
         ensures err { OnErr result (self.new ≡ self.old) }
     {
@@ -136,18 +136,19 @@ impl Socket {
 
     /// The same, by asking the system for it. (A call of its own, since most receives wait as the one before.)
     #[inline(never)]
-    fn change_wait(&mut self, wait: u64) -> io::Result<()>
+    fn change_wait(&mut self, wait: u64) -> Result<(), ReceiveFault>
         ensures ok { OnOk result (self.new ≡ record self.old { wait = wait }) }
         ensures err { OnErr result (self.new ≡ self.old) }
     {
-        self.udp
-            .set_read_timeout(Some(Duration::from_micros(wait)))?;
+        let timeout = Some(Duration::from_micros(wait));
+        if self.udp.set_read_timeout(timeout).is_err() {
+            return Err(ReceiveFault);
+        }
         self.wait = wait;
         Ok(())
     }
 
     /// One call of the system's for a datagram, which waits as long as is set.
-    #[inline(always)]
     fn take(&self, buf: &mut [u8]) -> Result<Came, Untaken>
         requires { length buf.old ≡ 512 }
         ensures { IfOk result (λ came. came.count ≤ 512) }
@@ -230,9 +231,7 @@ impl Socket {
         } }
         ensures counted { self.old.discarded ≤ self.new.discarded }
     {
-        if self.set_wait(settable(wait)).is_err() {
-            return Err(ReceiveFault);
-        }
+        self.set_wait(settable(wait))?;
         let came = match self.take(buf) {
             Ok(came) => Some(came),
             Err(Untaken::Fault) => return Err(ReceiveFault),

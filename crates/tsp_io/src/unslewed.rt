@@ -28,7 +28,7 @@ impl<R: Clock> Unslewed<R> {
         ensures monotonic { wanted ≡ Counter.Monotonic → result.counter ≡ Counter.Monotonic }
     {
         let counter = match wanted {
-            Counter::Raw => raw_if(raw_reading().is_some()),
+            Counter::Raw => raw_if(reading_of(RAW).is_some()),
             Counter::Monotonic => Counter::Monotonic,
         };
         Unslewed { rt, counter }
@@ -56,7 +56,7 @@ fn raw_if(there: bool) -> Counter
 impl<R: Clock> Clock for Unslewed<R> {
     fn monotonic(&self) -> io::Result<Duration> {
         match self.counter {
-            Counter::Raw => raw_reading().ok_or_else(|| io::Error::from(ErrorKind::Unsupported)),
+            Counter::Raw => reading_of(RAW).ok_or_else(|| io::Error::from(ErrorKind::Unsupported)),
             Counter::Monotonic => self.rt.monotonic(),
         }
     }
@@ -70,14 +70,15 @@ impl<R: Clock> Clock for Unslewed<R> {
     }
 }
 
-/// The raw counter's time since some moment before the program's start; None if the machine gives no
-/// reading.
-fn raw_reading() -> Option<Duration> {
+/// The time of the machine's clock with this number since some moment before the program's start; None if the
+/// machine gives no reading.
+#[inline(always)]
+pub(crate) fn reading_of(clock: i32) -> Option<Duration> {
     let mut time = timespec {
         tv_sec: 0,
         tv_nsec: 0,
     };
-    if libc::clock_gettime(RAW, &mut time) != 0 {
+    if libc::clock_gettime(clock, &mut time) != 0 {
         return None;
     }
     span(time.tv_sec, time.tv_nsec)
@@ -90,10 +91,8 @@ fn span(secs: i64, nanos: i64) -> Option<Duration>
         → as_nanos d ≡ s * 1000000000 + n) }
     ensures all { (s n : ℕ) → secs ≡ pos s → nanos ≡ pos n → n < 1000000000 → IsSome result }
 {
-    let secs = u64::try_from(secs).ok()?;
-    let nanos = u32::try_from(nanos).ok()?;
-    if nanos >= 1_000_000_000 {
+    if secs < 0 || nanos < 0 || nanos >= 1_000_000_000 {
         return None;
     }
-    Some(Duration::new(secs, nanos))
+    Some(Duration::new(secs as u64, nanos as u32))
 }

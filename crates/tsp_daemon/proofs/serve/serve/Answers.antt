@@ -1,4 +1,4 @@
-use Rattle.std.proofs.Common.{◌≡◌, ◌∙◌, ◌+◌, ap, arith, refl, List}
+use Rattle.std.proofs.Common.{rules, ◌≡◌, ◌∙◌, ◌+◌, ap, arith, refl, sym, List}
 use Rattle.tsp_rules.specs.Values.{PeerId}
 use Rattle.tsp_gateway.specs.Rooms.{ports_in, room_of_ports}
 use Rattle.tsp_query.proofs.FaultLemmas.{Counts_from, Counts_same}
@@ -96,6 +96,7 @@ loop-preserved g c =
       turns = c.in_default.ensures.counts.0 ∙ ap (λ n. n + 1) c.loop.invariant.turns;
       posts = posts_more c.loop.counter room _ _ _ c.in_default.ensures.counts.1 c.loop.invariant.posts same;
       ports = c.in_default.ensures.ports ∙ c.loop.invariant.ports;
+      size = c.turn.ensures.size ∙ c.loop.invariant.size ∙ ap (λ (ps : List (List PeerId)). room_of_ports ps) (sym c.in_default.ensures.ports);
       faults = c.in_default.ensures.link.still (λ e. went_on _ _ e) ∙ c.loop.invariant.faults;
       send_faults = le_on _ _ _ c.loop.invariant.send_faults c.turn.ensures.sends;
       writes = c.in_default.ensures.write.still (λ e. went_on _ _ e) ∙ c.loop.invariant.writes;
@@ -152,6 +153,7 @@ loop-init g c = record {
   turns = refl;
   posts = search arith;
   ports = refl;
+  size = search rules;
   faults = refl;
   send_faults = le_self _;
   writes = refl;

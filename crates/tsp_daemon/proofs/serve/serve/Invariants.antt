@@ -37,6 +37,7 @@ invariant-loop g l = record {
   turns : l.counters.turns ≡ l.counter;
   posts : l.counters.posts ≤ l.counter * room_of_ports (ports_in l.fn.gateway);
   ports : ports_in l.gateway ≡ ports_in l.fn.gateway;
+  size : l.room.acts ≡ room_of_ports (ports_in l.gateway);
   faults : g.L.Link.faults l.link ≡ g.L.Link.faults l.fn.link;
   send_faults : g.L.Link.send_faults l.fn.link ≤ g.L.Link.send_faults l.link;
   writes : g.K.Sink.faults l.sink ≡ g.K.Sink.faults l.fn.sink;

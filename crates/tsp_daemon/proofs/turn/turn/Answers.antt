@@ -1,15 +1,16 @@
 use Rattle.std.proofs.Common.{◌≡◌, ◌∙◌, ◌+◌, List, [], ap, inl, sym, subst, refl}
 use Rattle.tsp_io.specs.declared.link.Recv.TheVariants.{Failed}
-use Rattle.tsp_query.proofs.{FaultLemmas.Counts_same, OutsideLemmas.Notes_same}
+use Rattle.tsp_query.proofs.{FaultLemmas.Counts_from, FaultLemmas.Counts_same, OutsideLemmas.Notes_same}
 use Rattle.tsp_gateway.specs.{GatewayStands.GatewayStands, GatewayStands.GatewayBegun, PortOf.setups_in}
 use Rattle.tsp_rules.specs.{GateRows.answers_all, NodePerforms.PerformsAll, Values.Placed}
-use Rattle.tsp_daemon.specs.{Ends.given_by, Posts.AreKnown, declared.end.ServeEnd.TheVariants.LinkFault}
+use Rattle.tsp_daemon.specs.declared.end.ServeEnd.TheVariants.{LinkFault, WriteFault}
+use Rattle.tsp_daemon.specs.{Ends.given_by, Posts.AreKnown}
 use Rattle.tsp_daemon.proofs.PageLemmas.{ends_marks, leaves_same, reads_before, reads_of, shown_is}
 use Rattle.tsp_daemon.proofs.{ReadLemmas.sheet_turned, ServeLemmas.same_page}
 use Rattle.tsp_query.specs.Outside.{paged}
 use Rattle.tsp_daemon.specs.Sessions.{past_after}
 use Rattle.tsp_daemon.proofs.SessionLemmas.{waits_is, waits_on, steps_is, turned_is, ends_is, lives_on, acts_known, unheard_is, finish_unlinked}
-use Rattle.tsp_daemon.proofs.TurnLemmas.{le_self, le_is, last_on, last_twice, sends_on, posts_on, memory_unlinked, memory_unwritten, link_unwritten, same_end}
+use Rattle.tsp_daemon.proofs.TurnLemmas.{le_self, le_is, last_on, last_twice, sends_on, posts_on, memory_unlinked, memory_unwritten, link_unwritten, end_as, same_end}
 use Rattle.tsp_daemon.proofs.WaitLemmas.{first_reading, turn_noted, wait_noted}
 use Rattle.tsp_daemon.proofs.turn.turn.Goals as goal
 
@@ -84,12 +85,14 @@ returns-in-Err g c = record {
       let ok : c.recv-received.result ≡ Failed → ⊥ = c.in_default.not-Failed in
       Counts_same _ _ _ (c.finish.ensures.only.faults ∙ c.recv-received.ensures.still ok) (λ e. finish_unlinked _ _ _ _ _ _ c.in-Err.end c.in-Err.ensures.err
       (same_end c.in-Err.end LinkFault e));
-  write = c.in-Err.ensures.write;
+  write = Counts_from _ _ _ _ _ refl (λ e. end_as c.in-Err.end WriteFault (same_end c.in-Err.end WriteFault e))
+      (λ e. end_as c.in-Err.end WriteFault (same_end c.in-Err.end WriteFault e)) c.in-Err.ensures.write;
   sends = sends_on _ _ _ c.recv-received.ensures.later.1 c.finish.ensures.only.sends;
   lives = tt;
   clock = tt;
   counts = tt;
   ports = tt;
+  size = refl;
 }
 
 -- the turn was taken
@@ -106,10 +109,10 @@ returns g c = record {
       [] ps) (sym c.acts-acts.ensures) c.step.ensures.row in
       let steps = steps_is s _ _ c.args.counters.now _ _ _ _ _ _ _ _ _ _ _ _ at.stands at.turns_is at.posts_is v row
       (c.tracing-before.ensures.past s.past at.stands) c.tracing.ensures.past c.is_shown-shown.ensures in
-      let sent = c.in_default-finish.ensures.ok in
+      let sent = c.in-Ok.ensures.ok in
       turned_is s _ c.args.counters.now _ _ _ _ _ _ _ _ _ _ _ _ _ _ _ _ _ at.turns_is at.posts_is at.written_is v steps c.finish.ensures.only.arrivals
       c.finish.ensures.only.calls sent.0 sent.1 refl
-      (ap (λ n. c.args.counters.now.posts + n) c.posts_in.ensures.count);
+      (ap (λ n. c.args.counters.now.posts + n) c.in-Ok.ensures.posts);
   lives = lives_on _ _ _ _ _ c.requires.lives c.step.ensures.row;
   waits = λ s at. wait_noted s _ c.due.result c.tick-first.result c.wait_until.result _ _ at.stands c.due.ensures.past
       (first_reading s.outside _ _ _ _ _ _ _ at.tells c.tick-first.ensures.takes) c.wait_until.ensures
@@ -157,12 +160,13 @@ returns g c = record {
         c.tick-tick.ensures.last);
   };
   clock = last_on _ _ _ c.step.ensures.clock (c.show.ensures.only.last ∙ c.tick-tick.ensures.last);
-  counts = (refl, posts_on c.args.counters.now.posts _ _ _ _ c.posts_in.ensures.few c.step.ensures.few c.acts-acts.ensures);
+  counts = (refl, posts_on c.args.counters.now.posts _ _ _ _ c.in-Ok.ensures.few c.step.ensures.few c.acts-acts.ensures);
   ports = c.step.ensures.ports;
+  size = refl;
   link =
       let ok : c.recv-received.result ≡ Failed → ⊥ = c.in_default.not-Failed in
       Counts_same _ _ _ (c.finish.ensures.only.faults ∙ c.recv-received.ensures.still ok) (λ e. cc);
-  write = c.in_default-finish.ensures.write;
+  write = Counts_same _ _ _ (c.in-Ok.ensures.write.still (λ e. cc)) (λ e. cc);
   sends = sends_on _ _ _ c.recv-received.ensures.later.1 c.finish.ensures.only.sends;
 }
 
@@ -190,6 +194,7 @@ returns-then-is_err g c = record {
   clock = tt;
   counts = tt;
   ports = tt;
+  size = refl;
 }
 
 -- the receive failed
@@ -226,4 +231,5 @@ returns-in-Failed g c = record {
   clock = tt;
   counts = tt;
   ports = tt;
+  size = refl;
 }
