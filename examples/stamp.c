@@ -1,6 +1,7 @@
 /* Prints a stamp of the network's time once all later ones are greater, with its master's name: cc -o stamp stamp.c
- * (in a clone, here: cc -I ../tools -o stamp stamp.c). It ends with 1 if it gets none: at once at a status
- * other than 2, or if the wait takes more than ten seconds. */
+ * (in a clone, here: cc -I ../tools -o stamp stamp.c). It ends with 1 if it gets none: at once
+ * if there is no page or the status isn't 2, and after the wait if that took more than ten seconds, or if another clock
+ * counts then or has no name yet. */
 #define _POSIX_C_SOURCE 200809L
 #include <stdio.h>
 #include <tsp_clock.h>

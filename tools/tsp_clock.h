@@ -5,7 +5,7 @@
  *     if (tsp_clock_open(&clock, NULL) == 0 && tsp_clock_now(&clock, &now) == TSP_SYNCHRONISED)
  *         printf("%lld to %lld\n", (long long)now.earliest, (long long)now.latest);
  *
- * Times are microseconds since 1970. A call never waits for a writer for more than some 50 milliseconds. Each thread needs a tsp_clock of
+ * All times are microseconds; those of clocks are since 1970. A call never waits for a writer for more than some 50 milliseconds. Each thread needs a tsp_clock of
  * its own. It is for gcc and clang, C from C99 on and C++ from C++11 on. With -std=c.. define _POSIX_C_SOURCE as 200809L before the first #include.
  *
  * The page has two halves. The daemon writes its own clock into one. Into the other the supervisor writes its last look at the master: it read this host's
