@@ -1,5 +1,6 @@
 //! Examples of the tree and of sends, and a count of rounds that only the tree can finish in time.
-ghost use Rattle.std.specs.Prelude.{◌≡◌, ◌^◌, ◌≤◌, ◌<◌, length};
+ghost use Rattle.std.specs.Prelude.{◌≡◌, ◌^◌, ◌≤◌, ◌<◌, length, IfOk};
+ghost use Rattle.tsp_base.specs.Words.{IsAscending};
 ghost use Rattle.tsp_sends.specs.Slots.{peers_of};
 
 use std::alloc::{AllocError, Global};
@@ -8,6 +9,18 @@ use tsp_base::message::{Body, Message};
 use tsp_base::name::Name;
 use tsp_base::place::PeerId;
 use tsp_sends::{Due, Sends, Tree};
+
+/// The peers below a number.
+fn peers_below(alloc: Global, count: u32) -> Result<Vec<PeerId>, AllocError>
+    ensures count { IfOk result (λ v. length v.items ≡ count) }
+    ensures ascending { IfOk result (λ v. IsAscending v.items) }
+{
+    let mut peers = Vec::new(alloc);
+    for number in 0..count {
+        peers.push(PeerId(number))?;
+    }
+    Ok(peers)
+}
 
 /// Begins a CONFLICT with this number to the peer at a place.
 fn begin(sends: &mut Sends, peers: &[PeerId], place: usize, number: u16, tick: u64)
@@ -114,4 +127,17 @@ fn sends_are_repeated_and_given_up(rt: HostRuntime) -> Result<(), AllocError> {
     sends.clear();
     assert_eq!(rt; steps, [true, true, true]);
     Ok(())
+}
+
+#[test]
+fn many_peers_cost_little(rt: HostRuntime) {
+    let peers = peers_below(rt.alloc(), 200_000).expect(&rt, "memory");
+    let mut sends = Sends::new(rt.alloc(), &peers).expect(&rt, "memory");
+    for place in 0..199_999 {
+        begin(&mut sends, &peers, place, 1, 500_000);
+    }
+    for _round in 0..4_000_000 {
+        begin(&mut sends, &peers, 199_999, 2, 0);
+        assert_eq!(rt; repeat_of(sends.due(None, 1_000_000)), Some((199_999, 2)));
+    }
 }
