@@ -1,9 +1,9 @@
--- Addresses as words.
+-- Addresses as arguments.
 use Rattle.std.specs.Prelude.{◌≡◌, ℕ, ◌^◌, ◌<◌, ◌≤◌, List, ◌∷◌, ◌++◌, length, All, decimal}
 use Rattle.std.specs.Net.Text.{ipv4_text}
 use Rattle.tsp_io.specs.declared.addr.Addr.{Addr}
 
--- the word of an address: its four octets in decimal with dots between, a colon, and the port
+-- an address as an argument: its four octets in decimal with dots between, a colon, and the port
 abbrev pub addr_text : Addr → List ℕ
 addr_text a = ipv4_text a.ip ++ 58 ∷ decimal a.port
 

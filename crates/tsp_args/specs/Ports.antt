@@ -1,19 +1,19 @@
--- The peers of a daemon's ports as words.
+-- The peers of a daemon's ports as arguments.
 use Rattle.std.specs.Prelude.{◌≡◌, ◌≢◌, ℕ, ◌≤◌, List, [], ◌∷◌, ◌++◌, length, map, All, Contains, flat_map, codes}
 use Rattle.tsp_io.specs.declared.addr.Addr.{Addr}
 use Rattle.tsp_args.specs.Addrs.{addr_text, IsAddr}
 
--- ports as words: for each a plus, and then the addresses of its peers
+-- ports as arguments: for each a plus, and then the addresses of its peers
 abbrev pub led_words : List (List Addr) → List (List ℕ)
 led_words [] = []
 led_words (peers ∷ ports) = codes "+" ∷ (map addr_text peers ++ led_words ports)
 
--- ports as words, with a plus before each but the first
+-- ports as arguments, with a plus before each but the first
 abbrev pub peer_words : List (List Addr) → List (List ℕ)
 peer_words [] = []
 peer_words (peers ∷ ports) = map addr_text peers ++ led_words ports
 
--- a plus or the word of an address
+-- a plus or an address
 abbrev pub IsPeerWord : List ℕ → Type 0
 IsPeerWord word = (word ≢ codes "+") → (a : Addr) × IsAddr a × (word ≡ addr_text a)
 

@@ -1,11 +1,11 @@
--- The questions to a daemon and their words.
+-- The questions to a daemon and their arguments.
 use Rattle.std.specs.Prelude.{ℕ, List, [], ◌∷◌, true, false, codes, negsuc, ◌≤ℤ◌, Bool}
 use Rattle.std.specs.Fmt.{signed_decimal}
 use Rattle.tsp_base.specs.Words.{IsMicros}
 use Rattle.tsp_args.specs.declared.query.Query.{Query}
 use Rattle.tsp_args.specs.declared.query.Query.TheVariants.{Msite, ClockDiff, Trace, Election, Date}
 
--- the word of a command that asks
+-- the first argument of a command that asks
 abbrev pub query_word : Query → List ℕ
 query_word Msite = codes "msite"
 query_word ClockDiff = codes "clockdiff"
@@ -18,7 +18,7 @@ abbrev pub switch_word : Bool → List ℕ
 switch_word true = codes "on"
 switch_word false = codes "off"
 
--- the words after the address
+-- the arguments after the address
 abbrev pub query_rest : Query → List (List ℕ)
 query_rest (Trace on) = switch_word on ∷ []
 query_rest (Date time) = signed_decimal time ∷ []

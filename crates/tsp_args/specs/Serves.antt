@@ -1,11 +1,11 @@
--- The words of `serve`.
+-- The arguments of `serve`.
 use Rattle.std.specs.Prelude.{ℕ, ◌≤◌, List, ◌∷◌, decimal, codes}
 use Rattle.tsp_script.specs.Schedules.{IsHost}
 use Rattle.tsp_args.specs.{Addrs.addr_text, Addrs.IsAddr, Ports.peer_words, Ports.ArePorts, declared.serve.Candidacy.Candidacy}
 use Rattle.tsp_args.specs.declared.serve.Candidacy.TheVariants.{Never, Plain, Strict}
 use Rattle.tsp_args.specs.declared.serve.ServeWords.{ServeWords}
 
--- the word that says whether a node may be master, and how
+-- the argument that says whether a node may be master, and how
 abbrev pub candidacy_word : Candidacy → List ℕ
 candidacy_word Never = codes "s"
 candidacy_word Plain = codes "m"

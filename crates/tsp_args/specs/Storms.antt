@@ -1,4 +1,4 @@
--- The words of `storm`.
+-- The arguments of `storm`.
 use Rattle.std.specs.Prelude.{ℕ, ◌^◌, ◌<◌, ◌≤◌, List, [], ◌∷◌, decimal}
 use Rattle.tsp_args.specs.declared.storm.StormWords.{StormWords}
 

@@ -1,4 +1,4 @@
-//! Addresses as words.
+//! Addresses as arguments.
 ghost use Rattle.std.specs.Prelude.{◌≡◌, ◌+◌, ◌^◌, ◌<◌, ◌≤◌, ℕ, ◌∷◌, ◌++◌, length, take, Contains};
 ghost use Rattle.std.specs.Prelude.{decimal, IfSome, MatchOption, Some, slice_index_or};
 ghost use Rattle.tsp_io.specs.declared.addr.Addr.{Addr};
@@ -25,7 +25,7 @@ fn at_colon(word: &[u8]) -> Option<(&[u8], &[u8])>
     Some((word.split_at(colon).0, word.split_at(colon + 1).1))
 }
 
-/// The port of a word; None where it isn't a number from 1 to 65535.
+/// The port of an argument; None where it isn't a number from 1 to 65535.
 fn port_of(word: &[u8]) -> Option<u16>
     ensures found { IfSome result (λ n. (1 ≤ n) × (word.now ≡ decimal n)) }
     ensures reads { (n : ℕ) → 1 ≤ n → n < 2 ^ 16 → word.now ≡ decimal n → result ≡ Some n }
@@ -37,7 +37,7 @@ fn port_of(word: &[u8]) -> Option<u16>
     u16::try_from(number).ok()
 }
 
-/// The address of a word such as `127.0.0.1:525`; None exactly where it isn't one, for instance with a
+/// The address of an argument such as `127.0.0.1:525`; None exactly where it isn't one, for instance with a
 /// leading zero, an octet above 255, or a port that isn't from 1 to 65535.
 pub fn addr_of(word: &[u8]) -> Option<Addr>
     ensures found { IfSome result (λ a. IsAddr a × (word.now ≡ addr_text a)) }

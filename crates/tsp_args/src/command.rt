@@ -31,7 +31,7 @@ pub enum Command {
     Audit,
 }
 
-/// The command of a word that nothing follows.
+/// The command of an argument that nothing follows.
 fn lone_command(word: &str) -> Option<Command>
     ensures found { IfSome result (λ c. IsCommand c × (word.now ∷ [] ≡ words_of c)) }
     ensures reads { (c : Command) → word.now ∷ [] ≡ words_of c → result ≡ Some c }
@@ -46,7 +46,7 @@ fn lone_command(word: &str) -> Option<Command>
     }
 }
 
-/// The command of a word and what follows it, where the word is neither `serve` nor `storm`.
+/// The command of an argument and what follows it, where it is neither `serve` nor `storm`.
 fn other_command(word: &str, rest: &[String]) -> Option<Command>
     requires serve { word.now ≢ codes "serve" }
     requires storm { word.now ≢ codes "storm" }
@@ -65,7 +65,7 @@ fn other_command(word: &str, rest: &[String]) -> Option<Command>
     }
 }
 
-/// The command of the words after the program's name; None exactly where they aren't a command.
+/// The command of the arguments after the program's name; None exactly where they aren't a command.
 ///
 /// Fails only if out of memory.
 pub fn command_of(alloc: Global, words: &[String]) -> Result<Option<Command>, AllocError>

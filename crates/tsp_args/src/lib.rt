@@ -1,6 +1,6 @@
-//! The words of the command line as commands. Each command is written in one way.
+//! The arguments of the command line as commands. Each command is written in one way.
 //!
-//! [`command::command_of`] reads the words after the program's name. Whoever calls it matches the
+//! [`command::command_of`] reads the arguments after the program's name. Whoever calls it matches the
 //! command, which has all its parts as values within their ranges: addresses, names and counts.
 //!
 //! ```
@@ -14,12 +14,12 @@
 //!
 //! In parentheses are the contracts, clauses and definitions that say it.
 //!
-//! - Words are read exactly where they are a command's, as the one command whose words they are (`reads`,
-//!   `one` of `command_of`).
+//! - Arguments are read exactly where they are a command's, as the one command whose arguments they are
+//!   (`reads`, `one` of `command_of`).
 //!
 //! # What is only tested
 //!
-//! - Words of each command, and words of none.
+//! - Arguments of each command, and arguments of none.
 #![tactic(auto)]
 
 pub mod addrs;

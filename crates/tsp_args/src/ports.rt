@@ -1,4 +1,4 @@
-//! The peers of a daemon's ports as words.
+//! The peers of a daemon's ports as arguments.
 ghost use Rattle.std.specs.Prelude.{◌≡◌, ◌<◌, ◌≤◌, ℕ, List, [], ◌∷◌, ◌++◌, length, map, All};
 ghost use Rattle.std.specs.Prelude.{Contains, IfOk, IfSome, Ok, Some, MatchResult, MatchBool};
 ghost use Rattle.std.specs.Prelude.{slice_get, string_bytes, codes};
@@ -62,8 +62,8 @@ impl Ports {
         Ok(())
     }
 
-    /// Takes a word: a plus begins the next port, an address is one more peer of the last one. The answer is
-    /// false where it is neither.
+    /// Takes an argument: a plus begins the next port, an address is one more peer of the last one. The
+    /// answer is false where it is neither.
     fn take(&mut self, alloc: Global, word: &str) -> Result<bool, AllocError>
         ensures words { IfOk result
             (λ took. MatchBool took (peer_words self.new ≡ peer_words self.old ++ word.now ∷ [])
@@ -112,7 +112,7 @@ impl Ports {
     }
 }
 
-/// The ports of these words, however many there are and whoever their peers are.
+/// The ports of these arguments, however many there are and whoever their peers are.
 fn read(alloc: Global, words: &[String]) -> Result<Option<Ports>, AllocError>
     ensures found { IfOk result (λ r. IfSome r (λ ports. ArePeers ports
         × (map string_bytes words.now ≡ peer_words ports))) }
@@ -155,7 +155,7 @@ fn serve_one(local: Addr, count: usize, peers: &[Addr]) -> bool
     all_differ(peers)
 }
 
-/// The ports of a daemon with this address; None exactly where the words aren't the ports of one.
+/// The ports of a daemon with this address; None exactly where the arguments aren't the ports of one.
 pub(crate) fn ports_of(
     alloc: Global,
     local: Addr,

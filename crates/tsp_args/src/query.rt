@@ -24,7 +24,7 @@ pub enum Query {
     Date(Micros),
 }
 
-/// Whether the word is `on`; None where it is neither `on` nor `off`.
+/// Whether the argument is `on`; None where it is neither `on` nor `off`.
 fn switch_of(word: &str) -> Option<bool>
     ensures found { IfSome result (λ on. word.now ≡ switch_word on) }
     ensures reads { (on : Bool) → word.now ≡ switch_word on → result ≡ Some on }
@@ -36,7 +36,7 @@ fn switch_of(word: &str) -> Option<bool>
     }
 }
 
-/// The date of a word, in microseconds; None where it is out of its range or no number.
+/// The date of an argument, in microseconds; None where it is out of its range or no number.
 fn date_of(word: &str) -> Option<Micros>
     ensures found { IfSome result (λ t. IsQuery (Query.Date t) × (word.now ≡ signed_decimal t)) }
     ensures reads { (t : ℤ) → IsQuery (Query.Date t) → word.now ≡ signed_decimal t
@@ -49,7 +49,7 @@ fn date_of(word: &str) -> Option<Micros>
     Some(time)
 }
 
-/// The question of a word after which comes the address and nothing else.
+/// The question of an argument after which comes the address and nothing else.
 fn plain_query(word: &str) -> Option<Query>
     ensures found { IfSome result (λ q. IsQuery q × (word.now ≡ query_word q)
         × (query_rest q ≡ [])) }
@@ -63,7 +63,7 @@ fn plain_query(word: &str) -> Option<Query>
     }
 }
 
-/// The question of a word after which come the address and one value.
+/// The question of an argument after which come the address and one value.
 fn query_with(word: &str, value: &str) -> Option<Query>
     ensures found { IfSome result (λ q. IsQuery q × (word.now ≡ query_word q)
         × (query_rest q ≡ value.now ∷ [])) }
@@ -77,7 +77,7 @@ fn query_with(word: &str, value: &str) -> Option<Query>
     }
 }
 
-/// The question of this word and of what follows the address; None exactly where there is none.
+/// The question of this argument and of what follows the address; None exactly where there is none.
 pub(crate) fn query_of(word: &str, rest: &[String]) -> Option<Query>
     ensures found { IfSome result (λ q. IsQuery q × (word.now ≡ query_word q)
         × (map string_bytes rest.now ≡ query_rest q)) }

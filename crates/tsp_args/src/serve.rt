@@ -1,4 +1,4 @@
-//! The words of `serve`.
+//! The arguments of `serve`.
 ghost use Rattle.std.specs.Prelude.{◌≡◌, ◌≤◌, ℕ, IfOk, IfSome, Some, map, string_bytes, decimal};
 ghost use Rattle.tsp_args.specs.Serves.{candidacy_word, serve_words, IsServe};
 ghost use Rattle.tsp_args.specs.declared.serve.Candidacy.{Candidacy};
@@ -38,7 +38,7 @@ pub struct ServeWords {
     pub ports: Ports,
 }
 
-/// What the word says of whether a node may be master.
+/// What the argument says of whether a node may be master.
 fn candidacy_of(word: &str) -> Option<Candidacy>
     ensures found { IfSome result (λ c. word.now ≡ candidacy_word c) }
     ensures reads { (c : Candidacy) → word.now ≡ candidacy_word c → result ≡ Some c }
@@ -63,7 +63,7 @@ fn turns_of(word: &str) -> Option<u64>
     Some(number)
 }
 
-/// What the words after `serve` say; None exactly where they aren't allowed there.
+/// What the arguments after `serve` say; None exactly where they aren't allowed there.
 pub(crate) fn serve_of(alloc: Global, words: &[String]) -> Result<Option<ServeWords>, AllocError>
     ensures found { IfOk result (λ r. IfSome r (λ s. IsServe s
         × (map string_bytes words.now ≡ serve_words s))) }

@@ -1,4 +1,4 @@
-//! The words of `storm`.
+//! The arguments of `storm`.
 ghost use Rattle.std.specs.Prelude.{◌≡◌, ◌^◌, ◌<◌, ◌≤◌, ℕ, IfSome, Some, map, string_bytes, decimal};
 ghost use Rattle.tsp_args.specs.Storms.{storm_words, IsStorm};
 ghost use Rattle.tsp_args.specs.declared.storm.StormWords.{StormWords};
@@ -28,7 +28,7 @@ fn count_of(word: &str, most: u32) -> Option<u32>
     u32::try_from(number).ok()
 }
 
-/// The numbers of seed, nodes and events; None exactly where the words aren't three such numbers.
+/// The numbers of seed, nodes and events; None exactly where the arguments aren't three such numbers.
 pub(crate) fn storm_of(words: &[String]) -> Option<StormWords>
     ensures found { IfSome result (λ s. IsStorm s × (map string_bytes words.now ≡ storm_words s)) }
     ensures reads { (s : StormWords) → IsStorm s → map string_bytes words.now ≡ storm_words s

@@ -77,7 +77,7 @@ pub record RunsStorm (s : StormWords) (written now : Option (List ℕ)) (writes 
   -- what was written: the summary of the run, or the number of the event for which there was no room, or the beginning
   -- of one
   pub storms : StormsAs s written now end
-  -- the end and the text are the answer to the words, unless a write failed or memory ran out
+  -- the end and the text are the answer to the arguments, unless a write failed or memory ran out
   pub answers : (e : StormEnd) (text : List ℕ) → IsStormAnswer s e text → AgreesWithAnswer e text written now end
   -- if there is room for each event and no write failed: the status is Ok, or OutOfMemory
   pub complete : HasEventRoom s → ¬ Rose writes writes_now → (status ≡ Ok) ⊎ (status ≡ OutOfMemory)
@@ -132,7 +132,7 @@ abbrev pub IsAsk : Command → Type 0
 IsAsk (Ask a q) = Unit {0}
 IsAsk _ = ⊥
 
--- the words are those of a question to a daemon
+-- the arguments are those of a question to a daemon
 abbrev pub IsQuestion : List (List ℕ) → Type 0
 IsQuestion words = (c : Command) × IsAsk c × IsCommand c × (words ≡ words_of c)
 

@@ -12,7 +12,7 @@ pub record IsRate (parts : ℤ) : Type 0 where
 abbrev pub IsRateOf : ℤ → Rate → Type 0
 IsRateOf parts rate = pos rate.speed ≡ pos 1000000000 +ℤ parts
 
--- the word that names a counter
+-- the text that names a counter
 abbrev pub counter_word : Counter → List ℕ
 counter_word Raw = codes "raw"
 counter_word Monotonic = codes "monotonic"

@@ -45,7 +45,7 @@ at which it is to count from then on; it must be there. If it is left out, nothi
 /// What `--version` prints.
 pub const VERSION: &[u8] = b"tsp 0.1.4\n";
 
-/// The text that the words ask for, if they are `--help` or `--version` and nothing else.
+/// The text that the arguments ask for, if they are `--help` or `--version` and nothing else.
 pub fn asked(words: &[String]) -> Option<&'static [u8]>
     ensures asked { IfSome result (λ text. (IsAlone words.now (codes "--help")
         × (text.now ≡ HELP.now)) ⊎ (IsAlone words.now (codes "--version")

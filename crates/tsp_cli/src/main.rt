@@ -27,8 +27,8 @@
 //!
 //! # What is neither proved nor tested
 //!
-//! - `main`, the words and the environment that the system hands it, the file that TSP_PAGE names, and which
-//!   standard streams are open.
+//! - `main`, the arguments and the environment that the system hands it, the file that TSP_PAGE names, and
+//!   which standard streams are open.
 #![tactic(auto)]
 
 mod help;
@@ -61,7 +61,7 @@ use tsp_io::rate::Rate;
 use tsp_io::udp::UdpLink;
 use tsp_io::unslewed::Unslewed;
 
-/// The words after the program's name; no words if one of them isn't UTF-8. Fails only if out of
+/// The arguments after the program's name; none if one of them isn't UTF-8. Fails only if out of
 /// memory.
 fn words_of(rt: &(impl Env + AllocGlobal)) -> Result<Vec<String>, AllocError> {
     let alloc = rt.alloc();
@@ -137,7 +137,7 @@ fn board_of(rt: HostRuntime) -> Result<Option<FileBoard<File>>, AllocError> {
     }
 }
 
-/// The clocks of the command that the words ask for: a daemon's are what TSP_COUNTER, TSP_RATE and
+/// The clocks of the command that the arguments ask for: a daemon's are what TSP_COUNTER, TSP_RATE and
 /// TSP_PAGE say, any other's count by the raw counter at its own rate, and have no board.
 fn clocks_for(rt: HostRuntime, words: &[String]) -> Result<Clocks, Unusable> {
     if !is_serve(words) {
@@ -159,7 +159,7 @@ fn clocks_for(rt: HostRuntime, words: &[String]) -> Result<Clocks, Unusable> {
     }
 }
 
-/// Whether the words ask for a daemon.
+/// Whether the arguments ask for a daemon.
 fn is_serve(words: &[String]) -> bool {
     match words {
         [first, ..] => first.as_str() == "serve",
@@ -167,7 +167,7 @@ fn is_serve(words: &[String]) -> bool {
     }
 }
 
-/// Does what the words ask for, with the machine's own streams and network, and these clocks.
+/// Does what the arguments ask for, with the machine's own streams and network, and these clocks.
 fn answer_by(rt: HostRuntime, words: &[String], clocks: Clocks) -> Status {
     let Clocks {
         counter: wanted,
@@ -197,7 +197,7 @@ fn answer_by(rt: HostRuntime, words: &[String], clocks: Clocks) -> Status {
     status
 }
 
-/// Does what the words ask for, where all standard streams are open.
+/// Does what the arguments ask for, where all standard streams are open.
 fn answer(rt: HostRuntime, words: &[String]) -> Status {
     let text: &[u8] = match clocks_for(rt, words) {
         Ok(clocks) => return answer_by(rt, words, clocks),
@@ -241,7 +241,7 @@ fn warn_of(rt: &impl Log, status: Status) {
     }
 }
 
-/// Answers the words, and logs the status if it isn't 0.
+/// Answers the arguments, and logs the status if it isn't 0.
 fn answer_and_warn(rt: HostRuntime, words: &[String]) -> Status {
     if let Some(text) = help::asked(words) {
         let status = say(&mut Writing::new(io::writer(&rt)), text, Status::Ok);

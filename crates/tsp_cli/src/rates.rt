@@ -12,8 +12,8 @@ use tsp_io::counter::Counter;
 use tsp_io::rate::Rate;
 use tsp_script::numbers::signed_of;
 
-/// The rate that a word names: how many parts in 10^9 it is above the machine's, as a whole number
-/// from -1,000,000 to 1,000,000. None exactly where the word is no such number.
+/// The rate that a text names: how many parts in 10^9 it is above the machine's, as a whole number
+/// from -1,000,000 to 1,000,000. None exactly where the text is no such number.
 fn rate_in(word: &[u8]) -> Option<Rate>
     ensures found { IfSome result (λ rate. (parts : ℤ) × IsRate parts
         × (word.now ≡ signed_decimal parts) × IsRateOf parts rate) }
@@ -34,7 +34,7 @@ pub fn rate_of(rt: &(impl Env + AllocGlobal)) -> Result<Option<Rate>, AllocError
     }
 }
 
-/// The counter that a word names: `raw` or `monotonic`. None exactly where it is another word.
+/// The counter that a text names: `raw` or `monotonic`. None exactly where it is another text.
 fn counter_in(word: &[u8]) -> Option<Counter>
     ensures found { IfSome result (λ counter. word.now ≡ counter_word counter) }
     ensures reads { (counter : Counter) → word.now ≡ counter_word counter

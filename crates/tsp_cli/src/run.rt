@@ -1,4 +1,4 @@
-//! The top call, which does what the program's words ask for.
+//! The top call, which does what the program's arguments ask for.
 ghost use Rattle.std.specs.Prelude.{◌≡◌, ◌≢◌, ◌≤◌, ◌⊎◌, [], ◌∷◌, true, false, map, codes, string_bytes};
 ghost use Rattle.tsp_io.specs.Counts.{Rose};
 ghost use Rattle.tsp_args.specs.Commands.{IsCommand, IsNoCommand, words_of};
@@ -50,13 +50,13 @@ pub fn say<K: Sink>(sink: &mut K, text: &[u8], status: Status) -> Status
     }
 }
 
-/// Does what the words after the program's name ask for.
+/// Does what the arguments after the program's name ask for.
 ///
 /// `replay`, `show`, `pack`, `icmp` and `audit`, each alone, read the source to its end and write
 /// to the sink; they don't touch link and ticker. `serve` runs a daemon over link and ticker, and
 /// the questions `msite`, `clockdiff`, `trace`, `election` and `date` ask one; these don't touch
 /// the source. `storm` makes a schedule from a number, runs it and writes a summary; it touches
-/// only the sink. At any other words the line `usage` is written, the status is `Usage`, and only
+/// only the sink. At any other arguments the line `usage` is written, the status is `Usage`, and only
 /// the sink is touched.
 ///
 /// Of each command it is said what was read, sent and written with each status

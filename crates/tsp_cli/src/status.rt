@@ -13,7 +13,7 @@ pub enum Status {
     /// All went well: the input was read to its end, the daemon took its turns, or the question was
     /// answered.
     Ok,
-    /// The words are no command.
+    /// The arguments are no command.
     Usage,
     /// A line or an event of the input was refused, or a daemon's wall clock is out of its range.
     Bad,

@@ -13,7 +13,7 @@ use tsp_io::memory_link::MemoryLink;
 use tsp_io::memory_ticker::MemoryTicker;
 use tsp_io::source::Source;
 
-/// The words, an input, the reads and writes that fail, and what comes of it.
+/// The arguments, an input, the reads and writes that fail, and what comes of it.
 #[derive(Clone, Copy)]
 struct Row {
     words: &'static [&'static str],
@@ -24,7 +24,7 @@ struct Row {
     written: &'static str,
 }
 
-/// The words as the program gets them.
+/// The arguments as the program gets them.
 fn words_of(alloc: Global, texts: &[&str]) -> Result<Vec<String>, AllocError> {
     let mut words = Vec::new(alloc);
     for text in texts {
@@ -33,7 +33,7 @@ fn words_of(alloc: Global, texts: &[&str]) -> Result<Vec<String>, AllocError> {
     Ok(words)
 }
 
-/// How a run with these words ends.
+/// How a run with these arguments ends.
 fn run_words<S: Source>(
     alloc: Global,
     texts: &[&str],

@@ -7,7 +7,7 @@ use Rattle.tsp_rules.specs.{NodeRows.no_port, Values.Port}
 use Rattle.tsp_daemon.specs.Nodes.{is_strict, setups_from}
 
 -- a setting of a daemon that booted at this tick with this wall clock: true time is counted in its own ticks, it is
--- node 0, and each of its ports is on a network of its own, with the peers that its words name
+-- node 0, and each of its ports is on a network of its own, with the peers that its arguments name
 pub record SetByWords (s : ServeWords) (tick : ℕ) (wall : ℤ) (setting : Setting) : Type 0 where
   pub drift_is : setting.drift ≡ 0
   pub tick_is : (t : ℕ) → setting.tick 0 t ≡ t

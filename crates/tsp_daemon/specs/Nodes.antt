@@ -1,4 +1,4 @@
--- The daemon's node, as its words set it up.
+-- The daemon's node, as its arguments set it up.
 use Rattle.std.specs.Prelude.{ℕ, ◌+◌, ℤ, Bool, true, false, List, [], ◌∷◌, length, map}
 use Rattle.std.specs.List.{range_with_len}
 use Rattle.tsp_base.specs.Words.{Booted}
@@ -22,7 +22,7 @@ port_peers done count = numbered_peer 0 ∷ map (λ number. numbered_peer number
 abbrev pub numbered_setup : ℕ → ℕ → PortSetup
 numbered_setup done count = record { own = numbered_peer 0; peers = port_peers done count }
 
--- how ports are set up: their peers are numbered over all ports, in the order of the words, after so many before them
+-- how ports are set up: their peers are numbered over all ports, in the order of the arguments, after so many before them
 abbrev pub setups_from : ℕ → List (List Addr) → List PortSetup
 setups_from done [] = []
 setups_from done (peers ∷ ports) = numbered_setup done (length peers) ∷ setups_from (done + length peers) ports

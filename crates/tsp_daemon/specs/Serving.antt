@@ -1,4 +1,4 @@
--- What comes of a daemon that the words after `serve` ask for.
+-- What comes of a daemon that the arguments after `serve` ask for.
 use Rattle.std.specs.Prelude.{◌≡◌, ◌⊎◌, ℕ, ℤ, true, false, List, ◌∷◌, Option, Some, codes}
 use Rattle.tsp_daemon.specs.declared.end.ServeEnd.TheVariants.{Done as AllTurns, LinkFault as Faulty, WriteFault as Unwritten, OutOfMemory as Refused}
 use Rattle.tsp_io.specs.Links.{Binding, NotesReceive}
@@ -33,7 +33,7 @@ first_session s o wall word written = record {
   written = written;
 }
 
--- what a daemon binds its link to: its own address, which is also that of peer 0, and then the peers of its words, in
+-- what a daemon binds its link to: its own address, which is also that of peer 0, and then the peers of its arguments, in
 -- their order
 abbrev pub serving_binding : ServeWords → Binding
 serving_binding s = record { local = s.local; peers = s.local ∷ all_peers s.ports }

@@ -67,7 +67,7 @@ fn serve_bound<K: Sink, L: Link, T: Ticker>(
     }
 }
 
-/// Runs the daemon that the words after `serve` ask for.
+/// Runs the daemon that the arguments after `serve` ask for.
 ///
 /// The link is bound with the daemon's own address as peer 0, and then its peers in their order.
 /// The ticker's tick, wall clock and word are read once each, in this order, and the node boots

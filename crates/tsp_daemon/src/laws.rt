@@ -17,7 +17,7 @@ ghost use Rattle.tsp_promises.specs.Setting.{Setting};
 ghost use Rattle.tsp_rules.specs.NodeRows.{NodePast};
 ghost use Rattle.tsp_rules.specs.Values.{Placed};
 
-/// Whatever a daemon's words are, and its tick and wall clock at its boot: there is a setting for
+/// Whatever a daemon's arguments are, and its tick and wall clock at its boot: there is a setting for
 /// its history, so what is proved for each setting says something.
 pub fn each_daemon_is_set()
     ensures { (s : ServeWords) (tick : ℕ) (wall : ℤ) → (setting : Setting)

@@ -1,7 +1,7 @@
 //! The daemon: one node of the time service, on one network or several, over a link. It is what
 //! timed is in 4.3BSD, but sets no clock of the machine: its corrected clock is its own.
 //!
-//! [`command::serve_words`] does what the words after `serve` ask for (`docs/OPERATOR.md`): it
+//! [`command::serve_words`] does what the arguments after `serve` ask for (`docs/OPERATOR.md`): it
 //! binds the link, reads the clocks, boots the node, and hands it to [`serve::serve`], which takes
 //! turns. A *turn* waits for a datagram, for 1 ms to 1 s at most, lets the node do one step with what
 //! came, tries the sends that it asks for, and, if the trace is on, writes the lines of the step's
@@ -44,10 +44,10 @@
 //! - What its node does in these turns keeps all that is promised without premises (`kept`, by
 //!   `HistoryKept`), and there is a setting (networks, rates, wall clocks) of which this speaks
 //!   (`each_daemon_is_set`).
-//! - A daemon as a command binds its own address and its words' peers, in their order, reads the wall clock
-//!   right after its first tick, and is the session of a node that boots at the first reading, with a port
-//!   for each of its networks, on which its own address is peer 0 and its words' peers come after it, unless
-//!   its bind fails or its wall clock is out of its range (`serves` of `serve_words`, by `ServesAs`).
+//! - A daemon as a command binds its own address and its arguments' peers, in their order, reads the wall
+//!   clock right after its first tick, and is the session of a node that boots at the first reading, with a
+//!   port for each of its networks, on which its own address is peer 0 and its arguments' peers come after it,
+//!   unless its bind fails or its wall clock is out of its range (`serves` of `serve_words`, by `ServesAs`).
 //! - `bad wall` comes only if the wall clock is out of its range (`wall`), and each fault has its cause
 //!   (`link`, `write`).
 //!

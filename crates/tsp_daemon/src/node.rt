@@ -1,4 +1,4 @@
-//! The daemon's node, as its words set it up.
+//! The daemon's node, as its arguments set it up.
 ghost use Rattle.std.specs.Prelude.{◌≡◌, ◌≤◌, ◌+◌, ◌*◌, [], ◌∷◌, ◌++◌, length, IfOk, IfErr, OnOk, true, false};
 ghost use Rattle.tsp_base.specs.Frames.{IsTick};
 ghost use Rattle.tsp_gateway.specs.GatewayStands.{GatewayStands, clock_at};

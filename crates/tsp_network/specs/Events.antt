@@ -9,7 +9,7 @@ use Rattle.tsp_run.specs.{Clocked.IsSetUp, Networks.networks, Run.event_at, Run.
 use Rattle.tsp_network.specs.{Lives.Daemons, Lives.IsStarted, Lives.Life, Rosters.destination, Rosters.neighbours, Rosters.neighbours_on}
 use Rattle.tsp_network.specs.Networks.{Network, Sent, network, daemon_tick, next_life, node_wall}
 
--- a daemon runs on node n, and its words leave it a turn
+-- a daemon runs on node n, and its arguments leave it a turn
 abbrev pub IsRunning : Daemons → ℕ → Option Life → Type 0
 IsRunning d n None = ⊥
 IsRunning d n (Some life) = length life.arrivals < (d.words n).turns
@@ -31,7 +31,7 @@ MayCome nets n q (Peer m) = ((m.0 ≡ n) × (q.0 ≡ 0)) ⊎ (has_member m.0 (ne
 MayCome nets n q Stranger = q.0 ≡ 0
 
 -- event k can happen: a daemon starts after its counter does, and its wall clock is then in the range that a daemon takes; the daemon of any
--- other event runs, and has taken fewer turns than its words say; a copy is that of a send that was tried; and of other octets there are at
+-- other event runs, and has taken fewer turns than its arguments say; a copy is that of a send that was tried; and of other octets there are at
 -- most 512, which is all that a daemon reads of a datagram
 abbrev pub CanHappen : Daemons → ℕ → Network → Event → Type 0
 CanHappen d k w (BootAt at node word) =

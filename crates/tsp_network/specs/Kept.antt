@@ -74,7 +74,7 @@ NumbersAreAddresses =
     has_member m (neighbours_on n q.0 (networks d.header)) ≡ true → m ≢ n →
     slice_get (serving_binding (d.words n)).peers (number_for n q.0 m (networks d.header)) ≡ Some (d.address k m)
 
--- the daemon that runs on node n, if one does, has taken fewer turns than its words say
+-- the daemon that runs on node n, if one does, has taken fewer turns than its arguments say
 abbrev pub HasTurn : Daemons → Network → ℕ → Type 0
 HasTurn d w n = (life : Life) → w.lives n ≡ Some life → length life.arrivals < (d.words n).turns
 

@@ -15,7 +15,7 @@ pub record Daemons : Type 0 where
   pub header : HeaderValue
   -- each node's counter at each true time, and its wall clock in each of its lives
   pub clocks : Clocks
-  -- the words with which each node's daemon is started
+  -- the arguments with which each node's daemon is started
   pub words : ℕ → ServeWords
   -- the address by which node m is reached on network k
   pub address : ℕ → ℕ → Addr
@@ -31,7 +31,7 @@ abbrev pub addresses : (ℕ → ℕ → Addr) → ℕ → ℕ → List (List ℕ
 addresses at n k [] = []
 addresses at n k (net ∷ rest) = if has_member n net then map (at k) (others_in n net) ∷ addresses at n (k + 1) rest else addresses at n (k + 1) rest
 
--- node n's daemon is started with words that `serve` takes, and with its node's name and networks; its peers stand in the order of the nodes;
+-- node n's daemon is started with arguments that `serve` takes, and with its node's name and networks; its peers stand in the order of the nodes;
 -- and if it may be master, it is elected as the header says
 pub record IsStarted (d : Daemons) (n : ℕ) : Type 0 where
   pub serves : IsServe (d.words n)
@@ -45,7 +45,7 @@ abbrev pub AreStarted : Daemons → Type 0
 AreStarted d = (n : ℕ) → n < length d.header.nodes → IsStarted d n
 
 -- the life of a daemon: its node's tick when its counter was at 0, how many datagrams the network had sent when it began, its wall clock and
--- its word then, and all that it was told since, the oldest first: what came in each turn, and each tick that it read
+-- its boot word then, and all that it was told since, the oldest first: what came in each turn, and each tick that it read
 pub record Life : Type 0 where
   pub origin : ℕ
   pub sent_before : ℕ

@@ -34,7 +34,7 @@ two_nodes = record {
 abbrev pub network_address : ℕ → ℕ → Addr
 network_address k m = record { ip = 10 ∷ 0 ∷ k ∷ m ∷ []; port = 525 }
 
--- the words that start a daemon of this name on these networks, as node n
+-- the arguments that start a daemon of this name on these networks, as node n
 abbrev pub words_for : List (List ℕ) → List ℕ → Candidacy → ℕ → ServeWords
 words_for nets name candidacy n = record {
   local = network_address 0 n;

@@ -7,7 +7,7 @@
 //! copy of a datagram that one of them tried to send, or takes other octets. These are the *events*
 //! of a run by clocks (`tsp_run`): each node's counter is any that stays within the header's drift,
 //! and its wall clock any in each life. There may be as many nodes as one likes, but each daemon is
-//! started with words that `serve` takes, so it has at most 999 peers. The *life* of a daemon is
+//! started with arguments that `serve` takes, so it has at most 999 peers. The *life* of a daemon is
 //! all that it has been told since its start: its session is that of its life. Its acts are read in
 //! the numbers of the nodes, and in the ticks of its node. A daemon may end at any time, also after
 //! some of a turn's sends: the others are then posts that never come.
@@ -18,7 +18,7 @@
 //! daemons know each other, and which runs are networks'). `Told` ties a life to the clause of
 //! `serve`, which speaks of an outside that is told to its end. `NetworkUse` and `ClocksUse` have
 //! examples. `docs/NETWORK.md` has the definitions of the theorem with those that they use, and
-//! `docs/PROMISES.md` says in plain words what is asked of clocks, words and datagrams, and what
+//! `docs/PROMISES.md` says in plain words what is asked of clocks, boot words and datagrams, and what
 //! isn't covered.
 //!
 //! # What is proved

@@ -1,4 +1,4 @@
-//! The commands that read lines, words that are no command's, and calls that fail.
+//! The commands that read lines, arguments that are no command's, and calls that fail.
 use crate::status::Status;
 use crate::tests::{Row, comes, writes};
 use std::alloc::AllocError;

@@ -30,7 +30,7 @@ const SHOWN: &str = "1 0 0 20 took - traceon 2 x\n1 0 0 20 trace on\n1 0 0 20 po
 /// An acknowledgment of number 2 in the name `a`.
 const ACK: &[u8] = &[2, 1, 0, 2, 0, 0, 0, 0, 0, 0, 0, 0, b'a', 0];
 
-/// The words of a daemon of one turn, and of one of two.
+/// The arguments of a daemon of one turn, and of one of two.
 const ONE: &[&str] = &["serve", "127.0.0.1:525", "a", "m", "1"];
 
 const TWO: &[&str] = &["serve", "127.0.0.1:525", "a", "m", "2"];
@@ -46,7 +46,7 @@ enum Wall {
     Late,
 }
 
-/// The words, the calls of the link and the writes that fail, the datagram that comes with its
+/// The arguments, the calls of the link and the writes that fail, the datagram that comes with its
 /// sender, and the wall clock. A run gives its status, its text, how many sends were tried, and how
 /// many readings are left.
 #[derive(Clone, Copy)]
