@@ -50,7 +50,7 @@ def prove(name, below, stamp):
     # `rt` proves a crate by several processors only if no other crate is ready, so the dearest of the lowest is proved by a call of its own
     first, *beside = sorted((each for each in below if not below[each]), key=lambda each: -seconds[each])
     progress = Progress(Forecast(seconds, below, len(os.sched_getaffinity(0)), first), len(below))
-    say(f'{SEEN}; `./tsp --try ARGUMENTS` runs in 1 to 4 minutes, unproved')
+    say(f'{SEEN}; `./tsp --try ARGUMENTS` runs in 1 to 7 minutes, unproved')
     say(f'proving and building {len(below)} crates, which is done once; what was proved on this machine already is kept')
     say(f'this machine, idle, should take about {int(progress.forecast.expected() // 60) + 1} min')
     runs = Runs(HERE)
