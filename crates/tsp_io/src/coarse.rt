@@ -1,4 +1,5 @@
 //! A clock that is read in a few nanoseconds, and is right to a tick of the kernel's.
+ghost use Rattle.std.specs.Prelude.{◌≡◌};
 
 use crate::unslewed::reading_of;
 use std::io;
@@ -21,7 +22,9 @@ pub struct Coarse<R> {
 
 impl<R> Coarse<R> {
     /// The clocks and the network of `rt`, with the coarse monotonic clock.
-    pub fn new(rt: R) -> Coarse<R> {
+    pub fn new(rt: R) -> Coarse<R>
+        ensures { result.rt ≡ rt }
+    {
         Coarse { rt }
     }
 }
