@@ -1,7 +1,7 @@
 -- Beside a master that leads on no candidate wins.
 use Rattle.std.proofs.Common.{sym, ap, subst, arith, true≢false, inl, inr, ◌∙◌, ◌≡◌, ◌≤◌, ◌<◌, ℕ, ◌+◌, ◌*◌, ◌==◌, if◌then◌else◌, Bool, true}
 use Rattle.std.proofs.Common.{false, List, [], ◌∷◌, refl}
-use Rattle.tsp_rules.specs.Values.{Act, Ack, Become, Candidate, Election, Follow, Good, Loose, Master, Message, Kind, PeerId, Peer, Post, Quit, QuitKind}
+use Rattle.tsp_rules.specs.Values.{Act, Ack, Become, Candidate, Election, Follow, Good, Loose, Master, Message, Kind, PeerId, Peer, Port, Post, Quit, QuitKind}
 use Rattle.tsp_rules.specs.Values.{Role, Starting, Took, RETRY, SLACK, TRIES, WINDOW}
 use Rattle.tsp_rules.specs.{Guards.is_starting_role, SendRows.has_quit, SendRows.is_kind_quit, SendRows.is_quit, SendRows.next_number}
 use Rattle.tsp_base.specs.Words.{Acts, Did, HeaderValue, Here, Line, MessageValue, Past, Seen, Within, is_among, is_shared, joined, line_of, of, open_to}
@@ -18,7 +18,7 @@ use Rattle.tsp_run.specs.{Clocked.Clocks, Clocked.SetByClocks, Clocked.clocks_of
 use Rattle.tsp_run.proofs.{OwnClocks.possible_own, OwnClocks.runs_by_own_clocks, OwnClocks.set_own, RunFits.clocked_runs_fit}
 use Rattle.tsp_progress.specs.AnswersInTime.{AnswerTaken, Asks}
 use Rattle.tsp_progress.specs.{ByTable.ByTable, ByTable.node_in, ByTable.port_before, Delivered.Arrives, Delivered.Delivered, Delivered.PostsTo}
-use Rattle.tsp_progress.specs.{FoundInTime.IsQuick, NoneBeside.ClockedRunsLeadOn, NoneBeside.LeadsBeside, NoneBeside.NoneBeside, NoneBeside.RunsLeadOn}
+use Rattle.tsp_progress.specs.{FoundInTime.IsQuick, NoneBeside.ClockedRunsLeadOn, NoneBeside.StaysUp, NoneBeside.NoneBeside, NoneBeside.RunsLeadOn}
 use Rattle.tsp_progress.specs.Heeds.{DoesNext, Hears, arms_for_delay, follow_acts, has_no_master, is_candidate_role, is_master_role, posts_bare, role_before}
 use Rattle.tsp_progress.specs.{OneStops.Spans, RefusedLoses.WinsAfter, SendsEnd.SendsEnd, Watched.Attended, WinsLate.WinsLate}
 use Rattle.tsp_progress.proofs.{AnswersProof.hears_there, HeedsProof.all_heed, LeadsKept.leads_later, NeverLateProof.newest, NeverLateProof.same_tick}
@@ -76,6 +76,15 @@ first_next a rest l older lines w =
     Within_through (line ∷ l ∷ older) (joined l.did.step l.did.tick (placed l.port rest) (line ∷ l ∷ older)) lines
     (within_joined l.did.step l.did.tick (placed l.port rest) (line ∷ l ∷ older) (line ∷ l ∷ older) (Within_all (line ∷ l ∷ older))) w
 
+-- the same where p's port is master when it takes what was asked of it, whatever comes later
+pub record MasterThen (setting : Setting) (long : ℕ) (s : List Line) (z : Line) (asked : List Line) (p : PeerId) (world : List Line) : Type 0 where
+  pub port : Port
+  pub net : setting.net p.0 port ≡ setting.net (node_of z) z.port
+  pub leads : (line : Line) (before : List Line) → Within (line ∷ before) world → Within (z ∷ asked) before → line.did.step.at ≤ z.did.step.at + long →
+      role (view port (of p.0 before)) ≡ Master
+  pub long_since : time_of (dids s) + WINDOW ≤ z.did.step.at
+  pub up : StaysUp (node_of z) z.port s world
+
 module _ {clocks : Clocks} {header : HeaderValue} {setting : Setting} (set : SetByClocks clocks header setting) (world : List Line)
     (table : ByTable header world) (fits : Fits setting world) (wins : WinsLate world) (late long t : ℕ) (ends : SendsEnd late world) (slack : late ≤ SLACK)
     (stays : ℕ → Bool) (s : List Line) (delivered : Delivered setting long t stays s world) (quick : IsQuick setting long) where
@@ -103,7 +112,7 @@ module _ {clocks : Clocks} {header : HeaderValue} {setting : Setting} (set : Set
 
   module _ (z : Line) (asked : List Line) (p : PeerId) (m : MessageValue)
       (asks : Asks setting long t stays s z asked world p (Message m)) (kind : m.kind ≡ Election)
-      (stands : is_candidate_role (role (view z.port (of (node_of z) asked))) ≡ true) (beside : LeadsBeside setting s z asked p world) (c : Line)
+      (stands : is_candidate_role (role (view z.port (of (node_of z) asked))) ≡ true) (beside : MasterThen setting long s z asked p world) (c : Line)
       (before : List Line) (w : WinsAfter z asked c before world) where
     abbrev N : ℕ
     N = node_of z
@@ -136,8 +145,7 @@ module _ {clocks : Clocks} {header : HeaderValue} {setting : Setting} (set : Set
 
     k-role : role_before (node_in header p.0) K (of p.0 arr.before) ≡ Master
     k-role = ap (λ q. role (view q (of p.0 arr.before))) k-port ∙
-        (leads_later p.0 beside.port asked arr.before world beside.leads (Within_tail z asked arr.before arr.later)
-        (Within_tail K arr.before world arr.place)).master
+        beside.leads K arr.before arr.place arr.later arr.soon
 
     hears : Hears (node_in header p.0) (of p.0 world) K (of p.0 arr.before) M m
     hears = hears_there set world table long t stays s delivered z asked p m asks.posts arr (ap is_starting_role k-role)
@@ -235,7 +243,7 @@ module _ {clocks : Clocks} {header : HeaderValue} {setting : Setting} (set : Set
     }
 
     f-late : time_of (dids s) < F.did.step.at
-    f-late = let a = beside.long in let b = away.young in omega (arith, a, b)
+    f-late = let a = beside.long_since in let b = away.young in omega (arith, a, b)
 
     quit-comes : Arrives setting long F away.lines world M (Message away.message)
     quit-comes = delivered F away.lines M (Message away.message) f-posts
@@ -336,8 +344,8 @@ module _ {clocks : Clocks} {header : HeaderValue} {setting : Setting} (set : Set
         let soon = c-soon in
         omega (arith, long_ago, g-tick, z-tick, mono, fast, small, soon)
 
-    no-win : ⊥
-    no-win = elim (Within_comparable (G ∷ G-before) (z ∷ asked) world quit-comes.place asks.posts.place) [
+    pub none_then : ⊥
+    none_then = elim (Within_comparable (G ∷ G-before) (z ∷ asked) world quit-comes.place asks.posts.place) [
       | inl (inl e) ↦ let same : G ≡ z = cc in mixed (ap (λ (k : Line). k.did.deed) same)
       | inl (inr v) ↦ earlier v
       | inr (inl e) ↦ let same : G ≡ z = cc in mixed (ap (λ (k : Line). k.did.deed) same)
@@ -350,7 +358,14 @@ module _ {clocks : Clocks} {header : HeaderValue} {setting : Setting} (set : Set
           let bad : ⊥ = cc in bad
 
   pub none_beside : NoneBeside setting long t stays s world
-  none_beside z asked p m asks kind stands beside c before w = no-win z asked p m asks kind stands beside c before w
+  none_beside z asked p m asks kind stands beside c before w = none_then z asked p m asks kind stands (record {
+    port = beside.port;
+    net = beside.net;
+    leads = λ line lines place later soon. (leads_later p.0 beside.port asked lines world beside.leads (Within_tail z asked lines later)
+        (Within_tail line lines world place)).master;
+    long_since = beside.long;
+    up = beside.up;
+  }) c before w
 
 pub clocked_runs_lead_on : ClockedRunsLeadOn
 clocked_runs_lead_on clocks header setting events late long t stays s set possible attended slack delivered quick =

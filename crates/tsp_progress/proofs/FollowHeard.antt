@@ -18,7 +18,7 @@ use Rattle.tsp_run.specs.Clocked.{Clocks, SetByClocks}
 use Rattle.tsp_progress.specs.{AlarmsFit.Manner, AlarmsFit.newest_is, AlarmsFit.rounds_by, ByTable.ByTable, ByTable.before_line}
 use Rattle.tsp_progress.specs.{ByTable.node_in, ByTable.port_before, Delivered.Arrives, Delivered.Delivered, Delivered.PostsTo, Heeds.posts_bare}
 use Rattle.tsp_progress.specs.{Heeds.role_before}
-use Rattle.tsp_progress.specs.{FollowOn.AllFollow, FollowOn.FollowUntil, FollowOn.OneNetwork, FollowOn.role_of}
+use Rattle.tsp_progress.specs.{FollowOn.AllFollow, FollowOn.OneNetwork, FollowOn.role_of}
 use Rattle.tsp_progress.specs.{Wakes.AllWake, Wakes.Wakes, Wakes.WokenAt, Wakes.Woken, Watched.Attended, Watched.AttendedAt, Watched.Told, Watched.Watched}
 use Rattle.tsp_progress.proofs.{AloneProof.Paced, AloneProof.PacedAt, AnswersProof.hears_there, HeedsProof.all_heed, InTimeProof.armed_place}
 use Rattle.tsp_progress.proofs.{NeverLateProof.never_late}
@@ -32,20 +32,20 @@ nil_within [] = refl
 nil_within (l ∷ h) = inr (nil_within h)
 
 -- a look at an earlier time
-sooner : (late x y : ℕ) (seen : List Seen) → y ≤ x → Watched late x seen → Watched late y seen
+pub sooner : (late x y : ℕ) (seen : List Seen) → y ≤ x → Watched late x seen → Watched late y seen
 sooner late x y seen le w = record {
   alarms = λ a at e. let soon = w.alarms a at e in omega (arith, le, soon);
   sends = λ p k e. let soon = w.sends p k e in omega (arith, le, soon);
 }
 
 -- the newest deed
-record Newest (test : Deed → Bool) (seen : List Seen) : Type 0 where
+pub record Newest (test : Deed → Bool) (seen : List Seen) : Type 0 where
   pub last : Did
   pub older : List Seen
   pub is : seen ≡ Here last ∷ older
   pub holds : test last.deed ≡ true
 
-newest_of : (test : Deed → Bool) (seen : List Seen) → newest_is test seen ≡ true → Newest test seen
+pub newest_of : (test : Deed → Bool) (seen : List Seen) → newest_is test seen ≡ true → Newest test seen
 newest_of test [] e = absurd (true≢false (sym e))
 newest_of test (Here d ∷ older) e = record { last = d; older = older; is = refl; holds = e }
 newest_of test (Elsewhere d ∷ older) e = absurd (true≢false (sym e))
@@ -56,7 +56,7 @@ rounds_unshared (Acts (Ring Round)) e = refl
 rounds_unshared (Acts (Late Round)) e = refl
 rounds_unshared _ e = absurd (true≢false (sym e))
 
-paced_at : (late : ℕ) (s : Seen) (before seen : List Seen) → Within (s ∷ before) seen → Paced late seen → PacedAt late s before
+pub paced_at : (late : ℕ) (s : Seen) (before seen : List Seen) → Within (s ∷ before) seen → Paced late seen → PacedAt late s before
 paced_at late s before [] w p = let bad : ⊥ = cc in absurd bad
 paced_at late s before (k ∷ older) (inl e) p = subst (λ (z : List Seen). head late z) (sym e) p.0 where
   head : ℕ → List Seen → Type 0
@@ -80,6 +80,17 @@ none_lower test (q ∷ rest) = let low = none_below q.0 in let more = none_lower
 
 pub first_steers : (x : ℕ) (past : NodePast) → is_follow (role (view first_port past.lines)) ≡ true → steers first_port x past ≡ true
 first_steers x past e = let none = none_lower (follows_on past) (ports_from 0 past.ports) in rw (e, none) refl
+
+-- node c begins a round, by its alarm, after the place s, and at most ROUND ticks and `late` before this true time
+pub record Ringing (setting : Setting) (late c : ℕ) (s world : List Line) (time : ℕ) : Type 0 where
+  pub ring : Did
+  pub older : List Line
+  pub place : Within (line_on first_port ring ∷ older) world
+  pub since : Within s older
+  pub node : ring.step.node ≡ c
+  pub rings : ring.deed ≡ Acts (Ring Round)
+  pub upto : ring.step.at ≤ time
+  pub recent : setting.tick c time ≤ ring.tick + ROUND + late
 
 module _ {clocks : Clocks} {header : HeaderValue} {setting : Setting} (set : SetByClocks clocks header setting) (world : List Line)
     (table : ByTable header world) (fits : Fits setting world) (m : ℕ → Manner) (woken : Woken m world) (wakes : AllWake m world) (late long t c : ℕ)
@@ -107,7 +118,8 @@ module _ {clocks : Clocks} {header : HeaderValue} {setting : Setting} (set : Set
     pub recent : setting.tick c time ≤ setting.tick c post.did.step.at + ROUND + late
 
   module _ (time f : ℕ) (there : stays f ≡ true) (other : (f == c) ≡ false) (early : time ≤ t)
-      (long-since : time_of (dids s) + ROUND + 2 * SLACK ≤ time) (sofar : FollowUntil stays c time s world) where
+      (long-since : time_of (dids s) + ROUND + 2 * SLACK ≤ time)
+      (sofar : (h : List Line) → Within h world → Within s h → time_of (dids h) ≤ time → role_of c h ≡ Master) where
     R : List Line → Type 0
     R lines = Wakes (m c) (view first_port lines) × Watched late (setting.tick c time) (view first_port lines)
 
@@ -151,7 +163,7 @@ module _ {clocks : Clocks} {header : HeaderValue} {setting : Setting} (set : Set
     fits-now = fits_at setting H world fits upto-now.within
 
     leads : role_of c H ≡ Master
-    leads = (sofar H upto-now.within s-before upto-now.upto).leads
+    leads = sofar H upto-now.within s-before upto-now.upto
 
     awake : Wakes (m c) Whole
     unfolding R
@@ -245,7 +257,7 @@ module _ {clocks : Clocks} {header : HeaderValue} {setting : Setting} (set : Set
     was-master =
         let order = (fits_in setting L at.older world fits ring-place).order in
         let up = ring-upto in
-        (sofar at.older older-in ring-since (omega (arith, order, up))).leads
+        sofar at.older older-in ring-since (omega (arith, order, up))
 
     not-won : Rang.deed ≡ Acts (Become Master) → ⊥
     not-won e =
@@ -265,6 +277,18 @@ module _ {clocks : Clocks} {header : HeaderValue} {setting : Setting} (set : Set
       by_deed (Acts (Ring Round)) e r = e
       by_deed (Acts (Late Round)) e r = absurd (not_late e)
       by_deed _ e r = absurd (true≢false (sym r))
+
+    pub ringing : Ringing setting late c s world time
+    ringing = record {
+      ring = Rang;
+      older = at.older;
+      place = ring-place;
+      since = ring-since;
+      node = at.node;
+      rings = rings;
+      upto = ring-upto;
+      recent = armed-now.recent;
+    }
 
     -- so it calls node f then
 

@@ -36,7 +36,7 @@ owes_at debt d before (Here k ∷ older) (inr w) o = owes_at debt d before older
 owes_at debt d before (Elsewhere k ∷ older) (inr w) o = owes_at debt d before older w o
 
 -- a line that changes no role of the first port
-role_kept : (n : ℕ) (l : Line) (older : List Line) → l.did.deed ≢ Acts Boot →
+pub role_kept : (n : ℕ) (l : Line) (older : List Line) → l.did.deed ≢ Acts Boot →
     (node_of l ≡ n → l.port ≡ first_port → (r : Role) → l.did.deed ≡ Acts (Become r) → ⊥) → role_of n (l ∷ older) ≡ role_of n older
 role_kept n l older unbooted same = by_node (node_of l == n) refl where
   was : Role
@@ -64,7 +64,7 @@ role_kept n l older unbooted same = by_node (node_of l == n) refl where
       ap (λ ls. role (view first_port ls)) (of_own n l older node) ∙ by_own ((l.port.0 == 0) || is_shared l.did.deed) refl node
   by_node false e = ap (λ ls. role (view first_port ls)) (of_other n l older e)
 
-master_follows : {A : Type 0} (p : PeerId) (r : Role) → r ≡ Master → r ≡ Follow p → A
+pub master_follows : {A : Type 0} (p : PeerId) (r : Role) → r ≡ Master → r ≡ Follow p → A
 master_follows p r e f = let bad : Master ≡ Follow p = sym e ∙ f in absurd (no bad) where
   no : Master ≡ Follow p → ⊥
   no e = cc
@@ -213,7 +213,7 @@ module _ {clocks : Clocks} {header : HeaderValue} {setting : Setting} (set : Set
 
       call : Called set world table fits m woken wakes late long t c stays s attended slack told one delivered s-in Time f
       call = called set world table fits m woken wakes late long t c stays s attended slack told one delivered s-in Time f there other
-          (omega (arith, until)) (omega (arith, settled)) (λ h w v le. sofar h (before-l h w (omega (arith, le, settled))) v)
+          (omega (arith, until)) (omega (arith, settled)) (λ h w v le. (sofar h (before-l h w (omega (arith, le, settled))) v).leads)
 
       heard : Heeded set world table fits m woken wakes late long t c stays s attended slack told one delivered s-in f call.post.did.step.at older
       heard = heeded set world table fits m woken wakes late long t c stays s attended slack told one delivered s-in Time f there other call l older place

@@ -17,7 +17,7 @@ use Rattle.tsp_progress.proofs.{QuitAnswered.open_first, StandActs.Refuses, Stan
 use Rattle.tsp_progress.proofs.{StandKeeps.runs_sound, StandPlaces.kept_at, WinsUnopposedProof.clocked_runs_win}
 
 -- an open send is numbered
-open_numbered : (p : PeerId) (seen : List Seen) (s : Sending) → open_send p seen ≡ Some s → is_numbered s.message.kind ≡ true
+pub open_numbered : (p : PeerId) (seen : List Seen) (s : Sending) → open_send p seen ≡ Some s → is_numbered s.message.kind ≡ true
 open_numbered p seen s e = by_open (open_to p seen) refl where
   some_same : (a b : Sending) → Some a ≡ Some b → a ≡ b
   some_same a b k = cc

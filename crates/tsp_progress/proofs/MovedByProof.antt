@@ -79,12 +79,16 @@ module _ (setting : Setting) (world : List Line) (fits : Fits setting world) (lo
         good : (d e : Datagram) → Good d ≡ Good e → d ≡ e
         good d e h = cc
 
-    from_master : FromMaster long c l older
-    from_master = by_why owes.why where
-      by_why : WhyCorrect (setup_of setting N l.port) l.did Before amount → FromMaster long c l older
+    -- it takes a correction
+    pub takes_correction : TakesCorrection l.did Before amount
+    takes_correction = by_why owes.why where
+      by_why : WhyCorrect (setup_of setting N l.port) l.did Before amount → TakesCorrection l.did Before amount
       by_why (ByRound k) = absurd (closed-no k.close k.past k.count k.lo k.size amount k.is k.deed)
-      by_why (ByMaster k) = by_master k
+      by_why (ByMaster k) = k
       by_why (ByDate k) = absurd (follows_not (peer_of c) (role Before) follows k.leads)
+
+    from_master : FromMaster long c l older
+    from_master = by_master takes_correction
 
   pub moved_by_master : MovedByMaster long t c s world
   moved_by_master l older place since until other port amount stepped shown deed = from_master l older place since until other port amount stepped shown deed

@@ -28,7 +28,7 @@ use Rattle.tsp_progress.proofs.{SearchKept.alarms_within, SearchKept.view_within
 use Rattle.tsp_progress.proofs.WorldPlaces.{Among, WorldPlace, act_place, in_order, world_place}
 
 -- what is in a list is among those of it that pass a test
-among_filter : (test : PeerId → Bool) (p : PeerId) (ps : List PeerId) → is_among p ps ≡ true → test p ≡ true → is_among p (filter test ps) ≡ true
+pub among_filter : (test : PeerId → Bool) (p : PeerId) (ps : List PeerId) → is_among p ps ≡ true → test p ≡ true → is_among p (filter test ps) ≡ true
 among_filter test p [] member e = absurd (true≢false (sym member))
 among_filter test p (q ∷ rest) member e = by_case (q.0 == p.0) refl (λ m. among_filter test p rest m e) member where
   more : (b : Bool) → is_among p (filter test rest) ≡ true → is_among p (if b then q ∷ filter test rest else filter test rest) ≡ true

@@ -28,24 +28,30 @@ rooted m x seen = Rooted seen
 booted : (m : Manner) (step : Step) (x : ℕ) (seen : List Seen) → Rooted seen → Rooted (Here (record { step = step; tick = x; deed = Acts Boot }) ∷ seen)
 booted m step x seen h = record {
   owed = (tt, h.owed);
+  calls = (tt, h.calls);
   quiet = λ a. none_armed a;
   search = λ a. none_armed a;
   elect = λ a. none_armed a;
   window = λ a. none_armed a;
   resolve = λ a. none_armed a;
+  round = λ a. none_armed a;
   sends = λ p s. none_armed s;
+  asks = λ p s. none_armed s;
 }
 
 -- the mark of a step
 marked : (step : Step) (x : ℕ) (seen : List Seen) → Rooted seen → Rooted (Here (record { step = step; tick = x; deed = Begins }) ∷ seen)
 marked step x seen h = record {
   owed = (tt, h.owed);
+  calls = (tt, h.calls);
   quiet = h.quiet;
   search = h.search;
   elect = h.elect;
   window = h.window;
   resolve = h.resolve;
+  round = h.round;
   sends = h.sends;
+  asks = h.asks;
 }
 
 rooted_family : Family rooted
@@ -53,12 +59,15 @@ rooted_family = record {
   boots = booted;
   aside = λ m d x seen h. record {
     owed = h.owed;
+    calls = h.calls;
     quiet = h.quiet;
     search = h.search;
     elect = h.elect;
     window = h.window;
     resolve = h.resolve;
+    round = h.round;
     sends = h.sends;
+    asks = h.asks;
   };
 }
 
@@ -96,7 +105,7 @@ starting_end seen e = by_role (role seen) e where
 starts : Leads (In is_starting_role) (puts (Become Starting) followed_by arms Quiet QUIET) (In is_starting_role)
 unfolding arms
 starts = Leads_then {Q = In is_starting_role} (puts (Become Starting)) (arms Quiet QUIET)
-    (Leads_puts (Become Starting) (λ x past h. becomes is_starting_role Starting refl x past h.0 (starting_end past.seen h.1)))
+    (Leads_puts (Become Starting) (λ x past h. becomes is_starting_role Starting refl x past h.0 (starting_end past.seen h.1) tt))
     (record { run = λ x past h. arm_quiet (x + QUIET) x past h })
 
 boots_on_holds : (q : Port) → LeadsAll (Each starting) (boots_on q) (Each starting)
@@ -160,11 +169,14 @@ module _ (clocks : Clocks) (header : HeaderValue) where
 pub runs_rooted : (clocks : Clocks) (header : HeaderValue) (events : List Event) → AllRooted (run_by clocks header events)
 runs_rooted clocks header [] = λ n q. record {
   owed = tt;
+  calls = tt;
   quiet = λ a. none_armed a;
   search = λ a. none_armed a;
   elect = λ a. none_armed a;
   window = λ a. none_armed a;
   resolve = λ a. none_armed a;
+  round = λ a. none_armed a;
   sends = λ p s. none_armed s;
+  asks = λ p s. none_armed s;
 }
 runs_rooted clocks header (e ∷ before) = event_rooted clocks header (run_by clocks header before) e (runs_rooted clocks header before)

@@ -27,7 +27,7 @@ use Rattle.tsp_progress.proofs.WorldPlaces.{WorldPlace, act_place, own_place, wo
 use Rattle.tsp_progress.proofs.RoundKept.{AskedAt, Going, Open, asked_at, back, persists, proper_view, walk}
 
 -- the last round's beginning is of this step, if the step has begun one
-step_of_start : (setting : Setting) (q : Port) (t : List Line) → OwnFits setting t → is_starting (view q t) ≡ true → (b : Did) (i : List Seen) →
+pub step_of_start : (setting : Setting) (q : Port) (t : List Line) → OwnFits setting t → is_starting (view q t) ≡ true → (b : Did) (i : List Seen) →
     started (view q t) ≡ Here b ∷ i → (s : Step) → InStep t s → b.step ≡ s
 step_of_start setting q [] f e b i st s ins = absurd (true≢false (sym e))
 step_of_start setting q (l ∷ t) f e b i st s ins = by_flag ((l.port.0 == q.0) || is_shared l.did.deed) refl e st

@@ -1,7 +1,7 @@
 -- Who stands for election backs itself, and asks each other member of its network for its vote, in the same step.
 use Rattle.std.proofs.Common.{sym, ap, subst, arith, true≢false, inl, inr, ◌∙◌, ◌≡◌, ◌≢◌, ℕ, ◌+◌, ◌==◌, ◌||◌, not, Bool, true, false}
 use Rattle.std.proofs.Common.{if◌then◌else◌, List, [], ◌∷◌, ◌++◌, length, eqb-true, refl}
-use Rattle.std.proofs.lemmas.Bool.{or_right}
+use Rattle.std.proofs.lemmas.Bool.{and_parts, or_right}
 use Rattle.tsp_rules.specs.Values.{Act, Arm, Back, Become, Elect, Late, Loose, Post, Ring, Search, Window, Candidate, Datagram, Election, Good, MasterReq}
 use Rattle.tsp_rules.specs.Values.{Message}
 use Rattle.tsp_rules.specs.Values.{PeerId, Peer, Place, Port, Test, WINDOW}
@@ -19,6 +19,7 @@ use Rattle.tsp_base.proofs.{PlaceLemmas.Within_all, PlaceLemmas.Within_comparabl
 use Rattle.tsp_base.proofs.{PlaceLemmas.Within_through, RowLemmas.added_append, ViewPlaces.Within_view}
 use Rattle.tsp_promises.specs.{Fits.Fits, Fits.TookFits, Fits.node_of, Setting.Setting, DeedFits.MessageFits, Setting.setup_of}
 use Rattle.tsp_promises.proofs.{shared.HistoryPlaces.line_on, promised.OwnFitsProof.deed_fits, promised.OwnFitsProof.fits_in, promised.OwnFitsProof.locate}
+use Rattle.tsp_run.specs.Setup.{node_line}
 use Rattle.tsp_progress.specs.ByTable.{ByTable, RowStands, TableAt, alarm_row, node_in, port_before}
 use Rattle.tsp_progress.proofs.{PortSetups.PortIs, StandActs.Kept, StandActs.KeepsAt, StandActs.RangElect, StandActs.Sound, StandActs.StandFits}
 use Rattle.tsp_progress.proofs.{StandActs.Tested, WorldPlaces.own_place}
@@ -228,6 +229,7 @@ module _ {header : HeaderValue} {setting : Setting} (world : List Line) (table :
     pub rest_is : past.seen ≡ rang.rest
     pub own : past.own.0 ≡ n
     pub peers : past.peers ≡ setting.members (setting.net n q)
+    pub may_is : past.may ≡ (node_line header n).may
     pub within : Within (added Ringing.step X (elect_rings X past) past.seen) Whole
 
   row_seen : RowSeen
@@ -244,6 +246,7 @@ module _ {header : HeaderValue} {setting : Setting} (world : List Line) (table :
         rest_is = l.before;
         own = port.own;
         peers = port.peers;
+        may_is = refl;
         within = subst (λ s. Within s Whole) (view_own q Ringing.step X (elect_rings X past) (of n l.older))
             (Within_view q (joined Ringing.step X (placed q (elect_rings X past)) (of n l.older)) (of n world) stands);
       }
@@ -293,6 +296,10 @@ module _ {header : HeaderValue} {setting : Setting} (world : List Line) (table :
         let is : other ≡ start = cc in
         let deed : Acts i.act ≡ Acts (Become Candidate) = ap (λ (d : Did). d.deed) is ∙ stands in
         absurd (i.stays deed)
+
+  -- and so may be master
+  pub stood_may : (node_line header n).may ≡ true
+  stood_may = sym row_seen.may_is ∙ (and_parts There.may _ may_stand).0
 
   abbrev Asks : List Act
   Asks = for_each (begins Election) (others There.own There.peers) X (grown X There (Front X There))

@@ -158,9 +158,13 @@
 //! to follow it and agree at each time from then on.
 #![tactic(auto)]
 
+pub mod agree;
 pub mod delivered;
 pub mod elections;
 pub mod follow;
+pub mod gather;
+pub mod headless;
 pub mod laws;
+pub mod members;
 pub mod rivals;
 pub mod table;

@@ -1,0 +1,57 @@
+//! Theorems about a network in which one node leads: all come to follow it. Nothing here runs.
+ghost use Rattle.tsp_progress.specs.Calling.{ClockedRunsCall, RunsCall};
+ghost use Rattle.tsp_progress.specs.Gather.{ClockedRunsGather, RunsGather};
+ghost use Rattle.tsp_progress.specs.GatherUse.{GatherUse};
+ghost use Rattle.tsp_progress.specs.LeadOnly.{ClockedRunsComeToLeader, ClockedRunsLeadOnly};
+ghost use Rattle.tsp_progress.specs.LeadOnly.{RunsComeToLeader, RunsLeadOnly};
+
+/// A port comes to follow another only when that calls it, by a MASTERUP, a MASTERACK or a QUIT,
+/// which only masters post; only candidates ask for votes; and a follower waits anew only by what
+/// its master says, or for a candidate.
+pub fn runs_call()
+    ensures { RunsCall }
+{}
+
+/// So it is in a run by any clocks.
+pub fn clocked_runs_call()
+    ensures { ClockedRunsCall }
+{}
+
+/// In a calm network in which one node leads and no other does, all nodes that stay follow it, 242 s
+/// and twice `long` after some place, and 844 s and twice `long` more for each of them: those that
+/// follow another come one by one at least, when their Elects ring.
+pub fn runs_gather()
+    ensures { RunsGather }
+{}
+
+/// So it is in a run by any clocks.
+pub fn clocked_runs_gather()
+    ensures { ClockedRunsGather }
+{}
+
+/// Where datagrams have been delivered for 15 s, and nothing comes from elsewhere, a node that is
+/// master alone leads on, and no other node wins.
+pub fn runs_lead_only()
+    ensures { RunsLeadOnly }
+{}
+
+/// So it is in a run by any clocks.
+pub fn clocked_runs_lead_only()
+    ensures { ClockedRunsLeadOnly }
+{}
+
+/// So all come to follow a node that is master alone then, and do so on.
+pub fn runs_come_to_leader()
+    ensures { RunsComeToLeader }
+{}
+
+/// So it is in a run by any clocks.
+pub fn clocked_runs_come_to_leader()
+    ensures { ClockedRunsComeToLeader }
+{}
+
+/// A run in which a node comes to follow the one that leads, and does so on for longer than all
+/// must, and one in which what that sends is lost, so that it stands for election.
+pub fn gather_use()
+    ensures { GatherUse }
+{}
