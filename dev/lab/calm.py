@@ -2,8 +2,9 @@
 network has no master, or more than one, how long it takes until all follow one, and how far clocks are apart then."""
 from lab.nets import DRIFT, ELECT_MIN, MILLION, SPREAD, WALL, Net, Node
 
-# When a network is calm at the latest.
+# When a network is calm at the latest; and from when on clocks agree by the law, after all follow.
 ROUGH = 2500 * MILLION
+AGREED = 767 * MILLION
 
 
 class Member(Node):
@@ -35,12 +36,12 @@ class Calm(Net):
 
     def __init__(self, asked, named, seed):
         late, long = round(asked.late * MILLION), round(asked.long * MILLION)
-        # (a wave of candidatures, the way of an ELECTION, a look, and what two counters part meanwhile)
-        self.lead = 7 * MILLION + 3 * long + late + 2 * DRIFT * (ELECT_MIN + SPREAD + 12 * MILLION) // MILLION + 4
+        # (WINDOW, 10 ms, looks, datagrams, and what two counters part in 800 s)
+        self.lead = 5_010_000 + 2 * late + 3 * long + 2 * -(-DRIFT * (ELECT_MIN + SPREAD + 200 * MILLION) // MILLION) + 1
         super().__init__(asked, named, seed)
         self.rough, self.most = self.chance.choice((4 * MILLION, self.chance.randrange(4 * MILLION, ROUGH))), {}
-        # since when it has no master, an only one, and all follow that; how many rounds closed since then, and when the last one did
-        self.bare, self.reign, self.joined, self.closes, self.closed = None, None, None, 0, 0
+        # since when it has no master, an only one, and all follow that; and when the last round closed
+        self.bare, self.reign, self.joined, self.closed = None, None, None, 0
         self.gone, self.is_calm = set(), False
 
     def members(self):
@@ -56,7 +57,7 @@ class Calm(Net):
     def follow(self, at, number, tick, act):
         super().follow(at, number, tick, act)
         if act[0] == 'close':
-            self.closes, self.closed = self.closes + 1, at
+            self.closed = at
 
     def step(self, at, number, what):
         """An event, if its node isn't gone; and what is so before and after it, if the network is calm."""
@@ -92,13 +93,13 @@ class Calm(Net):
         if only is None or self.reign is None or self.reign[0] != only:
             self.reign = None if only is None else (only, at)
         if only is not None and all(number == only or role == f'follow {only}' for number, role in roles.items()):
-            self.closes, self.joined = (0, at) if self.joined is None else (self.closes, self.joined)
+            self.joined = at if self.joined is None else self.joined
         else:
             self.note('followed', 0 if self.reign is None else at - self.reign[1])
             self.joined = None
 
     def apart(self, at):
-        """How far clocks are apart before an event, if all follow one for two Closes, and the last one is over."""
-        if self.joined is not None and self.closes > 1 and at > self.closed + self.long:
+        """How far clocks are apart before an event, if all follow one for so long as the law asks, and the last Close is over."""
+        if self.joined is not None and at > self.joined + AGREED + 3 * self.long and at > self.closed + self.long:
             targets = [node.target(at) for number, node in enumerate(self.nodes) if number not in self.gone]
             self.note('apart', max(targets) - min(targets))

@@ -27,7 +27,7 @@ dev/worst-cases --whole --seeds 12 --program "$program" >"$out/said" 2>"$out/tol
 for row in 'a network has no master' 'not all follow the only master, since it is that' 'clocks are apart between rounds, once all follow'; do
     grep -q "^| $row | [1-9]" "$out/said" || fail "there is no row '$row': $(cat "$out/said")"
 done
-sed 's/2150\.13, 2, 5/2.13, 2, 5/' dev/worst-cases >"$out/other/dev/worst-cases"
+sed 's/2160, 0, 8/2, 0, 8/' dev/worst-cases >"$out/other/dev/worst-cases"
 ! cmp -s dev/worst-cases "$out/other/dev/worst-cases" || fail 'nothing is changed'
 ! python3 -B "$out/other/dev/worst-cases" --whole --seeds 12 --program "$program" >"$out/said" 2>"$out/told" || fail "networks have a master within seconds: $(cat "$out/said")"
 for words in '--seeds 0' '--late 1.1' '--long x' 'more'; do
