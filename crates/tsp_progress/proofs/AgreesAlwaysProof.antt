@@ -1,19 +1,19 @@
 -- All clocks of the network agree at each time, except for `long` after each Close.
-use Rattle.std.proofs.Common.{sym, ap, subst, arith, inl, inr, true≢false, ◌∙◌, ◌≡◌, ◌≤◌, ◌<◌, ◌⊎◌, ◌≤ℤ◌, ℕ, ◌+◌, ◌-◌, ◌*◌, ◌/◌, ◌==◌, ℤ, pos, Bool, true, false}
+use Rattle.std.proofs.Common.{sym, subst, arith, inl, inr, true≢false, ◌∙◌, ◌≡◌, ◌≤◌, ◌<◌, ◌⊎◌, ℕ, ◌+◌, ◌-◌, ◌==◌, ℤ, pos, Bool, true, false}
 use Rattle.std.proofs.Common.{List, [], ◌∷◌, eqb-true, eq-eqb, refl}
-use Rattle.tsp_rules.specs.Values.{Close, ROUND, SLACK}
-use Rattle.tsp_base.specs.Words.{Acts, Deed, HeaderValue, Line, Within, dids, time_of, width}
+use Rattle.tsp_rules.specs.Values.{Close, SLACK}
+use Rattle.tsp_base.specs.Words.{Acts, Deed, HeaderValue, Line, Within, dids, time_of}
 use Rattle.tsp_base.proofs.PlaceLemmas.{Within_all, Within_strict, Within_tail, Within_through}
-use Rattle.tsp_promises.specs.{ClockAt.ClocksWithin, ClockAt.clock_at, Fits.Fits, Fits.node_of, Premises.Honest, Premises.Life, Setting.Setting}
+use Rattle.tsp_promises.specs.{ClockAt.ClocksWithin, ClockAt.clock_at, Fits.node_of, Premises.Honest, Premises.Life, Setting.Setting}
 use Rattle.tsp_promises.proofs.promised.OwnFitsProof.{Given, fits_at, given, place_time}
 use Rattle.tsp_run.specs.Clocked.{Clocks, clocks_of, run_by}
 use Rattle.tsp_run.proofs.{OwnClocks.possible_own, OwnClocks.runs_by_own_clocks, OwnClocks.set_own, RunFits.clocked_runs_fit}
 use Rattle.tsp_progress.specs.{AgreesAlways.AgreesAlways, AgreesAlways.ClockedRunsAgreeAlways, AgreesAlways.NoneJust, AgreesAlways.RunsAgreeAlways}
 use Rattle.tsp_progress.specs.{AgreesAlways.agreed_after, AgreesAlways.round_age, AgreesOn.HistoryAt, AgreesOn.agree_within, Delivered.Delivered}
-use Rattle.tsp_progress.specs.{ErrSoon.soon_err, FollowOn.Calm, FollowOn.FollowUntil, InTable.GivesUpNone, InTable.InTable, InTable.KeepsRange}
+use Rattle.tsp_progress.specs.{FollowOn.Calm, FollowOn.FollowUntil, InTable.GivesUpNone, InTable.InTable, InTable.KeepsRange}
 use Rattle.tsp_progress.specs.{InTable.SetsNone, InTable.Undated, LateClose.LateClose, OneWire.OneWire, SampledInTime.IsSwift, TakesRounds.NoneSince}
 use Rattle.tsp_progress.specs.{Watched.Attended, Watched.Told}
-use Rattle.tsp_progress.proofs.{AgreesOnProof.agree_at, AgreesOnProof.no_way, AgreesOnProof.wider, AgreesOnProof.within_more, AllAsked.Asked}
+use Rattle.tsp_progress.proofs.{AgreesOnProof.agree_at, AgreesOnProof.no_way, AgreesOnProof.wider, AgreesOnProof.within_more, AllAsked.Tended}
 use Rattle.tsp_progress.proofs.{AllAsked.all_asked, CloseComes.CloseIn, CloseComes.Recent, CloseComes.recent_close, TakesProof.one_network}
 
 -- the last Close of a node
@@ -23,7 +23,7 @@ pub record LastClose (c : ℕ) (D : Line) (dp h : List Line) : Type 0 where
   pub none : NoneSince c close.line close.before h
 
 -- whether a line is a Close of the node
-pub record IsClose (c : ℕ) (l : Line) : Type 0 where
+pub record ClosesNow (c : ℕ) (l : Line) : Type 0 where
   pub node : node_of l ≡ c
   pub count : ℕ
   pub lo : ℤ
@@ -31,19 +31,19 @@ pub record IsClose (c : ℕ) (l : Line) : Type 0 where
   pub mean : ℤ
   pub deed : l.did.deed ≡ Acts (Close count lo size mean)
 
-closes_or_not : (c : ℕ) (l : Line) → IsClose c l ⊎ ((count : ℕ) (lo size mean : ℤ) → node_of l ≡ c → l.did.deed ≡ Acts (Close count lo size mean) → ⊥)
+closes_or_not : (c : ℕ) (l : Line) → ClosesNow c l ⊎ ((count : ℕ) (lo size mean : ℤ) → node_of l ≡ c → l.did.deed ≡ Acts (Close count lo size mean) → ⊥)
 closes_or_not c l = by_node (node_of l == c) refl where
   by_deed : (deed : Deed) → l.did.deed ≡ deed → node_of l ≡ c →
-      IsClose c l ⊎ ((count : ℕ) (lo size mean : ℤ) → node_of l ≡ c → l.did.deed ≡ Acts (Close count lo size mean) → ⊥)
+      ClosesNow c l ⊎ ((count : ℕ) (lo size mean : ℤ) → node_of l ≡ c → l.did.deed ≡ Acts (Close count lo size mean) → ⊥)
   by_deed (Acts (Close count lo size mean)) is node = inl (record { node = node; count = count; lo = lo; size = size; mean = mean; deed = is })
   by_deed _ is node = inr (λ count lo size mean node e. let both = sym is ∙ e in let bad : ⊥ = cc in bad)
 
   by_node : (b : Bool) → (node_of l == c) ≡ b →
-      IsClose c l ⊎ ((count : ℕ) (lo size mean : ℤ) → node_of l ≡ c → l.did.deed ≡ Acts (Close count lo size mean) → ⊥)
+      ClosesNow c l ⊎ ((count : ℕ) (lo size mean : ℤ) → node_of l ≡ c → l.did.deed ≡ Acts (Close count lo size mean) → ⊥)
   by_node false e = inr (λ count lo size mean node is. true≢false (sym (eq-eqb (node_of l) c node) ∙ e))
   by_node true e = by_deed l.did.deed refl (eqb-true (node_of l) c e)
 
-pub last_close : (c : ℕ) (D : Line) (dp h : List Line) → Within (D ∷ dp) h → IsClose c D → LastClose c D dp h
+pub last_close : (c : ℕ) (D : Line) (dp h : List Line) → Within (D ∷ dp) h → ClosesNow c D → LastClose c D dp h
 last_close c D dp [] w d = let bad : ⊥ = cc in absurd bad
 last_close c D dp (l ∷ h) w d = elim (closes_or_not c l) [
   | inl k ↦ record {
@@ -93,15 +93,15 @@ last_close c D dp (l ∷ h) w d = elim (closes_or_not c l) [
   }
 
 module _ {clocks : Clocks} {header : HeaderValue} {setting : Setting} (late long t : ℕ) (stays : ℕ → Bool) (c : ℕ) (s world : List Line)
-    (a : Asked clocks header setting late long t stays c s world) (whole : Given setting world) (wire : OneWire header setting stays)
+    (a : Tended clocks header setting late long t stays c s world) (whole : Given setting world) (wire : OneWire header setting stays)
     (undated : Undated c s world) (gives : GivesUpNone c s world) (x : ℕ) (h : List Line) (now : HistoryAt x h world)
     (lower : time_of (dids s) + agreed_after long ≤ x) (upper : x + long < t) where
   -- the last Close, where another node stays
   module _ (k : ℕ) (there : stays k ≡ true) (other : (k == c) ≡ false) where
-    recent : Recent late long t stays c s world a gives k there other x (omega (arith, lower)) (omega (arith, upper))
+    pub recent : Recent late long t stays c s world a gives k there other x (omega (arith, lower)) (omega (arith, upper))
     recent = recent_close late long t stays c s world a gives k there other x (omega (arith, lower)) (omega (arith, upper))
 
-    last : LastClose c recent.close.line recent.close.before h
+    pub last : LastClose c recent.close.line recent.close.before h
     last = last_close c recent.close.line recent.close.before h (now.all recent.close.line recent.close.before recent.close.place recent.by) (record {
       node = recent.close.node;
       count = recent.close.count;
@@ -111,28 +111,28 @@ module _ {clocks : Clocks} {header : HeaderValue} {setting : Setting} (late long
       deed = recent.close.deed;
     })
 
-    abbrev C : Line
+    abbrev pub C : Line
     C = last.close.line
 
-    abbrev Cp : List Line
+    abbrev pub Cp : List Line
     Cp = last.close.before
 
-    c-in : Within (C ∷ Cp) world
+    pub c-in : Within (C ∷ Cp) world
     c-in = Within_through (C ∷ Cp) h world last.close.place now.within
 
-    age : x ≤ C.did.step.at + round_age late
+    pub age : x ≤ C.did.step.at + round_age late
     age =
         let order = place_time setting (recent.close.line ∷ recent.close.before) (C ∷ Cp) (fits_at setting (C ∷ Cp) world a.fits c-in) last.after in
         let young = recent.recent in
         omega (arith, order, young)
 
-    c-upto : C.did.step.at ≤ x
+    pub c-upto : C.did.step.at ≤ x
     c-upto =
         let le = place_time setting (C ∷ Cp) h (fits_at setting h world a.fits now.within) last.close.place in
         let up = now.upto in
         omega (arith, le, up)
 
-    late-close : LateClose long t c s C Cp world
+    pub late-close : LateClose long t c s C Cp world
     late-close = record {
       place = c-in;
       node = last.close.node;

@@ -1,10 +1,10 @@
 -- From `long` after a Close on, until the next one, all clocks of the network agree.
-use Rattle.std.proofs.Common.{sym, ap, subst, arith, inl, inr, ◌∙◌, ◌≡◌, ◌≤◌, ◌<◌, ◌≤ℤ◌, ℕ, ◌+◌, ◌-◌, ◌*◌, ◌/◌, ◌==◌, ◌-ℤ◌, ℤ, pos, nat_abs, Bool, true, false}
-use Rattle.std.proofs.Common.{List, [], ◌∷◌, eqb-true, mul-le-mul_left, refl}
+use Rattle.std.proofs.Common.{sym, subst, arith, inr, ◌∙◌, ◌≡◌, ◌≤◌, ◌<◌, ◌≤ℤ◌, ℕ, ◌+◌, ◌-◌, ◌*◌, ◌==◌, ◌-ℤ◌, ℤ, pos, nat_abs, Bool, true, false}
+use Rattle.std.proofs.Common.{List, ◌∷◌, eqb-true, mul-le-mul_left, refl}
 use Rattle.std.proofs.lemmas.Int.{ints}
 use Rattle.tsp_rules.specs.Values.{SLACK}
 use Rattle.tsp_base.specs.Words.{HeaderValue, Line, Within, dids, time_of, width}
-use Rattle.tsp_base.proofs.PlaceLemmas.{Within_all, Within_tail, Within_through}
+use Rattle.tsp_base.proofs.PlaceLemmas.{Within_through}
 use Rattle.tsp_promises.specs.{Agreed.Unchanged, ClockAt.ClocksWithin, ClockAt.clock_at, ClockAt.drifted, Fits.node_of, Premises.Honest, Premises.Life}
 use Rattle.tsp_promises.specs.{Setting.Setting}
 use Rattle.tsp_promises.proofs.promised.OwnFitsProof.{Given, given}
@@ -15,7 +15,7 @@ use Rattle.tsp_progress.specs.{AgreesOn.agree_within, AgreesSoon.AgreeSoon, Agre
 use Rattle.tsp_progress.specs.{FollowOn.FollowUntil, InTable.InTable, InTable.KeepsRange, InTable.SetsNone, InTable.Undated, LateClose.LateClose}
 use Rattle.tsp_progress.specs.{OneWire.OneWire, SampledInTime.IsSwift, TakesRounds.NoneSince, TakesRounds.TakesRound, TakesRounds.TakesRounds}
 use Rattle.tsp_progress.specs.{Watched.Attended, Watched.Told}
-use Rattle.tsp_progress.proofs.{AgreesSoonProof.agree_soon, AllAsked.Asked, AllAsked.all_asked, TakesProof.one_network, TakesProof.takes_rounds}
+use Rattle.tsp_progress.proofs.{AgreesSoonProof.agree_soon, AllAsked.Tended, AllAsked.all_asked, TakesProof.one_network, TakesProof.takes_rounds}
 
 -- what a counter drifts in a longer time is more
 pub wider : (drift x y : ℕ) → x ≤ y → width drift x ≤ width drift y
@@ -39,7 +39,7 @@ young_drift setting x r at young le =
     omega (arith, w)
 
 module _ {clocks : Clocks} {header : HeaderValue} {setting : Setting} (late long t : ℕ) (stays : ℕ → Bool) (c : ℕ) (s world : List Line)
-    (a : Asked clocks header setting late long t stays c s world) (whole : Given setting world) (wire : OneWire header setting stays)
+    (a : Tended clocks header setting late long t stays c s world) (whole : Given setting world) (wire : OneWire header setting stays)
     (undated : Undated c s world) where
   soon : AgreeSoon setting long s world
   soon = agree_soon setting world whole long s a.calm.soon

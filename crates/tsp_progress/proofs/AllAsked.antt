@@ -1,5 +1,5 @@
 -- All that is asked of a network whose clocks agree, together.
-use Rattle.std.proofs.Common.{sym, subst, ◌≡◌, ◌≤◌, ℕ, ◌==◌, Bool, true, false, List, ◌∷◌, length}
+use Rattle.std.proofs.Common.{sym, subst, ◌≡◌, ◌≤◌, ℕ, Bool, false, List, ◌∷◌, length}
 use Rattle.tsp_rules.specs.Values.{Event, SLACK}
 use Rattle.tsp_base.specs.Words.{HeaderValue, Line, Within, first_port, is_shared}
 use Rattle.tsp_promises.specs.{Fits.Fits, Fits.node_of, Setting.Setting}
@@ -10,7 +10,7 @@ use Rattle.tsp_progress.specs.{InTable.InTable, InTable.KeepsRange, InTable.Sets
 use Rattle.tsp_progress.specs.{Watched.Attended, Watched.Told}
 use Rattle.tsp_progress.proofs.{OnePortProof.clocked_runs_use_one_port, RunWakes.clocked_runs_wake, TableProof.clocked_runs_by_table}
 
-pub record Asked (clocks : Clocks) (header : HeaderValue) (setting : Setting) (late long t : ℕ) (stays : ℕ → Bool) (c : ℕ) (s world : List Line) : Type 0 where
+pub record Tended (clocks : Clocks) (header : HeaderValue) (setting : Setting) (late long t : ℕ) (stays : ℕ → Bool) (c : ℕ) (s world : List Line) : Type 0 where
   pub set : SetByClocks clocks header setting
   pub table : ByTable header world
   pub fits : Fits setting world
@@ -33,7 +33,7 @@ pub record Asked (clocks : Clocks) (header : HeaderValue) (setting : Setting) (l
       l.port ≡ first_port
 
 pub on_first : {clocks : Clocks} {header : HeaderValue} {setting : Setting} {late long t : ℕ} {stays : ℕ → Bool} {c : ℕ} {s world : List Line} →
-    Asked clocks header setting late long t stays c s world → (l : Line) (older : List Line) → Within (l ∷ older) world → node_of l ≡ c →
+    Tended clocks header setting late long t stays c s world → (l : Line) (older : List Line) → Within (l ∷ older) world → node_of l ≡ c →
     is_shared l.did.deed ≡ false → l.port ≡ first_port
 on_first {header = header} a l older place node unshared = a.single l older place
     (subst (λ k. length (node_in header k).ports ≡ 1) (sym node) a.one.single) unshared
@@ -44,7 +44,7 @@ pub all_asked : (clocks : Clocks) (header : HeaderValue) (setting : Setting) (ev
     Calm long stays s (run_by clocks header events) → Delivered setting long t stays s (run_by clocks header events) → IsSwift setting long →
     FollowUntil stays c t s (run_by clocks header events) → InTable stays c t s (run_by clocks header events) →
     SetsNone c s (run_by clocks header events) → KeepsRange s (run_by clocks header events) →
-    Asked clocks header setting late long t stays c s (run_by clocks header events)
+    Tended clocks header setting late long t stays c s (run_by clocks header events)
 all_asked clocks header setting events late long t stays c s set possible attended slack told one s-in calm delivered swift follow members sets range =
     let w = clocked_runs_wake clocks header events in
     record {

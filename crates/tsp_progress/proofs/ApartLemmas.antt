@@ -1,10 +1,11 @@
 -- What a step has taken, an open correction and a round's measured peers: small facts of a port's past.
 use Rattle.std.proofs.Common.{sym, ap, subst, arith, true≢false, inl, inr, ◌∙◌, ◌≡◌, ℕ, ◌==◌, ◌&&◌, ◌||◌, Bool, true, false, if◌then◌else◌}
-use Rattle.std.proofs.Common.{List, [], ◌∷◌, length, None, Some, eqb-true, refl}
+use Rattle.std.proofs.Common.{Option, List, [], ◌∷◌, length, None, Some, eqb-true, refl}
 use Rattle.tsp_rules.specs.Values.{Boot, Become, Arm, Post, Took, Acked, Gave, Leave, Close, CloseAlarm, Message, Stamp, PeerId, Peer, Place, Port, Request}
-use Rattle.tsp_rules.specs.Values.{Taken}
-use Rattle.tsp_base.specs.Words.{Acts, Begins, Deed, Did, Elsewhere, Here, Line, Received, Seen, Within, acting, corrects_by, dids}
-use Rattle.tsp_base.specs.Words.{is_acknowledged, is_acknowledged_after, is_correction, is_measured, is_numbered, is_shared, is_starting, lives, message_at, message_of}
+use Rattle.tsp_rules.specs.Values.{Ack, Good, Kind, SlaveUp, Taken}
+use Rattle.tsp_base.specs.Words.{Acts, Begins, Deed, Did, Elsewhere, Here, Line, MessageValue, Received, Seen, Within, acting, corrects_by, dids}
+use Rattle.tsp_base.specs.Words.{is_acknowledged, is_acknowledged_after, is_correction, is_measured, is_numbered, is_shared, is_starting, lives, message_at}
+use Rattle.tsp_base.specs.Words.{message_of}
 use Rattle.tsp_base.specs.Words.{of, open_to, open_to_after, seen_as, started, started_after, taken, taken_after, view}
 use Rattle.tsp_base.specs.RoundFacts.{is_measured_after, is_starting_after}
 use Rattle.tsp_base.proofs.PlaceLemmas.{Within_length, Within_tail, Within_through}
@@ -156,3 +157,20 @@ one_life n long stays s world calm g (k ∷ h) since (inr w) v =
           sym (ap (λ ls. lives (dids ls)) (of_own n k h node) ∙
           boots_no k.did.deed (calm.unbooted k h v (Within_through s g h since w)) k.did (dids (of n h)) refl)
       by_node false e = sym (ap (λ ls. lives (dids ls)) (of_other n k h e))
+
+-- what is received of a peer
+abbrev pub received : PeerId → MessageValue → Received
+received p m = record { from = Peer p; taken = Good (Message m) }
+
+pub ack_slaveup : (m k : MessageValue) (p : PeerId) → m.kind ≡ Ack → k.kind ≡ SlaveUp → Some (received p m) ≡ Some (received p k) → ⊥
+ack_slaveup m k p a s e = no (sym a ∙ (ap kind_in e ∙ s)) where
+  kind_of : Taken → Kind
+  kind_of (Good (Message z)) = z.kind
+  kind_of _ = m.kind
+
+  kind_in : Option Received → Kind
+  kind_in (Some r) = kind_of r.taken
+  kind_in None = m.kind
+
+  no : Ack ≡ SlaveUp → ⊥
+  no e = cc

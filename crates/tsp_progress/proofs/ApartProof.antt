@@ -1,60 +1,46 @@
 -- Two corrections that a master begins to one of its followers begin at least a round's length apart.
 use Rattle.std.proofs.Common.{sym, ap, subst, arith, true≢false, inl, inr, ◌∙◌, ◌≡◌, ◌≢◌, ◌≤◌, ◌<◌, ◌⊎◌, ℕ, ◌+◌, ◌*◌, ◌==◌, Bool, true, false}
-use Rattle.std.proofs.Common.{List, ◌∷◌, Option, None, Some, eq-eqb, refl}
-use Rattle.tsp_rules.specs.Values.{Post, Acked, Close, Gave, Join, Ring, CloseAlarm, Ack, SlaveUp, Message, Good, Kind, Peer, PeerId, Port, Taken}
-use Rattle.tsp_rules.specs.Values.{Master, CLOSE, QUIET, REUSE, SLACK, WINDOW}
-use Rattle.tsp_base.specs.Words.{Acts, Deed, Did, HeaderValue, Here, Line, MessageValue, Received, Seen, Sending, Step, Within, acting, begun_to, boot_tick}
+use Rattle.std.proofs.Common.{List, ◌∷◌, None, Some, eq-eqb, refl}
+use Rattle.tsp_rules.specs.Values.{Post, Acked, Close, Gave, Join, Ring, CloseAlarm, Message, Good, Peer, PeerId, Port}
+use Rattle.tsp_rules.specs.Values.{Master, CLOSE, SLACK, WINDOW}
+use Rattle.tsp_base.specs.Words.{Acts, Deed, Did, HeaderValue, Here, Line, MessageValue, Received, Seen, Step, Within, acting}
 use Rattle.tsp_base.specs.Words.{corrects_by, dids, first_port, in_table, is_correction, is_measured, is_starting, last_to, lives}
 use Rattle.tsp_base.specs.Words.{message_at, of, open_to, peer_of, role, started, time_of, view}
 use Rattle.tsp_base.specs.{PortFacts.in_table_after}
 use Rattle.tsp_base.proofs.PlaceLemmas.{Within_all, Within_comparable, Within_tail, Within_through}
-use Rattle.tsp_base.proofs.Views.{plain_view}
-use Rattle.tsp_promises.specs.{AckFits.AckedFits, CorrectionFits.BeginFits, CorrectionFits.Follows, Fits.Fits, Fits.SameStep, Fits.node_of, OwnFits.OwnFits}
+use Rattle.tsp_promises.specs.{AckFits.AckedFits, CorrectionFits.Follows, Fits.Fits, Fits.SameStep, Fits.node_of, OwnFits.OwnFits}
 use Rattle.tsp_promises.specs.{RoundFits.CloseFits, Seldom.SeldomAt, Setting.Setting, StepFacts.closed}
-use Rattle.tsp_promises.proofs.{promised.ErrsProof.seldom, promised.FreshProof.old_by_rest, promised.KnownProof.in_step_holds, promised.KnownProof.line_is}
-use Rattle.tsp_promises.proofs.promised.OwnFitsProof.{Given, Located, deed_fits, fits_at, fits_in, locate, own_fits, own_fits_at, place_time, seen_before, seen_in}
+use Rattle.tsp_promises.proofs.{promised.ErrsProof.seldom, promised.KnownProof.in_step_holds, promised.KnownProof.line_is}
+use Rattle.tsp_promises.proofs.promised.OwnFitsProof.{Given, Located, deed_fits, fits_at, fits_in, locate, own_fits, own_fits_at, place_time, seen_before}
+use Rattle.tsp_promises.proofs.promised.OwnFitsProof.{seen_in}
 use Rattle.tsp_promises.proofs.promised.OwnFitsProof.{seen_same, tick_in}
 use Rattle.tsp_promises.proofs.promised.SameSendProof.{AckedAt, acked_at, open_last}
-use Rattle.tsp_promises.proofs.promised.SendProof.{CorrectsTo, Opened, last_of, opened, starts_at, starts_late}
+use Rattle.tsp_promises.proofs.promised.SendProof.{Opened, last_of, opened, starts_at, starts_late}
 use Rattle.tsp_promises.proofs.{shared.Clocks.tick_mono, shared.EverywhereLemmas.Everywhere_at, shared.HistoryPlaces.Within_of, shared.HistoryPlaces.line_on}
-use Rattle.tsp_promises.proofs.{shared.HistoryPlaces.own_in, shared.RoundPlaces.closed_at, shared.RoundPlaces.started_at, shared.SendPlaces.post_fits}
+use Rattle.tsp_promises.proofs.{shared.HistoryPlaces.own_in, shared.RoundPlaces.closed_at, shared.RoundPlaces.started_at}
 use Rattle.tsp_run.specs.Clocked.{Clocks, SetByClocks}
 use Rattle.tsp_progress.specs.AckedInTime.{EndedBefore, ends_otherwise}
-use Rattle.tsp_progress.specs.{ByTable.ByTable, Delivered.Delivered, FollowOn.Calm, FollowOn.FollowUntil, GivenUp.GivesUpLate, GivenUp.Owes, InTable.Undated}
+use Rattle.tsp_progress.specs.{ByTable.ByTable, Delivered.Delivered, FollowOn.Calm, FollowOn.FollowUntil, GivenUp.GivesUpLate, GivenUp.Owes}
 use Rattle.tsp_progress.specs.{OnePort.UsesOnePort, OneWire.OneWire, ReportsSoon.is_slave_of, RolesLast.RolesLast}
 use Rattle.tsp_progress.specs.StaysIn.{InRange, IsBrief, PostsCorrection}
 use Rattle.tsp_progress.specs.TableKept.{JoinsFor, LeavesFor, TableFits, TablesLast}
 use Rattle.tsp_progress.specs.{Watched.Attended}
-use Rattle.tsp_progress.proofs.ApartLemmas.{measured_since, one_life, open_unacked, owes_sub, same_taken, within_same}
+use Rattle.tsp_progress.proofs.ApartBegins.{Begins_at, again-no, begin_fits, rested_first, why}
+use Rattle.tsp_progress.proofs.ApartLemmas.{ack_slaveup, measured_since, one_life, owes_sub, same_taken, within_same}
 use Rattle.tsp_progress.proofs.{AskedRows.AskFits, AskedRows.measured_in, FollowProof.owes_at, ReportsProof.joined_now, ReportsProof.seen_first}
-use Rattle.tsp_progress.proofs.{RoundKept.Going, RoundKept.back, SampledProof.step_of_start, SearchKept.view_within, SendKept.never, SendYoung.send_is}
-use Rattle.tsp_progress.proofs.SentRows.{Again, AtRound, JoinedNow, SentFits, SentFor}
+use Rattle.tsp_progress.proofs.{RoundKept.Going, RoundKept.back, SampledProof.step_of_start, SearchKept.view_within, SendKept.never}
+use Rattle.tsp_progress.proofs.SentRows.{AtRound, JoinedNow, SentFits, SentFor}
 use Rattle.tsp_progress.proofs.TableStays.{LeftBetween, stays_table}
-use Rattle.tsp_progress.proofs.StaysProof.{OpenCorrection, after_place, correction_numbered, date-no, open_correction, sample-no}
-
--- what is received of a peer
-abbrev received : PeerId → MessageValue → Received
-received p m = record { from = Peer p; taken = Good (Message m) }
-
-ack_slaveup : (m k : MessageValue) (p : PeerId) → m.kind ≡ Ack → k.kind ≡ SlaveUp → Some (received p m) ≡ Some (received p k) → ⊥
-ack_slaveup m k p a s e = no (sym a ∙ (ap kind_in e ∙ s)) where
-  kind_of : Taken → Kind
-  kind_of (Good (Message z)) = z.kind
-  kind_of _ = m.kind
-
-  kind_in : Option Received → Kind
-  kind_in (Some r) = kind_of r.taken
-  kind_in None = m.kind
-
-  no : Ack ≡ SlaveUp → ⊥
-  no e = cc
+use Rattle.tsp_progress.proofs.{PassedRows.PassFits, TookPlaces.after_place}
+use Rattle.tsp_progress.proofs.StaysProof.{OpenCorrection, correction_numbered, date-no, open_correction, sample-no}
 
 module _ {clocks : Clocks} {header : HeaderValue} {setting : Setting} (set : SetByClocks clocks header setting) (world : List Line)
     (table : ByTable header world) (whole : Given setting world) (gives : GivesUpLate world) (tables : TablesLast world) (uses : UsesOnePort header world)
     (roles : RolesLast world) (sent : (n : ℕ) (q : Port) → Owes SentFits (view q (of n world))) (asks : (n : ℕ) (q : Port) → Owes AskFits (view q (of n world)))
     (late long t c : ℕ) (stays : ℕ → Bool) (s : List Line) (s-in : Within s world) (attended : Attended late world) (slack : late ≤ SLACK)
     (there : stays c ≡ true) (wire : OneWire header setting stays) (calm : Calm long stays s world) (delivered : Delivered setting long t stays s world)
-    (brief : IsBrief setting long) (undated : Undated c s world) (range : InRange header long c s world) (follow : FollowUntil stays c t s world) (n : ℕ)
+    (brief : IsBrief setting long) (passed : (n : ℕ) (q : Port) → Owes PassFits (view q (of n world))) (range : InRange header long c s world)
+    (follow : FollowUntil stays c t s world) (n : ℕ)
     (stay : stays n ≡ true) (other : (n == c) ≡ false) where
   fits : Fits setting world
   fits = whole.fits
@@ -69,55 +55,9 @@ module _ {clocks : Clocks} {header : HeaderValue} {setting : Setting} (set : Set
   abbrev At : Did → List Line → List Line
   At d o = line_on first_port d ∷ o
 
-  -- a correction to n that begins there
-  record Begins_at (d : Did) (o : List Line) (m : MessageValue) : Type 0 where
-    pub place : Within (At d o) world
-    pub node : d.step.node ≡ c
-    pub corrects : CorrectsTo P m d (V o)
-
-  begin_fits : (d : Did) (o : List Line) (m : MessageValue) → Begins_at d o m → BeginFits d (V o) P m
-  begin_fits d o m x = (post_fits setting c (line_on first_port d) o P m (fits_in setting (line_on first_port d) o world fits x.place) x.node x.corrects.deed
-      x.corrects.kind).begins x.corrects.begins
-
-  why : (d : Did) (o : List Line) (m : MessageValue) → Begins_at d o m → SentFor P d (V o) m
-  why d o m x = (subst (λ k. SentFits k d (V o)) x.corrects.deed
-      (owes_at SentFits d (V o) (V world) (seen_in c (line_on first_port d) o world x.node x.place) (sent c first_port))) x.corrects.kind
-
-  -- after a rest
-  rested_first : (d : Did) (o : List Line) (m : MessageValue) (x : Begins_at d o m) (f : Did) (fo : List Line) (k : MessageValue) → Within (At f fo) o →
-      f.step.node ≡ c → f.deed ≡ Acts (Post (Peer P) (Message k)) → is_correction k.kind ≡ true →
-      ((f.tick + REUSE ≤ d.tick)) ⊎ Follows (V o) P m
-  rested_first d o m x f fo k f_in f_node f_deed f_kind = elim (begin_fits d o m x).may [
-    | inl rests ↦ inl (old_by_rest setting c n first_port d o (begun_to P (Here f ∷ V fo)) (own_fits setting c o (fits_at setting o world fits
-        (Within_tail (line_on first_port d) o world x.place))) rests (subst (λ z. boot_tick z + QUIET ≤ d.tick) (plain_view first_port (of c o))
-        (begin_fits d o m x).rested) f fo k f_in f_node f_deed f_kind refl)
-    | inr g ↦ inr g
-  ]
-
-  -- what begins isn't posted again
-  again-no : (d : Did) (o : List Line) (m : MessageValue) → Begins_at d o m → Again P d (V o) m → ⊥
-  again-no d o m x a =
-      let oc = open_correction P (V o) a.sending a.open_is (ap (λ (z : MessageValue). is_correction z.kind) a.message ∙ x.corrects.kind) in
-      let lf = locate c first_port o oc.first oc.older (let deed = oc.opens.begins.deed in rw deed refl) oc.opens.place in
-      elim (rested_first d o m x oc.first lf.older oc.opens.message lf.place lf.node oc.opens.begins.deed oc.corrects) [
-        | inl old ↦
-            let send = send_is P (V o) oc.first oc.older oc.opens.message oc.is oc.opens.begins.deed in
-            let began = ap began_in (sym a.open_is ∙ send) in
-            let soon = a.soon in
-            omega (arith, old, began, soon)
-        | inr g ↦
-            let deed = oc.opens.begins.deed in
-            let corrects : corrects_by (message_at (open_to P (V o))) ≡ true = ap (λ z. corrects_by (message_at z)) oc.is ∙
-            (let same : corrects_by (message_at (Here oc.first ∷ oc.older)) ≡ is_correction oc.opens.message.kind = rw deed refl in same ∙ oc.corrects) in
-            true≢false (sym g.acknowledged ∙ open_unacked P (V o) corrects)
-      ]
-    where
-      began_in : Option Sending → ℕ
-      began_in None = a.sending.began
-      began_in (Some z) = z.began
-
   -- C begins, because its last correction L was acknowledged
-  module _ (d : Did) (o : List Line) (m : MessageValue) (x : Begins_at d o m) (since : Within s o) (until : d.step.at ≤ t) (g : Follows (V o) P m) where
+  module _ (d : Did) (o : List Line) (m : MessageValue) (x : Begins_at setting world fits sent c n d o m) (since : Within s o) (until : d.step.at ≤ t)
+      (g : Follows (V o) P m) where
     o-in : Within o world
     o-in = Within_tail (line_on first_port d) o world x.place
 
@@ -133,7 +73,7 @@ module _ {clocks : Clocks} {header : HeaderValue} {setting : Setting} (set : Set
     l-o : Within L o
     l-o = lf.place
 
-    l-begins : Begins_at g.last lf.older op.message
+    l-begins : Begins_at setting world fits sent c n g.last lf.older op.message
     l-begins = record {
       place = Within_through L o world lf.place o-in;
       node = lf.node;
@@ -195,7 +135,7 @@ module _ {clocks : Clocks} {header : HeaderValue} {setting : Setting} (set : Set
         (Within_through (Here close ∷ past) (Here g.last ∷ g.older) acked.rest (inr within) l-rest) in
         let took = same_taken setting first_port close past r (of c o) (of c la.older) (own_fits setting c o (fits_at setting o world fits o-in))
         (Within_of c la.older o (Within_tail (line_on first_port acked.acked) la.older o la.place)) c-is close-a ack.took in
-        elim (begin_fits d o m x).from [
+        elim (begin_fits setting world fits sent c n d o m x).from [
           | inl up ↦ ack_slaveup ack.message up.message P ack.kind up.kind (sym took ∙ up.took)
           | inr k ↦ let bad : None ≡ Some r = sym k.is.untaken ∙ took in some-no r bad
         ]
@@ -203,31 +143,35 @@ module _ {clocks : Clocks} {header : HeaderValue} {setting : Setting} (set : Set
         some-no : (r : Received) → None ≡ Some r → ⊥
         some-no r e = cc
 
-    l-late : time_of (dids s) + 2 * WINDOW < g.last.step.at → Within s lf.older
+    l-late : time_of (dids s) + 3 * WINDOW < g.last.step.at → Within s lf.older
     l-late less = after_place setting s world fits s-in (line_on first_port g.last) lf.older l-begins.place (omega (arith, less))
 
     -- right after L its addressee is in the table
     l-table : is_slave_of c n L ≡ true
     l-table = ap (in_table P) (seen_first c (line_on first_port g.last) lf.older lf.node refl) ∙
-        (ap (λ k. in_table_after P k (in_table P (V lf.older))) op.begins.deed ∙ was (why g.last lf.older op.message l-begins)) where
-          was : SentFor P g.last (V lf.older) op.message → in_table P (V lf.older) ≡ true
-          was (inl j) = ap (in_table P) j.is ∙ (ap (λ k. in_table_after P k (in_table P j.older)) j.deed ∙
-              joined_now (n == n) (in_table P j.older) (eq-eqb n n refl))
-          was (inr (inl r)) = r.kept (measured_in P r.past (owes_sub AskFits r.past (V world) (past-in r) (asks c first_port)) r.measured) where
-            past-in : (r : AtRound P g.last (V lf.older)) → Within r.past (V world)
-            past-in r = Within_through r.past (V lf.older) (V world) (Within_tail (Here r.close) r.past (V lf.older) (closed_at (V lf.older) r.close r.past r.is))
-                (view_within first_port (of c lf.older) (of c world) (Within_of c lf.older world (Within_tail (line_on first_port g.last) lf.older world l-begins.place)))
-          was (inr (inr a)) = absurd (again-no g.last lf.older op.message l-begins a)
+        (ap (λ k. in_table_after P k (in_table P (V lf.older))) op.begins.deed ∙ was (why setting world fits sent c n g.last lf.older op.message l-begins))
+      where
+        was : SentFor P g.last (V lf.older) op.message → in_table P (V lf.older) ≡ true
+        was (inl j) = ap (in_table P) j.is ∙ (ap (λ k. in_table_after P k (in_table P j.older)) j.deed ∙
+            joined_now (n == n) (in_table P j.older) (eq-eqb n n refl))
+        was (inr (inl r)) = r.kept (measured_in P r.past (owes_sub AskFits r.past (V world) (past-in r) (asks c first_port)) r.measured) where
+          past-in : (r : AtRound P g.last (V lf.older)) → Within r.past (V world)
+          past-in r = Within_through r.past (V lf.older) (V world) (Within_tail (Here r.close) r.past (V lf.older)
+              (closed_at (V lf.older) r.close r.past r.is))
+              (view_within first_port (of c lf.older) (of c world) (Within_of c lf.older world (Within_tail (line_on first_port g.last) lf.older world
+              l-begins.place)))
+        was (inr (inr a)) = absurd (again-no setting world fits sent c n g.last lf.older op.message l-begins a)
 
     -- so C doesn't follow a Join
-    module _ (far : time_of (dids s) + 2 * WINDOW < g.last.step.at) where
+    module _ (far : time_of (dids s) + 3 * WINDOW < g.last.step.at) where
       joined-no : JoinedNow P (V o) → ⊥
       joined-no j =
           let lj = locate c first_port o j.join j.older (let deed = j.deed in rw deed refl) (subst (λ z. Within (Here j.join ∷ j.older) z) (sym j.is)
           (Within_all (Here j.join ∷ j.older))) in
           let j-world : Within (At j.join lj.older) world = Within_through (At j.join lj.older) o world lj.place o-in in
           let fit : JoinsFor P j.older = subst (λ k. TableFits k j.join j.older) j.deed (owes_at TableFits j.join j.older (V world)
-          (subst (λ z. Within (Here j.join ∷ z) (V world)) lj.before (seen_in c (line_on first_port j.join) lj.older world lj.node j-world)) (tables c first_port)) in
+          (subst (λ z. Within (Here j.join ∷ z) (V world)) lj.before (seen_in c (line_on first_port j.join) lj.older world lj.node j-world))
+          (tables c first_port)) in
           let l-seen : Within (Here g.last ∷ g.older) j.older = elim (subst (λ z. Within (Here g.last ∷ g.older) z) j.is op.place) [
             | inl e ↦ absurd (not_post j.join j.older (Acts (Join P)) j.deed (λ z e. let bad : ⊥ = cc in bad) e)
             | inr v ↦ v
@@ -252,12 +196,13 @@ module _ {clocks : Clocks} {header : HeaderValue} {setting : Setting} (set : Set
               let up = place_time setting (y.line ∷ y.before) h (fits_at setting h world fits h-world) y-h in
               let down = place_time setting L (y.line ∷ y.before) (fits_at setting (y.line ∷ y.before) world fits y-world) (inr y.since) in
               let y-until : y.line.did.step.at ≤ t = omega (arith, up, h-until) in
-              let y-far : time_of (dids s) + 2 * WINDOW < y.line.did.step.at = omega (arith, down, far) in
+              let y-far : time_of (dids s) + 3 * WINDOW < y.line.did.step.at = omega (arith, down, far) in
               let before-is : view y.line.port (of (node_of y.line) y.before) ≡ V y.before =
               ap (λ q. view q (of (node_of y.line) y.before)) y-port ∙ ap (λ j. view first_port (of j y.before)) y.node in
               let fit : LeavesFor P y.line.did (view y.line.port (of (node_of y.line) y.before)) = subst (λ k. TableFits k y.line.did
               (view y.line.port (of (node_of y.line) y.before))) y.deed (owes_at TableFits y.line.did (view y.line.port (of (node_of y.line) y.before))
-              (view y.line.port (of (node_of y.line) world)) (seen_in (node_of y.line) y.line y.before world refl y-world) (tables (node_of y.line) y.line.port)) in
+              (view y.line.port (of (node_of y.line) world)) (seen_in (node_of y.line) y.line y.before world refl y-world)
+              (tables (node_of y.line) y.line.port)) in
               elim fit [
                 | inl gv ↦
                     let is : V y.before ≡ Here gv.gave ∷ gv.older = sym before-is ∙ gv.is in
@@ -268,11 +213,14 @@ module _ {clocks : Clocks} {header : HeaderValue} {setting : Setting} (set : Set
                       | inr v ↦ v
                     ] in
                     let y-o : Within y.before o = Within_through y.before h o (Within_tail y.line y.before h y-h) h-o in
-                    gave-no gv.gave gv.older (subst (λ z. Within z (V o)) is (view_within first_port (of c y.before) (of c o) (Within_of c y.before o y-o))) gv.deed
+                    gave-no gv.gave gv.older (subst (λ z. Within z (V o)) is (view_within first_port (of c y.before) (of c o) (Within_of c y.before o y-o)))
+                    gv.deed
                     l-w (open_correction P gv.older gv.sending gv.open_is gv.kind)
-                | inr (inl u) ↦ sample-no set world table whole gives tables uses late long t c stays s s-in attended slack there wire calm delivered brief undated
+                | inr (inl u) ↦ sample-no set world table whole gives tables uses late long t c stays s s-in attended slack there wire calm delivered brief
+                    passed
                     range y.line y.before y-world y-since y-far y-until y.node n stay other y.deed u
-                | inr (inr k) ↦ date-no set world table whole gives tables uses late long t c stays s s-in attended slack there wire calm delivered brief undated
+                | inr (inr k) ↦ date-no set world table whole gives tables uses late long t c stays s s-in attended slack there wire calm delivered brief
+                    passed
                     range y.line y.before y-world y-since y-far y-until y.node n stay other y.deed k
               ]
 
@@ -353,7 +301,8 @@ module _ {clocks : Clocks} {header : HeaderValue} {setting : Setting} (set : Set
         by-why : Within (At close.start ls.older) lf.older → SentFor P g.last (V lf.older) op.message → g.last.tick + CLOSE ≤ d.tick
         by-why begun (inl j) = if-joined j (is_starting (V lf.older)) refl where
           start-v : Within (Here close.start ∷ close.idle) (V lf.older)
-          start-v = subst (λ z. Within (Here close.start ∷ z) (V lf.older)) ls.before (seen_in c (line_on first_port close.start) ls.older lf.older ls.node begun)
+          start-v = subst (λ z. Within (Here close.start ∷ z) (V lf.older)) ls.before (seen_in c (line_on first_port close.start) ls.older lf.older ls.node
+              begun)
 
           v-ring : Within (V lf.older) close.past
           v-ring = subst (λ z. Within z close.past) (sym lf.before) (Within_tail (Here g.last) g.older close.past l-ring)
@@ -414,23 +363,24 @@ module _ {clocks : Clocks} {header : HeaderValue} {setting : Setting} (set : Set
             let tick = same-tick in
             let l-is = l-tick in
             omega (arith, far-apart, q-tick, same, tick, l-is)
-        by-why begun (inr (inr a)) = absurd (again-no g.last lf.older op.message l-begins a)
+        by-why begun (inr (inr a)) = absurd (again-no setting world fits sent c n g.last lf.older op.message l-begins a)
 
         by_order : Within L S ⊎ Within S L → g.last.tick + CLOSE ≤ d.tick
         by_order (inl v) = if-before (place_time setting L (At close.start ls.older) (fits_at setting (At close.start ls.older) world fits s-world) v)
         by_order (inr (inl e)) = if-before (let same = ap (λ (z : List Line). time_of (dids z)) e in omega (arith, same))
-        by_order (inr (inr v)) = by-why v (why g.last lf.older op.message l-begins)
+        by_order (inr (inr v)) = by-why v (why setting world fits sent c n g.last lf.older op.message l-begins)
 
       -- so they begin apart
       last_apart : g.last.tick + CLOSE ≤ d.tick
-      last_apart = by_reason (why d o m x) where
+      last_apart = by_reason (why setting world fits sent c n d o m x) where
         by_reason : SentFor P d (V o) m → g.last.tick + CLOSE ≤ d.tick
         by_reason (inl j) = absurd (joined-no j)
         by_reason (inr (inl r)) = round_apart r
-        by_reason (inr (inr a)) = absurd (again-no d o m x a)
+        by_reason (inr (inr a)) = absurd (again-no setting world fits sent c n d o m x a)
 
     -- each correction that began before C did so by then
-    all_apart : (f : Did) (fo : List Line) (k : MessageValue) → Begins_at f fo k → Within (At f fo) o → time_of (dids s) + 2 * WINDOW < f.step.at →
+    all_apart : (f : Did) (fo : List Line) (k : MessageValue) → Begins_at setting world fits sent c n f fo k → Within (At f fo) o →
+        time_of (dids s) + 3 * WINDOW < f.step.at →
         f.tick + CLOSE ≤ d.tick
     all_apart f fo k y f-in f-far =
         let f-seen : Within (Here f ∷ V fo) (V o) = seen_in c (line_on first_port f) fo o y.node f-in in
@@ -448,7 +398,7 @@ module _ {clocks : Clocks} {header : HeaderValue} {setting : Setting} (set : Set
         omega (arith, f-tick, g-tick, mono, apart)
 
   begins_line : (l : Line) (older : List Line) (m : MessageValue) → PostsCorrection c n l older world m → acting (view l.port (of c older)) ≡ true →
-      Within s older → Begins_at l.did older m
+      Within s older → Begins_at setting world fits sent c n l.did older m
   begins_line l older m posts begins since =
       let port : l.port ≡ first_port = uses l older posts.place (wire.single (node_of l) (calm.only l older posts.place since))
       (let deed = posts.deed in rw deed refl) in
@@ -460,7 +410,7 @@ module _ {clocks : Clocks} {header : HeaderValue} {setting : Setting} (set : Set
 
   pub begin_apart : (l : Line) (older : List Line) → Within (l ∷ older) world → Within s older → l.did.step.at ≤ t → (m k : MessageValue) (early : Line)
       (before : List Line) → PostsCorrection c n l older world m → PostsCorrection c n early before older k →
-      time_of (dids s) + 2 * WINDOW < early.did.step.at → acting (view l.port (of c older)) ≡ true → acting (view early.port (of c before)) ≡ true →
+      time_of (dids s) + 3 * WINDOW < early.did.step.at → acting (view l.port (of c older)) ≡ true → acting (view early.port (of c before)) ≡ true →
       early.did.tick + CLOSE ≤ l.did.tick
   begin_apart l older place since until m k early before posts posts-e far begins begins-e =
       let e-world : Within (early ∷ before) world = Within_through (early ∷ before) older world posts-e.place (Within_tail l older world place) in
@@ -470,7 +420,7 @@ module _ {clocks : Clocks} {header : HeaderValue} {setting : Setting} (set : Set
       let e-port : early.port ≡ first_port = uses early before e-world (wire.single (node_of early) (calm.only early before e-world e-since))
       (let deed = posts-e.deed in rw deed refl) in
       let e-in : Within (At early.did before) older = subst (λ z. Within (z ∷ before) older) (sym (line_is early first_port e-port)) posts-e.place in
-      elim (rested_first l.did older m x early.did before k e-in y.node posts-e.deed posts-e.kind) [
+      elim (rested_first setting world fits sent c n l.did older m x early.did before k e-in y.node posts-e.deed posts-e.kind) [
         | inl old ↦ omega (arith, old)
         | inr g ↦ all_apart l.did older m x since until g early.did before k y e-in far
       ]

@@ -1,6 +1,7 @@
 -- A master asks only who is in its table; so whoever is measured is in it.
 use Rattle.std.proofs.Common.{sym, subst, true≢false, ◌∙◌, ◌≡◌, ℕ, ◌%◌, ◌^◌, ◌==◌, ◌&&◌, Bool, true, false, filter, if◌then◌else◌, List, [], ◌∷◌, refl}
-use Rattle.tsp_rules.specs.Values.{Act, Boot, Become, Arm, Post, Ring, Late, Join, Leave, Abandon, Alarm, Quiet, Search, Elect, Window, Probe, CloseAlarm, ResolveAlarm}
+use Rattle.tsp_rules.specs.Values.{Act, Boot, Become, Arm, Post, Ring, Late, Join, Leave, Abandon, Alarm, Quiet, Search, Elect, Window, Probe, CloseAlarm}
+use Rattle.tsp_rules.specs.Values.{ResolveAlarm}
 use Rattle.tsp_rules.specs.Values.{Round, MasterUp, PeerId, Peer, Port, Stamp, Request, Event, CLOSE, PROBE, ROUND, WAIT}
 use Rattle.tsp_base.specs.Words.{Acts, Deed, Did, Elsewhere, HeaderValue, Here, Leads, Past, Row, Seen, arms, asked, either_by, for_each, in_table, is_measured}
 use Rattle.tsp_base.specs.Words.{is_starting, nothing, of, plain, posts_to_others, puts, view, word, ◌followed_by◌}
@@ -10,9 +11,11 @@ use Rattle.tsp_rules.specs.{Answers.alarm_rings, Answers.rings, Guards.is_due, G
 use Rattle.tsp_rules.specs.RoundRows.{abandons, arms_next, asks, asks_measured, asks_slaves, begins_or_waits, has_more, measured_at, probe_rings, round_begins}
 use Rattle.tsp_rules.specs.RoundRows.{round_rings}
 use Rattle.tsp_rules.proofs.GuardFacts.{same_peer}
-use Rattle.tsp_rules.proofs.BuiltRoles.{built_elect_rings, built_quiet_rings, built_resolve_rings, built_search_rings, built_window_rings, resolve_sorts, window_sorts}
+use Rattle.tsp_rules.proofs.BuiltRoles.{built_elect_rings, built_quiet_rings, built_resolve_rings, built_search_rings, built_window_rings, resolve_sorts}
+use Rattle.tsp_rules.proofs.BuiltRoles.{window_sorts}
 use Rattle.tsp_rules.proofs.{BuiltRounds.built_close_rings, BuiltRounds.close_sorts, BuiltSends.built_due_sends, BuiltSends.send_sorts}
-use Rattle.tsp_rules.proofs.{BuiltShared.loose_sorts, BuiltShared.standing_sorts, EmitsBuilt.emits_built, EmitsBuilt.nothing_owed, Built.Built, Unchanged.unchanged}
+use Rattle.tsp_rules.proofs.{BuiltShared.loose_sorts, BuiltShared.standing_sorts, EmitsBuilt.emits_built, EmitsBuilt.nothing_owed, Built.Built}
+use Rattle.tsp_rules.proofs.{Unchanged.unchanged}
 use Rattle.tsp_rules.proofs.Emits.{Sort, Alarming, Asking, Emits_posts_to_others, Posting, is_in, is_part, sort_of}
 use Rattle.tsp_run.specs.Clocked.{Clocks, run_by}
 use Rattle.tsp_progress.specs.GivenUp.{Owes}
@@ -92,11 +95,14 @@ asks_all : (ps : List PeerId) → Leads (Asking_these ps) (for_each asks ps) Bas
 unfolding for_each asks
 asks_all [] = Leads_from (λ x past h. h.paid) Leads_nothing
 asks_all (p ∷ ps) = Leads_then {Q = Asking_these ps} (asks p) (for_each asks ps) (record {
-  run = λ x past h. record { paid = (h.all.0, h.paid); all = after_ask (record {
-    step = past.step;
-    tick = x;
-    deed = Acts (Post (Peer p) (Stamp (Request (word (plain past.seen)) (asked past.seen % 2 ^ 64))));
-  }) past.seen ps (λ q. refl) h.all.1 };
+  run = λ x past h. record {
+    paid = (h.all.0, h.paid);
+    all = after_ask (record {
+      step = past.step;
+      tick = x;
+      deed = Acts (Post (Peer p) (Stamp (Request (word (plain past.seen)) (asked past.seen % 2 ^ 64))));
+    }) past.seen ps (λ q. refl) h.all.1;
+  };
 }) (asks_all ps)
 
 -- the alarms

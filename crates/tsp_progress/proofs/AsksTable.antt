@@ -1,11 +1,12 @@
 -- A round asks each peer in the slave table, after it began.
-use Rattle.std.proofs.Common.{sym, ap, subst, true≢false, ◌∙◌, ◌≡◌, ◌||◌, ℕ, ◌==◌, ◌+◌, ◌%◌, ◌^◌, if◌then◌else◌, Bool, true, false, List, [], ◌∷◌, ◌++◌, map, eqb-true, eq-eqb, refl}
-use Rattle.tsp_rules.specs.Values.{Act, Arm, Ring, Late, Round, Probe, CloseAlarm, Post, Message, Stamp, Request, Peer, PeerId, Place, Datagram, MasterUp}
+use Rattle.std.proofs.Common.{sym, ap, subst, true≢false, ◌∙◌, ◌≡◌, ◌||◌, ℕ, ◌==◌, ◌+◌, ◌%◌, ◌^◌, if◌then◌else◌, Bool, true, false, List, [], ◌∷◌, ◌++◌, map}
+use Rattle.std.proofs.Common.{refl}
+use Rattle.tsp_rules.specs.Values.{Act, Arm, Ring, Late, Round, Probe, CloseAlarm, Post, Stamp, Request, Peer, PeerId, Place, Datagram, MasterUp}
 use Rattle.tsp_rules.specs.Values.{CLOSE, PROBE, ROUND}
 use Rattle.tsp_rules.specs.{Answers.alarm_rings, GateRows.waits, Guards.is_in_time, Guards.table_at, NodeRows.NodePast}
 use Rattle.tsp_rules.specs.RoundRows.{asks, asks_slaves, begins_or_waits, round_begins, round_rings}
 use Rattle.tsp_rules.proofs.GuardFacts.{same_peer}
-use Rattle.tsp_base.specs.Words.{Acts, Did, Here, Line, Past, Seen, Step, Within, arms, asked, either_by, first_port, for_each, grown, in_table, is_among, is_starting}
+use Rattle.tsp_base.specs.Words.{Acts, Line, Past, Step, Within, arms, asked, either_by, first_port, for_each, grown, in_table, is_among, is_starting}
 use Rattle.tsp_base.specs.Words.{joined, line_of, nothing, others, placed, plain, post_of, posts_to_others, puts, reading, started, view, word, ◌followed_by◌}
 use Rattle.tsp_progress.specs.ByTable.{KeepsTable, before_line, port_before}
 use Rattle.tsp_progress.specs.{Heeds.DoesNext}

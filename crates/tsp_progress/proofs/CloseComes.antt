@@ -1,24 +1,23 @@
 -- At each true time the last Close of a master is at most a round and a few seconds ago.
-use Rattle.std.proofs.Common.{sym, ap, subst, arith, true≢false, inl, inr, ◌∙◌, ◌≡◌, ◌≢◌, ◌≤◌, ◌<◌, ◌⊎◌, ◌||◌, ℕ, ◌+◌, ◌-◌, ◌*◌, ◌/◌, ◌==◌, ℤ, Bool, true, false}
-use Rattle.std.proofs.Common.{List, [], ◌∷◌, ◌++◌, map, Some, eqb-true, eq-eqb, refl}
+use Rattle.std.proofs.Common.{sym, ap, subst, arith, true≢false, inl, inr, ◌∙◌, ◌≡◌, ◌≤◌, ◌<◌, ◌⊎◌, ◌||◌, ℕ, ◌+◌, ◌-◌, ◌*◌, ◌==◌, ℤ, Bool, true, false}
+use Rattle.std.proofs.Common.{List, [], ◌∷◌, ◌++◌, map, eqb-true, eq-eqb, refl}
 use Rattle.std.proofs.lemmas.Bool.{cases_lt, or_parts}
-use Rattle.tsp_rules.specs.Values.{Abandon, Act, Arm, Boot, Close, Late, Ring, Alarm, CloseAlarm, Probe, Round, MasterUp, PeerId, CLOSE, PROBE, ROUND, SLACK}
-use Rattle.tsp_rules.specs.{GateRows.waits}
-use Rattle.tsp_base.specs.Words.{Acts, Begins, Deed, Did, HeaderValue, Here, Line, Seen, Within, armed, deadline, dids, first_port, in_table, is_shared, line_of, of, others}
-use Rattle.tsp_base.specs.Words.{peer_of, post_of, seen_as, started, time_of, view}
+use Rattle.tsp_rules.specs.Values.{Act, Arm, Close, CloseAlarm, Probe, Round, MasterUp, PeerId, CLOSE, PROBE, ROUND, SLACK}
+use Rattle.tsp_base.specs.Words.{Acts, Begins, Deed, Did, HeaderValue, Line, Seen, Within, dids, first_port, in_table, is_shared, line_of, of, others}
+use Rattle.tsp_base.specs.Words.{peer_of, post_of, seen_as, time_of, view}
 use Rattle.tsp_base.proofs.PlaceLemmas.{Within_all, Within_tail, Within_through}
-use Rattle.tsp_promises.specs.{DeedFits.DeedFits, Fits.Fits, Fits.LineFits, Fits.node_of, RoundFits.CloseFits, RoundFits.StartFits, Setting.Setting}
+use Rattle.tsp_promises.specs.{DeedFits.DeedFits, Fits.LineFits, Fits.node_of, Setting.Setting}
 use Rattle.tsp_promises.specs.{Setting.setup_of}
 use Rattle.tsp_promises.proofs.{shared.Clocks.near, shared.Clocks.tick_mono, shared.EverywhereLemmas.Everywhere_at, shared.HistoryPlaces.line_on}
 use Rattle.tsp_promises.proofs.{shared.HistoryPlaces.Within_of, shared.HistoryPlaces.of_other, shared.HistoryPlaces.of_own}
 use Rattle.tsp_promises.proofs.promised.OwnFitsProof.{fits_at, fits_in, place_time, tick_in}
 use Rattle.tsp_run.specs.Clocked.{Clocks}
-use Rattle.tsp_progress.specs.{AgreesAlways.round_age, AlarmsFit.AlarmsFit, AlarmsFit.owes_next, ByTable.before_line, ByTable.node_in, ByTable.port_before, FollowOn.FollowUntil, InTable.GivesUpNone}
+use Rattle.tsp_progress.specs.{AgreesAlways.round_age, AlarmsFit.AlarmsFit, ByTable.before_line, ByTable.node_in, ByTable.port_before, InTable.GivesUpNone}
 use Rattle.tsp_progress.specs.{RunsWake.manner_of, Wakes.Wakes, Wakes.WokenAt, Watched.AttendedAt, Watched.Watched}
-use Rattle.tsp_progress.proofs.{AllAsked.Asked, AllAsked.on_first, FollowCalls.Cut, FollowCalls.RoundActs, FollowCalls.cut, FollowCalls.round_acts}
-use Rattle.tsp_progress.proofs.{FollowHeard.Ringing, FollowHeard.nil_within, FollowHeard.ringing, FollowHeard.single_waits, NeverLateProof.never_late}
-use Rattle.tsp_progress.proofs.{RoundCloses.ClosedBy, RoundCloses.Goes, RoundCloses.Going, RoundCloses.Mild, RoundCloses.Rung, RoundCloses.goes_deed}
-use Rattle.tsp_progress.proofs.{RoundCloses.rung_owes, SearchKept.alarms_within, SearchKept.view_within, TableRows.within_joined}
+use Rattle.tsp_progress.proofs.{AllAsked.Tended, AllAsked.on_first, FollowCalls.Cut, FollowCalls.RoundActs, FollowCalls.cut, FollowCalls.round_acts}
+use Rattle.tsp_progress.proofs.{FollowHeard.RoundRang, FollowHeard.ringing, FollowHeard.single_waits, NeverLateProof.never_late}
+use Rattle.tsp_progress.proofs.{RoundCloses.Goes, RoundCloses.Going, RoundCloses.KeepsRound, RoundCloses.Rung, RoundCloses.goes_deed}
+use Rattle.tsp_progress.proofs.{RoundCloses.rung_owes, SearchKept.alarms_within, SearchKept.view_within}
 use Rattle.tsp_progress.proofs.WorldPlaces.{WorldPlace, act_place, in_order, own_place, world_place}
 
 -- a look at an earlier time
@@ -54,7 +53,7 @@ more c l h k = record {
 }
 
 module _ {clocks : Clocks} {header : HeaderValue} {setting : Setting} (late long t : ℕ) (stays : ℕ → Bool) (c : ℕ) (s world : List Line)
-    (a : Asked clocks header setting late long t stays c s world) (gives : GivesUpNone c s world) (n : ℕ) (there : stays n ≡ true)
+    (a : Tended clocks header setting late long t stays c s world) (gives : GivesUpNone c s world) (n : ℕ) (there : stays n ≡ true)
     (other : (n == c) ≡ false) (x : ℕ) (lower : time_of (dids s) + ROUND + 12 * SLACK ≤ x) (upper : x ≤ t) where
   abbrev P : PeerId
   P = peer_of n
@@ -62,7 +61,7 @@ module _ {clocks : Clocks} {header : HeaderValue} {setting : Setting} (late long
   abbrev Time : ℕ
   Time = x - 9010000
 
-  rang : Ringing setting late c s world Time
+  rang : RoundRang setting late c s world Time
   rang = ringing a.set world a.table a.fits (manner_of header) a.woken a.wakes late long t c stays s a.attended a.slack a.told a.one a.delivered a.s_in Time n
       there other (omega (arith, upper)) (omega (arith, lower)) (λ h w v le. (a.follow h w v (omega (arith, le, upper))).leads)
 
@@ -105,7 +104,8 @@ module _ {clocks : Clocks} {header : HeaderValue} {setting : Setting} (late long
       map (post_of MasterUp 0 past.name) (others past.own past.peers) ++ acts.rest
 
   began : WorldPlace c Yl Own world
-  began = world_place c Yl Own world (act_place rang.ring.step X first_port (Arm CloseAlarm (X + CLOSE)) (Arm Round (X + ROUND) ∷ Arm Probe (X + PROBE) ∷ Arm CloseAlarm (X + CLOSE) ∷ Back) (L ∷ of c rang.older) (of c world)
+  began = world_place c Yl Own world (act_place rang.ring.step X first_port (Arm CloseAlarm (X + CLOSE)) (Arm Round (X + ROUND) ∷ Arm Probe (X + PROBE) ∷
+      Arm CloseAlarm (X + CLOSE) ∷ Back) (L ∷ of c rang.older) (of c world)
       (record { front = Arm Round (X + ROUND) ∷ Arm Probe (X + PROBE) ∷ []; back = Back; is = refl }) acts.next)
 
   began-since : Within s began.older
@@ -209,7 +209,8 @@ module _ {clocks : Clocks} {header : HeaderValue} {setting : Setting} (late long
           };
           over = k.over;
         })
-        | inr k ↦ inr (subst (λ ls. Goes Y Idle (view first_port ls)) (sym own) (subst (λ b. Goes Y Idle (seen_as b l.did ∷ view first_port (of c h))) (sym f) k))
+        | inr k ↦ inr (subst (λ ls. Goes Y Idle (view first_port ls)) (sym own) (subst (λ b. Goes Y Idle (seen_as b l.did ∷ view first_port (of c h))) (sym f)
+            k))
       ] where
         deeds : (deed : Deed) → l.did.deed ≡ deed → DeedFits (setup_of setting c first_port) deed l.did (view first_port (of c h))
         deeds deed is = subst (λ d. DeedFits (setup_of setting c first_port) d l.did (view first_port (of c h))) is
@@ -219,7 +220,7 @@ module _ {clocks : Clocks} {header : HeaderValue} {setting : Setting} (late long
         fit = alarms_within (manner_of header c) (view first_port (of c (l ∷ h))) (view first_port (of c world))
             (view_within first_port (of c (l ∷ h)) (of c world) (Within_of c (l ∷ h) world place)) (a.wakes c first_port).acts
 
-        mild : Mild (manner_of header c) P Y l.did (view first_port (of c h))
+        mild : KeepsRound (manner_of header c) P Y l.did (view first_port (of c h))
         mild = record {
           unbooted = a.calm.unbooted l h place since-s;
           timely = Everywhere_at _ l h world (never_late (manner_of header) setting late world a.fits a.wakes a.attended a.slack) place;

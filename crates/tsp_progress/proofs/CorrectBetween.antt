@@ -1,5 +1,5 @@
 -- Between two places of a calm history a node corrects its clock, or its ticket stays.
-use Rattle.std.proofs.Common.{sym, ap, subst, arith, inl, inr, ◌∙◌, ◌≡◌, ◌≢◌, ◌≤◌, ◌⊎◌, ℕ, ◌==◌, ℤ, Bool, true, false, List, [], ◌∷◌, Option, None, Some, eqb-true}
+use Rattle.std.proofs.Common.{sym, subst, inl, inr, ◌∙◌, ◌≡◌, ◌≢◌, ◌⊎◌, ℕ, ◌==◌, ℤ, Bool, true, false, List, [], ◌∷◌, Some, eqb-true}
 use Rattle.std.proofs.Common.{refl}
 use Rattle.tsp_rules.specs.Values.{Boot, Correct}
 use Rattle.tsp_base.specs.Words.{Acts, Deed, Did, Line, Undisturbed, Within, all_corrects, correct_tick, dids, last_correct, lives, of, ticket}
@@ -22,7 +22,7 @@ pub record Between (n : ℕ) (g h : List Line) : Type 0 where
   pub deed : line.did.deed ≡ Acts (Correct amount stepped shown)
 
 -- there is none
-pub record Quiet (n : ℕ) (g h : List Line) : Type 0 where
+pub record NoneBetween (n : ℕ) (g h : List Line) : Type 0 where
   pub left : Undisturbed (dids (of n g)) (dids (of n h))
   pub ticket_is : ticket (dids (of n h)) ≡ ticket (dids (of n g))
   pub tick_is : correct_tick (dids (of n h)) ≡ correct_tick (dids (of n g))
@@ -61,20 +61,20 @@ later n g l h b = record {
   deed = b.deed;
 }
 
-pub quiet_here : (n : ℕ) (g h : List Line) → g ≡ h → Quiet n g h
-quiet_here n g h e = subst (λ z. Quiet n g z) e (record { left = record { corrects = refl; lives = refl }; ticket_is = refl; tick_is = refl })
+pub quiet_here : (n : ℕ) (g h : List Line) → g ≡ h → NoneBetween n g h
+quiet_here n g h e = subst (λ z. NoneBetween n g z) e (record { left = record { corrects = refl; lives = refl }; ticket_is = refl; tick_is = refl })
 
 module _ (world : List Line) (long : ℕ) (stays : ℕ → Bool) (s : List Line) (calm : Calm long stays s world) where
-  pub between : (n : ℕ) (g h : List Line) → Within s g → Within g h → Within h world → Between n g h ⊎ Quiet n g h
+  pub between : (n : ℕ) (g h : List Line) → Within s g → Within g h → Within h world → Between n g h ⊎ NoneBetween n g h
   between n g [] since w v = inr (quiet_here n g [] w)
   between n g (l ∷ h) since (inl e) v = inr (quiet_here n g (l ∷ h) e)
   between n g (l ∷ h) since (inr w) v = elim (between n g h since w (Within_tail l h world v)) [
     | inl b ↦ inl (later n g l h b)
     | inr q ↦ by_node (node_of l == n) refl q
   ] where
-    by_node : (b : Bool) → (node_of l == n) ≡ b → Quiet n g h → Between n g (l ∷ h) ⊎ Quiet n g (l ∷ h)
+    by_node : (b : Bool) → (node_of l == n) ≡ b → NoneBetween n g h → Between n g (l ∷ h) ⊎ NoneBetween n g (l ∷ h)
     by_node false e q = inr (subst (λ ls. Undisturbed (dids (of n g)) (dids ls) × (ticket (dids ls) ≡ ticket (dids (of n g))) × (correct_tick (dids ls) ≡
-        correct_tick (dids (of n g))) → Quiet n g (l ∷ h)) (of_other n l h e) (λ z. record { left = z.0; ticket_is = z.1; tick_is = z.2 })
+        correct_tick (dids (of n g))) → NoneBetween n g (l ∷ h)) (of_other n l h e) (λ z. record { left = z.0; ticket_is = z.1; tick_is = z.2 })
         (q.left, q.ticket_is, q.tick_is))
     by_node true e q =
         let node = eqb-true (node_of l) n e in
@@ -91,7 +91,7 @@ module _ (world : List Line) (long : ℕ) (stays : ℕ → Bool) (s : List Line)
             deed = m.is;
           })
           | inr k ↦ inr (subst (λ ls. Undisturbed (dids (of n g)) (dids ls) × (ticket (dids ls) ≡ ticket (dids (of n g))) × (correct_tick (dids ls) ≡
-              correct_tick (dids (of n g))) → Quiet n g (l ∷ h)) (of_own n l h node) (λ z. record { left = z.0; ticket_is = z.1; tick_is = z.2 }) (
+              correct_tick (dids (of n g))) → NoneBetween n g (l ∷ h)) (of_own n l h node) (λ z. record { left = z.0; ticket_is = z.1; tick_is = z.2 }) (
                 record { corrects = q.left.corrects ∙ sym k.corrects_are; lives = q.left.lives ∙ sym k.lives_are },
                 k.ticket_is ∙ q.ticket_is,
                 k.tick_is ∙ q.tick_is,

@@ -1,12 +1,12 @@
 -- A close corrects each measured peer that has a sample, if the last correction to it is old.
 use Rattle.std.proofs.Common.{sym, ap, subst, true≢false, ◌∙◌, ◌≡◌, ◌⊎◌, inl, inr, ◌||◌, ◌&&◌, ℕ, ◌==◌, ◌-ℤ◌, ℤ, Bool, true, false, List, [], ◌∷◌, ◌++◌, map}
-use Rattle.std.proofs.Common.{if◌then◌else◌, Option, None, Some, eqb-true, refl}
-use Rattle.tsp_rules.specs.Values.{Act, AdjTime, Boot, Leave, Message, Peer, PeerId, Post, SetTime, REUSE}
-use Rattle.tsp_rules.specs.Guards.{is_clock_value, is_in_range, target_at}
-use Rattle.tsp_rules.specs.RoundRows.{Standing, is_near, standing}
+use Rattle.std.proofs.Common.{if◌then◌else◌, Option, None, Some, refl}
+use Rattle.tsp_rules.specs.Values.{Act, AdjTime, Boot, Message, Peer, PeerId, Post, SetTime, REUSE}
+use Rattle.tsp_rules.specs.Guards.{is_in_range, target_at}
+use Rattle.tsp_rules.specs.RoundRows.{is_near, standing}
 use Rattle.tsp_rules.specs.SendRows.{may_correct, may_set}
 use Rattle.tsp_rules.proofs.GuardFacts.{same_peer}
-use Rattle.tsp_base.specs.Words.{Acts, Did, Elsewhere, Estimate, Here, Past, Seen, Within, estimate, grown, is_among, is_correction, is_past, last_post, plain, target}
+use Rattle.tsp_base.specs.Words.{Acts, Did, Elsewhere, Estimate, Here, Past, Seen, Within, estimate, grown, is_among, is_correction, is_past, last_post}
 use Rattle.tsp_base.specs.Words.{Deed, MessageValue, timed}
 use Rattle.tsp_base.specs.SendFacts.{last_post_after}
 use Rattle.tsp_progress.specs.Corrects.{adjtime_to, corrected_by, corrected_each, settime_to}
@@ -68,27 +68,27 @@ pub corrected_in : (p : PeerId) (b : Estimate) (mean : ℤ) (seen : List Seen) (
 corrected_in p b mean seen [] x past member is f = absurd (true≢false (sym member))
 corrected_in p b mean seen (q ∷ rest) x past member is f = by_case (q.0 == p.0) refl member (λ m g.
     corrected_in p b mean seen rest x (grown x past (corrected_by mean q (estimate q seen) x past)) m is g) where
-  by_case : (c : Bool) → (q.0 == p.0) ≡ c → (c || is_among p rest) ≡ true →
-      (is_among p rest ≡ true → Free p x (grown x past (corrected_by mean q (estimate q seen) x past)) →
-      CorrectedIn p b mean past.name (corrected_each mean (map (standing seen) rest) x (grown x past (corrected_by mean q (estimate q seen) x past)))) →
-      CorrectedIn p b mean past.name (corrected_each mean (map (standing seen) (q ∷ rest)) x past)
-  by_case true e m later =
-      let same : q ≡ p = same_peer q p e in
-      let best : estimate q seen ≡ Some b = ap (λ z. estimate z seen) same ∙ is in
-      let acts : corrected_by mean q (estimate q seen) x past ≡ corrected_by mean p (Some b) x past =
-      ap (λ z. corrected_by mean z (estimate q seen) x past) same ∙ ap (λ o. corrected_by mean p o x past) best in
-      subst (λ z. CorrectedIn p b mean past.name (z ++ corrected_each mean (map (standing seen) rest) x (grown x past z))) (sym acts)
-      (first_of p b mean x past (corrected_each mean (map (standing seen) rest) x (grown x past (corrected_by mean p (Some b) x past))) f)
-  by_case false e m later =
-      let here = corrected_by mean q (estimate q seen) x past in
-      let k = later m (kept p q mean (estimate q seen) x past e f) in
-      record {
-        message = k.message;
-        front = here ++ k.front;
-        back = k.back;
-        is = ap (λ acts. here ++ acts) k.is ∙ sym (append_assoc here k.front (Post (Peer p) (Message k.message) ∷ k.back));
-        kind = k.kind;
-      }
+      by_case : (c : Bool) → (q.0 == p.0) ≡ c → (c || is_among p rest) ≡ true →
+          (is_among p rest ≡ true → Free p x (grown x past (corrected_by mean q (estimate q seen) x past)) →
+          CorrectedIn p b mean past.name (corrected_each mean (map (standing seen) rest) x (grown x past (corrected_by mean q (estimate q seen) x past)))) →
+          CorrectedIn p b mean past.name (corrected_each mean (map (standing seen) (q ∷ rest)) x past)
+      by_case true e m later =
+          let same : q ≡ p = same_peer q p e in
+          let best : estimate q seen ≡ Some b = ap (λ z. estimate z seen) same ∙ is in
+          let acts : corrected_by mean q (estimate q seen) x past ≡ corrected_by mean p (Some b) x past =
+          ap (λ z. corrected_by mean z (estimate q seen) x past) same ∙ ap (λ o. corrected_by mean p o x past) best in
+          subst (λ z. CorrectedIn p b mean past.name (z ++ corrected_each mean (map (standing seen) rest) x (grown x past z))) (sym acts)
+          (first_of p b mean x past (corrected_each mean (map (standing seen) rest) x (grown x past (corrected_by mean p (Some b) x past))) f)
+      by_case false e m later =
+          let here = corrected_by mean q (estimate q seen) x past in
+          let k = later m (kept p q mean (estimate q seen) x past e f) in
+          record {
+            message = k.message;
+            front = here ++ k.front;
+            back = k.back;
+            is = ap (λ acts. here ++ acts) k.is ∙ sym (append_assoc here k.front (Post (Peer p) (Message k.message) ∷ k.back));
+            kind = k.kind;
+          }
 
 -- where a correction was last posted to p
 pub record LastPost (p : PeerId) (y : ℕ) (seen : List Seen) : Type 0 where
@@ -108,23 +108,23 @@ last_post_at p (Elsewhere d ∷ before) y e =
 last_post_at p (Here d ∷ before) y e = by_deed d.deed refl e (λ k.
     let o = last_post_at p before y k in
     record { post = o.post; before = o.before; place = inr o.place; message = o.message; deed = o.deed; kind = o.kind; tick = o.tick }) where
-  posted : (q : PeerId) (m : MessageValue) → d.deed ≡ Acts (Post (Peer q) (Message m)) → (b c : Bool) → (q.0 == p.0) ≡ b → is_correction m.kind ≡ c →
-      (if b && c then Some d.tick else last_post p before) ≡ Some y →
-      (last_post p before ≡ Some y → LastPost p y (Here d ∷ before)) → LastPost p y (Here d ∷ before)
-  posted q m is true true f k g older = record {
-    post = d;
-    before = before;
-    place = inl refl;
-    message = m;
-    deed = is ∙ ap (λ z. Acts (Post (Peer z) (Message m))) (same_peer q p f);
-    kind = k;
-    tick = cc;
-  }
-  posted q m is true false f k g older = older g
-  posted q m is false c f k g older = older g
+      posted : (q : PeerId) (m : MessageValue) → d.deed ≡ Acts (Post (Peer q) (Message m)) → (b c : Bool) → (q.0 == p.0) ≡ b → is_correction m.kind ≡ c →
+          (if b && c then Some d.tick else last_post p before) ≡ Some y →
+          (last_post p before ≡ Some y → LastPost p y (Here d ∷ before)) → LastPost p y (Here d ∷ before)
+      posted q m is true true f k g older = record {
+        post = d;
+        before = before;
+        place = inl refl;
+        message = m;
+        deed = is ∙ ap (λ z. Acts (Post (Peer z) (Message m))) (same_peer q p f);
+        kind = k;
+        tick = cc;
+      }
+      posted q m is true false f k g older = older g
+      posted q m is false c f k g older = older g
 
-  by_deed : (deed : Deed) → d.deed ≡ deed → last_post_after p deed d.tick (last_post p before) ≡ Some y →
-      (last_post p before ≡ Some y → LastPost p y (Here d ∷ before)) → LastPost p y (Here d ∷ before)
-  by_deed (Acts Boot) is k older = let bad : ⊥ = cc in absurd bad
-  by_deed (Acts (Post (Peer q) (Message m))) is k older = posted q m is (q.0 == p.0) (is_correction m.kind) refl refl k older
-  by_deed _ is k older = older k
+      by_deed : (deed : Deed) → d.deed ≡ deed → last_post_after p deed d.tick (last_post p before) ≡ Some y →
+          (last_post p before ≡ Some y → LastPost p y (Here d ∷ before)) → LastPost p y (Here d ∷ before)
+      by_deed (Acts Boot) is k older = let bad : ⊥ = cc in absurd bad
+      by_deed (Acts (Post (Peer q) (Message m))) is k older = posted q m is (q.0 == p.0) (is_correction m.kind) refl refl k older
+      by_deed _ is k older = older k

@@ -29,7 +29,8 @@ new_or_old step x (p ∷ rest) h k w v = elim (new_or_old step x rest (line_of s
   ]
 ]
 
-joined_time : (step : Step) (x : ℕ) (acts : List Placed) (l : Line) (h : List Line) → l.did.step.at ≡ step.at → time_of (dids (joined step x acts (l ∷ h))) ≡
+pub joined_time : (step : Step) (x : ℕ) (acts : List Placed) (l : Line) (h : List Line) → l.did.step.at ≡ step.at →
+    time_of (dids (joined step x acts (l ∷ h))) ≡
     step.at
 joined_time step x [] l h e = e
 joined_time step x (p ∷ rest) l h e = joined_time step x rest (line_of step x p.port (Acts p.act)) (l ∷ h) refl
@@ -48,7 +49,7 @@ old_or_last (Some a) h k w v =
       ]
     ]
 
-joins_within : (o : Option Happening) (h : List Line) → Within h (joins o h)
+pub joins_within : (o : Option Happening) (h : List Line) → Within h (joins o h)
 joins_within None h = Within_all h
 joins_within (Some a) h = within_joined a.step a.tick a.acts (line_of a.step a.tick first_port Begins ∷ h) h (inr (Within_all h))
 

@@ -1,29 +1,30 @@
 -- In a stretch without a master: a node that hears of no candidate stands when its delay is over.
-use Rattle.std.proofs.Common.{sym, ap, subst, arith, true≢false, inl, inr, ◌∙◌, ◌≡◌, ◌≢◌, ◌≤◌, ◌<◌, ◌⊎◌, ℕ, ◌+◌, ◌-◌, ◌*◌, ◌==◌, ◌||◌, Bool, true, false}
+use Rattle.std.proofs.Common.{sym, ap, subst, arith, true≢false, inl, inr, ◌∙◌, ◌≡◌, ◌≢◌, ◌≤◌, ◌<◌, ℕ, ◌+◌, ◌*◌, ◌||◌, Bool, true, false}
 use Rattle.std.proofs.Common.{List, [], ◌∷◌, Option, None, Some, is_some, le-leb, refl}
 use Rattle.std.proofs.lemmas.Bool.{cases_lt}
-use Rattle.tsp_rules.specs.Values.{Act, Alarm, Arm, Back, Become, Boot, Late, Quit, Ring, Elect, Message, PeerId, Peer, Port, Quiet, QuitKind, Role, Candidate}
-use Rattle.tsp_rules.specs.Values.{Follow, Loose, Master, Search, Starting, ELECT_MIN, ELECT_SPREAD, SLACK, WINDOW}
+use Rattle.tsp_rules.specs.Values.{Act, Alarm, Arm, Back, Become, Boot, Late, Quit, Ring, Elect, Message, PeerId, Peer, Quiet, Role, Candidate}
+use Rattle.tsp_rules.specs.Values.{Follow, Loose, Master, Search, Starting, ELECT_MIN, WINDOW}
 use Rattle.tsp_rules.specs.{CommonRows.is_idle, Guards.delay, Guards.is_starting_role}
 use Rattle.tsp_base.specs.Words.{Acts, Begins, Deed, Did, Elsewhere, HeaderValue, Held, Here, Line, Receives, Seen, TakesFrom, Within, armed, deadline, dids}
-use Rattle.tsp_base.specs.Words.{first_port, held, held_after, is_past, is_shared, of, plain, role, role_after, stood, taken, tick_of, time_of, view, word}
-use Rattle.tsp_base.proofs.PlaceLemmas.{Within_all, Within_comparable, Within_length, Within_tail, Within_through}
+use Rattle.tsp_base.specs.Words.{first_port, held, held_after, is_past, is_shared, of, plain, role, role_after, taken, tick_of, time_of, view, word}
+use Rattle.tsp_base.proofs.PlaceLemmas.{Within_all, Within_tail, Within_through}
 use Rattle.tsp_base.proofs.Views.{plain_view}
 use Rattle.tsp_promises.specs.{Fits.node_of, QuitFits.QuitFits, Setting.Setting}
 use Rattle.tsp_promises.proofs.{shared.Clocks.near, shared.Clocks.tick_mono, shared.ElectionFacts.stood_at, shared.EverywhereLemmas.Everywhere_at}
 use Rattle.tsp_promises.proofs.{shared.HistoryPlaces.Within_of, shared.HistoryPlaces.line_on}
-use Rattle.tsp_promises.proofs.promised.OwnFitsProof.{Located, deed_fits, fits_at, fits_in, locate, own_fits, place_time, seen_in, tick_in}
+use Rattle.tsp_promises.proofs.promised.OwnFitsProof.{Located, deed_fits, fits_at, fits_in, locate, place_time, tick_in}
 use Rattle.tsp_run.specs.{Clocked.Clocks, Setup.node_line}
-use Rattle.tsp_progress.specs.AlarmsFit.{AlarmFits, AlarmsFit, Manner, newest_is}
+use Rattle.tsp_progress.specs.AlarmsFit.{AlarmFits, Manner, newest_is}
 use Rattle.tsp_progress.specs.{CausesFit.backs_by, CausesFit.elects_by, CausesFit.seeks_by, Headless.delay_of, InTime.CandidatureEnds, InTime.last_arm}
-use Rattle.tsp_progress.specs.{FollowOn.role_of, Motives.MotiveFits, Motives.TookCall, Motives.frees_by, Motives.is_call, Motives.seeks_after, Motives.seeks_now}
+use Rattle.tsp_progress.specs.{Motives.MotiveFits, Motives.TookCall, Motives.frees_by, Motives.is_call, Motives.seeks_after, Motives.seeks_now}
 use Rattle.tsp_progress.specs.{RunsWake.manner_of, Stands.AfterElect, Stands.StandsOn, Wakes.Wakes, Wakes.WokenAt, Watched.AttendedAt, Watched.Watched}
-use Rattle.tsp_progress.proofs.{AloneProof.PacedAt, FollowCalls.Cut, FollowCalls.LastArm, FollowCalls.cut, FollowCalls.last_arm_at, FollowHeard.paced_at, FollowProof.owes_at}
+use Rattle.tsp_progress.proofs.{AloneProof.PacedAt, FollowCalls.Cut, FollowCalls.LastArm, FollowCalls.cut, FollowCalls.last_arm_at, FollowHeard.paced_at}
+use Rattle.tsp_progress.proofs.{FollowProof.owes_at}
 use Rattle.tsp_progress.proofs.{InTimeProof.PlaceOf, InTimeProof.ahead_most, InTimeProof.armed_place, InTimeProof.attended_in_time, InTimeProof.told_in_time}
 use Rattle.tsp_progress.proofs.{NeverLateProof.never_late, PaceProof.paced, SearchKept.alarms_within, SearchKept.view_within, StandsProof.stands_on}
-use Rattle.tsp_progress.proofs.StretchFacts.{Source, Stands, Stretch, after_s, in_time_order, nil_in, no_call, source, stood_last, stood_soon, term}
+use Rattle.tsp_progress.proofs.StretchFacts.{Candidacy, Stretch, after_s, nil_in, no_call, source, stood_last, stood_soon, term}
 use Rattle.tsp_progress.proofs.WaveBacks.{backed_for}
-use Rattle.tsp_progress.proofs.WaveFacts.{act_time, alarms_of, rise_of, word_same}
+use Rattle.tsp_progress.proofs.WaveFacts.{act_time, rise_of, word_same}
 
 -- where the last QUIT was noted
 record QuitAt (x : ℕ) (seen : List Seen) : Type 0 where
@@ -91,7 +92,8 @@ module _ {clocks : Clocks} {header : HeaderValue} {setting : Setting} {late long
   Whole = view first_port (of c world)
 
   -- a deed of c that isn't shared, and its line
-  module _ (d : Did) (before : List Seen) (place : Within (Here d ∷ before) Whole) (act : Act) (is : d.deed ≡ Acts act) (l : Located c first_port world d before)
+  module _ (d : Did) (before : List Seen) (place : Within (Here d ∷ before) Whole) (act : Act) (is : d.deed ≡
+      Acts act) (l : Located c first_port world d before)
     where
       abbrev L : Line
       L = line_on first_port d
@@ -258,7 +260,7 @@ module _ {clocks : Clocks} {header : HeaderValue} {setting : Setting} {late long
       by_role Starting e f = absurd (true≢false (sym (ap is_starting_role e) ∙ not-starting d before place (Become Loose) is l late_enough until))
 
     -- so it stood not long before
-    loose-stood : (z : ℕ) × (Stands c z world × ((z ≤ d.step.at) × (d.step.at ≤ z + term late)))
+    loose-stood : (z : ℕ) × (Candidacy c z world × ((z ≤ d.step.at) × (d.step.at ≤ z + term late)))
     loose-stood =
         let time = place-time d before place (Become Loose) is l in
         let o = stood_soon k c there l.older (place-inside d before place (Become Loose) is l) (omega (arith, time, until))
@@ -326,7 +328,7 @@ module _ {clocks : Clocks} {header : HeaderValue} {setting : Setting} {late long
   -- nor does it arm its Elect, if nobody stood not long before
   module _ (d : Did) (before : List Seen) (place : Within (Here d ∷ before) Whole) (at : ℕ) (is : d.deed ≡ Acts (Arm Elect at))
       (late_enough : rest_from S long < d.step.at) (until : d.step.at ≤ t)
-      (free : (z w : ℕ) → Stands z w world → w ≤ d.step.at → d.step.at ≤ w + term late + long + 10 → ⊥) where
+      (free : (z w : ℕ) → Candidacy z w world → w ≤ d.step.at → d.step.at ≤ w + term late + long + 10 → ⊥) where
     arm-line : Located c first_port world d before
     arm-line = locate c first_port world d before (shared-none d.deed (Arm Elect at) is refl) place
 
@@ -412,7 +414,7 @@ module _ {clocks : Clocks} {header : HeaderValue} {setting : Setting} {late long
 
   -- so it stands by the time when its delay has passed
   module _ (Z Y : ℕ) (z-late : rest_from S long ≤ Z) (order : Z ≤ Y) (y-until : Y ≤ t)
-      (free : (z w : ℕ) → Stands z w world → Z < w + term late + long + 10 → w ≤ Y → ⊥) where
+      (free : (z w : ℕ) → Candidacy z w world → Z < w + term late + long + 10 → w ≤ Y → ⊥) where
     R : List Line → Type 0
     R lines = Wakes (manner_of header c) (view first_port lines) × (Watched late (setting.tick c Y) (view first_port lines) ×
         CandidatureEnds late (setting.tick c Y) (view first_port lines))
@@ -584,7 +586,7 @@ module _ {clocks : Clocks} {header : HeaderValue} {setting : Setting} {late long
         (Within_through (line_on first_port last.start ∷ l.older) H world l.place upto.within) in
         let le = place_time setting (line_on first_port last.start ∷ l.older) H (fits_at setting H world k.fits upto.within) l.place in
         let up = upto.upto in
-        let st : Stands c last.start.step.at world =
+        let st : Candidacy c last.start.step.at world =
         record { start = last.start; idle = last.idle; place = Within_through (Here last.start ∷ last.idle) Now Whole w now-in; deed = deed; at = refl } in
         let since = f.since in
         let ticks = ap (λ (z : Did). z.tick) did in

@@ -3,7 +3,7 @@ use Rattle.std.proofs.Common.{sym, ap, subst, arith, true≢false, ◌∙◌, �
 use Rattle.std.proofs.Common.{Option, None, Some, refl}
 use Rattle.tsp_rules.specs.Values.{Boot, Become, Arm, Ring, Late, Back, Quit, Alarm, Elect, Window, PeerId, Port}
 use Rattle.tsp_rules.specs.Guards.{delay}
-use Rattle.tsp_base.specs.Words.{Acts, Deed, Did, Held, Line, Seen, Here, Elsewhere, Within, armed, armed_after, did_of, held, held_after, is_shared, of, plain}
+use Rattle.tsp_base.specs.Words.{Acts, Deed, Did, Held, Line, Seen, Here, Elsewhere, Within, armed, armed_after, held, held_after, is_shared, plain}
 use Rattle.tsp_base.specs.Words.{seen_as, tick_of, view, word, word_after}
 use Rattle.tsp_progress.specs.AlarmsFit.{AlarmFits, AlarmsFit, Arms, ArmFits, BackNext, Manner, NextFits, NextTo, asks_next, owes_next, stands_by}
 use Rattle.tsp_progress.specs.AlarmsFit.{stands_now}

@@ -82,7 +82,7 @@ pub first_steers : (x : ℕ) (past : NodePast) → is_follow (role (view first_p
 first_steers x past e = let none = none_lower (follows_on past) (ports_from 0 past.ports) in rw (e, none) refl
 
 -- node c begins a round, by its alarm, after the place s, and at most ROUND ticks and `late` before this true time
-pub record Ringing (setting : Setting) (late c : ℕ) (s world : List Line) (time : ℕ) : Type 0 where
+pub record RoundRang (setting : Setting) (late c : ℕ) (s world : List Line) (time : ℕ) : Type 0 where
   pub ring : Did
   pub older : List Line
   pub place : Within (line_on first_port ring ∷ older) world
@@ -278,7 +278,7 @@ module _ {clocks : Clocks} {header : HeaderValue} {setting : Setting} (set : Set
       by_deed (Acts (Late Round)) e r = absurd (not_late e)
       by_deed _ e r = absurd (true≢false (sym r))
 
-    pub ringing : Ringing setting late c s world time
+    pub ringing : RoundRang setting late c s world time
     ringing = record {
       ring = Rang;
       older = at.older;

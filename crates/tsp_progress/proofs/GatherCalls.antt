@@ -1,7 +1,7 @@
 -- In a calm network in which one node alone leads its calls come to each other one again and again, which then follows it, if it doesn't follow another.
 use Rattle.std.proofs.Common.{sym, ap, subst, arith, true≢false, inl, inr, ◌∙◌, ◌≡◌, ◌≤◌, ◌<◌, ◌⊎◌, ℕ, ◌+◌, ◌-◌, ◌*◌, ◌==◌, Bool, true, false, List}
 use Rattle.std.proofs.Common.{[], ◌∷◌, eqb-true, refl}
-use Rattle.tsp_rules.specs.Values.{Act, Arm, Become, Boot, Elect, MasterUp, SlaveUp, Message, PeerId, Role, Starting, Loose, Follow, Candidate, Master}
+use Rattle.tsp_rules.specs.Values.{Port, Act, Arm, Become, Boot, Elect, MasterUp, SlaveUp, Message, PeerId, Role, Starting, Loose, Follow, Candidate, Master}
 use Rattle.tsp_rules.specs.Values.{ELECT_MIN, ROUND, SLACK}
 use Rattle.tsp_rules.specs.{GateRows.steers, Guards.delay_at, Guards.is_follow, Guards.is_starting_role, Guards.ticket_at}
 use Rattle.tsp_base.specs.Words.{Acts, HeaderValue, Here, Line, MessageValue, Past, Within, bare, dids, first_port, is_among, joined, line_of, of, peer_of}
@@ -14,16 +14,17 @@ use Rattle.tsp_run.specs.Clocked.{Clocks, SetByClocks}
 use Rattle.tsp_progress.specs.{ByTable.ByTable, ByTable.before_line, ByTable.node_in, ByTable.port_before, Calling.CallsFit}
 use Rattle.tsp_progress.specs.{Delivered.Arrives, Delivered.Delivered, Delivered.PostsTo, RolesLast.RolesLast, RunsWake.manner_of}
 use Rattle.tsp_progress.specs.FollowOn.{Calm, IsMild, OneNetwork, role_of}
-use Rattle.tsp_progress.specs.Gather.{AllTold, AllUp, LeadUntil}
+use Rattle.tsp_progress.specs.Gather.{AllTold, AllAwake, LeadUntil}
 use Rattle.tsp_progress.specs.{Heeds.DoesNext, Heeds.follow_acts, Heeds.has_no_master, Heeds.posts_bare, Heeds.role_before}
 use Rattle.tsp_progress.specs.{Wakes.AllWake, Wakes.Woken, Watched.Attended}
-use Rattle.tsp_progress.proofs.{AnswersProof.hears_there, HeedsProof.all_heed, FollowProof.role_kept, FollowHeard.Called, FollowHeard.called, FollowHeard.first_steers}
+use Rattle.tsp_progress.proofs.{AnswersProof.hears_there, HeedsProof.all_heed, FollowProof.role_kept, FollowHeard.Called, FollowHeard.called}
+use Rattle.tsp_progress.proofs.{FollowHeard.first_steers}
 use Rattle.tsp_progress.proofs.{GatherPlaces.Strayed, GatherPlaces.role_becomes, GatherPlaces.view_own}
 use Rattle.tsp_progress.proofs.{StandActs.Sound, StandActs.StandFits, StandPlaces.kept_at, TableRows.within_joined}
 use Rattle.tsp_progress.proofs.WorldPlaces.{Among, act_place, in_order, world_place}
 
 -- nobody who stays comes to its quiet time again
-module _ (world : List Line) (long : ℕ) (stays : ℕ → Bool) (s : List Line) (calm : Calm long stays s world) (up : AllUp stays s)
+module _ (world : List Line) (long : ℕ) (stays : ℕ → Bool) (s : List Line) (calm : Calm long stays s world) (up : AllAwake stays s)
     (sound : (n : ℕ) → Sound (view first_port (of n world))) where
   up_step : (f : ℕ) (l : Line) (older : List Line) → Within s older → Within (l ∷ older) world → is_starting_role (role_of f older) ≡ false →
       is_starting_role (role_of f (l ∷ older)) ≡ false
@@ -67,11 +68,11 @@ pub record Scene (clocks : Clocks) (header : HeaderValue) (setting : Setting) (l
   pub calm : Calm long stays s world
   pub delivered : Delivered setting long t stays s world
   pub mild : IsMild long
-  pub up : AllUp stays s
+  pub up : AllAwake stays s
   pub lead : LeadUntil stays c t s world
   pub calls : CallsFit world
   pub roles : RolesLast world
-  pub sound : (n : ℕ) → Sound (view first_port (of n world))
+  pub sound : (n : ℕ) (q : Port) → Sound (view q (of n world))
   pub s_in : Within s world
 
 -- node f armed its Elect then, and follows c
@@ -173,7 +174,8 @@ module _ {clocks : Clocks} {header : HeaderValue} {setting : Setting} {late long
           Minds c f a.line.did.step.at s world
       minds acts among next follows =
           let front = joined a.line.did.step Tick (placed a.line.port among.front) (a.line ∷ of f a.before) in
-          let w = world_place f Arming front world (act_place a.line.did.step Tick a.line.port (Arm Elect Until) acts (a.line ∷ of f a.before) (of f world) among
+          let w = world_place f Arming front world (act_place a.line.did.step Tick a.line.port (Arm Elect Until) acts (a.line ∷
+          of f a.before) (of f world) among
           next) in
           let after : Within (a.line ∷ a.before) w.older = in_order f a.line a.before Arming w.older world a.place w.place
           (subst (λ ls. Within (a.line ∷ of f a.before) ls) (sym w.own_is)
@@ -246,7 +248,8 @@ module _ {clocks : Clocks} {header : HeaderValue} {setting : Setting} {late long
         by_master q is false e = inl (record { master = q; follows = is; other = e })
 
         by_role : (r : Role) → role_of f a.before ≡ r → Strayed c f a.before ⊎ Minds c f a.line.did.step.at s world
-        by_role Starting is = absurd (true≢false (sym (ap is_starting_role is) ∙ up_on world long stays s scene.calm scene.up scene.sound f there a.before a-after a-older))
+        by_role Starting is = absurd (true≢false (sym (ap is_starting_role is) ∙ up_on world long stays s scene.calm scene.up (λ n. scene.sound n first_port) f
+            there a.before a-after a-older))
         by_role Loose is = inr (joins Loose is refl refl)
         by_role (Follow q) is = by_master q is (q.0 == c) refl
         by_role Candidate is = inr (joins Candidate is refl refl)

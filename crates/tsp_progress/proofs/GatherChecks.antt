@@ -1,13 +1,17 @@
 -- That one of two nodes alone leads, as a computation.
 use Rattle.std.proofs.Common.{sym, ap, subst, arith, true≢false, inl, inr, ◌∙◌, ◌≡◌, ◌≢◌, ◌≤◌, ℕ, ◌==◌, ◌&&◌, ◌||◌, not, nat_le, Bool, true, false}
 use Rattle.std.proofs.Common.{zero, suc, List, [], ◌∷◌, length, le-leb}
+use Rattle.std.proofs.Common.{pos, refl}
+use Rattle.std.proofs.lemmas.List.Elements.{All-nil, All-cons}
 use Rattle.std.proofs.lemmas.Bool.{and_parts, not-true}
-use Rattle.tsp_rules.specs.Values.{Master}
+use Rattle.tsp_rules.specs.Values.{Master, NodeLine}
 use Rattle.tsp_rules.specs.Guards.{is_master}
 use Rattle.tsp_rules.proofs.GuardFacts.{master_is}
-use Rattle.tsp_base.specs.Words.{Line, Within}
+use Rattle.tsp_base.specs.Words.{IsHeader, IsNet, KeepsDrift, Line, Within}
 use Rattle.tsp_base.proofs.PlaceLemmas.{Within_length}
 use Rattle.tsp_progress.specs.{FollowOn.role_of, FollowUse.two_stay, Gather.LeadUntil, Gather.LeadsOnly}
+use Rattle.tsp_progress.specs.{GatherUse.three_may}
+use Rattle.tsp_progress.proofs.UseLemmas.{keeps, node_a, node_b_may}
 
 -- from a place of this length on
 abbrev pub holds_from : (List Line → Bool) → ℕ → List Line → Bool
@@ -46,3 +50,19 @@ leads_is h e =
 
 pub lead_by : (t : ℕ) (s world : List Line) → holds_from first_leads (length s) world ≡ true → LeadUntil two_stay 0 t s world
 lead_by t s world e h w v le = leads_is h (holds_at first_leads (length s) world e h w (Within_length s h v))
+
+-- the header of three nodes that may be master
+abbrev node_c_may : NodeLine
+node_c_may = record { name = 99 ∷ []; rate = pos 0; wall = pos 0; may = true }
+
+pub three_header_is : IsHeader three_may
+three_header_is = record {
+  small = omega arith;
+  few = omega arith;
+  kept = All-cons (KeepsDrift 0) node_a (node_b_may ∷ (node_c_may ∷ [])) (keeps 97 true refl)
+      (All-cons (KeepsDrift 0) node_b_may (node_c_may ∷ []) (keeps 98 true refl)
+      (All-cons (KeepsDrift 0) node_c_may [] (keeps 99 true refl) (All-nil (KeepsDrift 0))));
+  few_nets = omega arith;
+  nets_are = All-nil (IsNet 3);
+  few_ports = λ n. omega arith;
+}

@@ -2,7 +2,7 @@
 use Rattle.std.proofs.Common.{ap, subst, arith, inl, inr, ◌∙◌, ◌≡◌, ◌≤◌, ◌<◌, ℕ, ◌+◌, ◌*◌, ◌==◌, ◌&&◌, not, Bool, true, false, List, []}
 use Rattle.std.proofs.Common.{◌∷◌, if◌then◌else◌, filter, length, refl, suc, zero}
 use Rattle.std.proofs.{Math.Nat.suc-mul, lemmas.Bool.cases_lt}
-use Rattle.tsp_rules.specs.Values.{PeerId, Follow, SLACK}
+use Rattle.tsp_rules.specs.Values.{PeerId, Follow, ROUND, SLACK}
 use Rattle.tsp_base.specs.Words.{HeaderValue, Line, Within, dids, first_port, is_among, peer_of, time_of}
 use Rattle.tsp_base.proofs.PlaceLemmas.{Within_strict, Within_through}
 use Rattle.tsp_promises.specs.{Setting.Setting}
@@ -11,12 +11,13 @@ use Rattle.tsp_run.specs.Clocked.{Clocks, clocks_of, run_by}
 use Rattle.tsp_run.proofs.{OwnClocks.possible_own, OwnClocks.runs_by_own_clocks, OwnClocks.set_own, RunFits.clocked_runs_fit}
 use Rattle.tsp_progress.specs.{Delivered.Delivered, FollowOn.Calm, FollowOn.IsMild, FollowOn.OneNetwork, FollowOn.role_of}
 use Rattle.tsp_progress.specs.{Watched.Attended}
-use Rattle.tsp_progress.specs.Gather.{AllTold, AllUp, ClockedRunsGather, Gather, LeadUntil, RunsGather, gathered_after, leaves_after, others_of}
+use Rattle.tsp_progress.specs.Gather.{AllTold, AllAwake, ClockedRunsGather, Gather, LeadUntil, RunsGather, gathered_after, leaves_after, others_of}
 use Rattle.tsp_progress.proofs.{CallingProof.clocked_runs_call, RolesProof.clocked_runs_keep_roles, RunWakes.clocked_runs_wake, StandKeeps.runs_sound}
 use Rattle.tsp_progress.proofs.{TableProof.clocked_runs_by_table, TimePlaces.before_time}
 use Rattle.tsp_progress.proofs.GatherPlaces.{Strayed, strayed_from}
 use Rattle.tsp_progress.proofs.{GatherCalls.Scene, GatherCalls.heard_by}
-use Rattle.tsp_progress.proofs.GatherSteps.{Upto, one_left, stays_on, upto_line}
+use Rattle.tsp_progress.proofs.GatherSteps.{Upto, one_left, upto_line}
+use Rattle.tsp_progress.proofs.{GatherStays.stays_on}
 
 module _ {clocks : Clocks} {header : HeaderValue} {setting : Setting} {late long t c : ℕ} {stays : ℕ → Bool} {s world : List Line}
     (scene : Scene clocks header setting late long t c stays s world) where
@@ -84,7 +85,7 @@ module _ {clocks : Clocks} {header : HeaderValue} {setting : Setting} {late long
     pub count : length list ≡ n
 
   chain : (k x : ℕ) (g : List Line) → Upto scene x g → x ≤ t → (f : PeerId) (rest : List PeerId) → Strays (f ∷ rest) g → Distinct (f ∷ rest) →
-      time_of (dids s) + long + 1 + k * B ≤ x → Many (length rest + 1 + k)
+      time_of (dids s) + (ROUND + 2 * SLACK + 2 * long + 2) + k * B ≤ x → Many (length rest + 1 + k)
   chain zero x g u until f rest strays distinct late-x = record {
     list = f ∷ rest;
     distinct = distinct;
@@ -96,7 +97,7 @@ module _ {clocks : Clocks} {header : HeaderValue} {setting : Setting} {late long
       let one = one_left scene f.0 x strays.0.there strays.0.other g u until (omega (arith, late-x, more)) strays.0.strays in
       let recent = one.recent in
       let p = peer_of one.node in
-      let later : time_of (dids s) + long + 1 + k * B ≤ one.time = omega (arith, late-x, more, recent) in
+      let later : time_of (dids s) + (ROUND + 2 * SLACK + 2 * long + 2) + k * B ≤ one.time = omega (arith, late-x, more, recent) in
       let low = u.low in
       let many = chain k one.time one.place one.upto (let earlier = one.earlier in omega (arith, earlier, until)) p (f ∷ rest) (
         record { among = others-in one.node one.there one.other; there = one.there; other = one.other; strays = one.strayed },
@@ -107,7 +108,7 @@ module _ {clocks : Clocks} {header : HeaderValue} {setting : Setting} {late long
 
   -- so late nobody strays
   none_strayed : (f x : ℕ) → stays f ≡ true → (f == c) ≡ false → (g : List Line) → Upto scene x g → x ≤ t →
-      time_of (dids s) + long + 1 + length (others_of setting stays c) * B ≤ x → Strayed c f g → ⊥
+      time_of (dids s) + (ROUND + 2 * SLACK + 2 * long + 2) + length (others_of setting stays c) * B ≤ x → Strayed c f g → ⊥
   none_strayed f x there other g u until late-x strays =
       let many = chain (length (others_of setting stays c)) x g u until (peer_of f) []
       (record { among = others-in f there other; there = there; other = other; strays = strays }, tt) ((λ i. i), tt) late-x in
@@ -124,7 +125,8 @@ module _ {clocks : Clocks} {header : HeaderValue} {setting : Setting} {late long
       let heard = heard_by scene f x there other (omega (arith, settled)) le in
       let recent = heard.recent in
       let soon = heard.soon in
-      let late-c : time_of (dids s) + long + 1 + length (others_of setting stays c) * B ≤ heard.line.did.step.at = omega (arith, recent, settled) in
+      let late-c : time_of (dids s) + (ROUND + 2 * SLACK + 2 * long + 2) + length (others_of setting stays c) * B ≤ heard.line.did.step.at =
+      omega (arith, recent, settled) in
       elim heard.minds [
         | inl strayed ↦ absurd (none_strayed f heard.line.did.step.at there other heard.before
             (upto_line scene heard.line heard.before heard.place heard.after) (omega (arith, soon, le)) late-c strayed)
@@ -161,13 +163,13 @@ clocked_runs_gather clocks header setting events late long t stays c s set possi
       lead = lead;
       calls = clocked_runs_call clocks header setting events set possible;
       roles = clocked_runs_keep_roles clocks header setting events set possible;
-      sound = λ n. runs_sound clocks header events n first_port;
+      sound = λ n q. runs_sound clocks header events n q;
       s_in = Within_through s h world v w;
     }) h w v
 
 pub runs_gather : RunsGather
 runs_gather header setting events late long t stays c s set possible = subst (λ h. Attended late h → late ≤ SLACK → AllTold late setting t stays h →
-    OneNetwork header setting stays c → Calm long stays s h → Delivered setting long t stays s h → IsMild long → AllUp stays s → LeadUntil stays c t s h →
+    OneNetwork header setting stays c → Calm long stays s h → Delivered setting long t stays s h → IsMild long → AllAwake stays s → LeadUntil stays c t s h →
     Gather setting long t stays c s h)
     (runs_by_own_clocks header events)
     (clocked_runs_gather (clocks_of header) header setting events late long t stays c s (set_own header setting set) (possible_own header events possible))

@@ -1,12 +1,12 @@
 -- That no node of two is master from a place on, as a computation.
 use Rattle.std.proofs.Common.{sym, ap, subst, true≢false, inl, inr, ◌∙◌, ◌≡◌, ◌≢◌, ◌≤◌, ℕ, zero, suc, ◌&&◌, ◌||◌, not, nat_le, Bool, true, false, List, []}
-use Rattle.std.proofs.Common.{◌∷◌, length, le-leb, refl}
+use Rattle.std.proofs.Common.{◌∷◌, length, le-leb}
 use Rattle.std.proofs.lemmas.Bool.{and_parts, not-true}
 use Rattle.tsp_rules.specs.Values.{Master}
 use Rattle.tsp_rules.specs.Guards.{is_master}
 use Rattle.tsp_base.specs.Words.{Line, Within, dids, time_of}
 use Rattle.tsp_base.proofs.PlaceLemmas.{Within_length}
-use Rattle.tsp_progress.specs.{FollowOn.role_of, FollowUse.two_stay, Headless.AllUp, Headless.Headless}
+use Rattle.tsp_progress.specs.{FollowOn.role_of, FollowUse.two_stay, Headless.Headless}
 
 abbrev leads_none : List Line → Bool
 leads_none h = not (is_master (role_of 0 h)) && not (is_master (role_of 1 h))
@@ -14,7 +14,8 @@ leads_none h = not (is_master (role_of 0 h)) && not (is_master (role_of 1 h))
 -- nobody leads at any place of so many lines or more, until the true time t
 abbrev pub all_headless : ℕ → ℕ → List Line → Bool
 all_headless first t [] = not (nat_le first 0)
-all_headless first t (l ∷ before) = (not (nat_le first (length (l ∷ before)) && nat_le l.did.step.at t) || leads_none (l ∷ before)) && all_headless first t before
+all_headless first t (l ∷ before) = (not (nat_le first (length (l ∷ before)) && nat_le l.did.step.at t) || leads_none (l ∷ before)) && all_headless first t
+    before
 
 either_none : (a b c : Bool) → a ≡ true → b ≡ true → (not (a && b) || c) ≡ true → c ≡ true
 either_none true true c e f h = h

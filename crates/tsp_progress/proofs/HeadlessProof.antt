@@ -1,17 +1,16 @@
 -- A network without a master gets one.
-use Rattle.std.proofs.Common.{sym, ap, subst, arith, true≢false, inl, inr, mul-le-mul_left, ◌∙◌, ◌≡◌, ◌≢◌, ◌≤◌, ◌<◌, ◌⊎◌, ℕ, ◌+◌, ◌-◌, ◌*◌, ◌/◌, ◌%◌, ◌==◌}
+use Rattle.std.proofs.Common.{sym, ap, subst, arith, true≢false, inl, inr, mul-le-mul_left, ◌∙◌, ◌≡◌, ◌≢◌, ◌≤◌, ◌<◌, ◌⊎◌, ℕ, ◌+◌, ◌-◌, ◌*◌, ◌==◌}
 use Rattle.std.proofs.Common.{Bool, true, false, List, [], ◌∷◌, Option, None, Some, eqb-true, refl}
 use Rattle.std.proofs.Math.Nat.{mod-lt}
 use Rattle.std.proofs.lemmas.Bool.{cases_lt}
-use Rattle.tsp_rules.specs.Values.{Back, Become, Boot, Good, Kind, MasterAck, MasterUp, Message, PeerId, Peer, Place, Port, Post, QuitKind, Refuse, Stranger}
-use Rattle.tsp_rules.specs.Values.{Taken, Took, Candidate, Election, Master, ELECT_MIN, ELECT_SPREAD, HOLD, SLACK, WINDOW}
-use Rattle.tsp_rules.specs.Guards.{delay}
-use Rattle.tsp_base.specs.Words.{Acts, Begins, Deed, Did, HeaderValue, Held, Here, Line, MessageValue, Received, Seen, Step, Within, dids, first_port, held}
+use Rattle.tsp_rules.specs.Values.{Become, Boot, Good, Kind, MasterAck, MasterUp, Message, PeerId, Peer, Place, Post, QuitKind, Refuse}
+use Rattle.tsp_rules.specs.Values.{Taken, Took, Candidate, Master, ELECT_MIN, ELECT_SPREAD, HOLD, WINDOW}
+use Rattle.tsp_base.specs.Words.{Acts, Did, HeaderValue, Here, Line, MessageValue, Received, Seen, Step, Within, dids, first_port, held}
 use Rattle.tsp_base.specs.Words.{is_numbered, is_shared, may_back, of, peer_of, role, role_after, stood, taken, time_of, view, word}
 use Rattle.tsp_base.proofs.{PlaceLemmas.Within_none, PlaceLemmas.Within_tail, PlaceLemmas.Within_through}
 use Rattle.tsp_promises.specs.{Fits.node_of, Setting.Setting}
 use Rattle.tsp_promises.proofs.{promised.KnownProof.InStep, promised.KnownProof.step_at, promised.KnownProof.took_split}
-use Rattle.tsp_promises.proofs.{shared.Clocks.near, shared.Clocks.tick_mono, shared.ElectionFacts.held_at, shared.ElectionFacts.stood_at}
+use Rattle.tsp_promises.proofs.{shared.Clocks.near, shared.ElectionFacts.held_at, shared.ElectionFacts.stood_at}
 use Rattle.tsp_promises.proofs.{promised.SinceProof.since, shared.HistoryPlaces.lift, shared.HistoryPlaces.line_on, shared.HistoryPlaces.own_in}
 use Rattle.tsp_promises.proofs.promised.OwnFitsProof.{Located, fits_at, fits_in, locate, of_time, own_fits, place_time, seen_in, tick_in, view_line}
 use Rattle.tsp_run.specs.{Clocked.Clocks, Clocked.clocks_of, Clocked.run_by, Setup.node_line}
@@ -20,14 +19,15 @@ use Rattle.tsp_progress.specs.Headless.{AllUp, ClockedRunsGetMaster, Fair, Headl
 use Rattle.tsp_progress.specs.{FollowOn.role_of, Motives.is_call, OneAtATime.StandsAt, RunsWake.manner_of, Wakes.AllWake}
 use Rattle.tsp_progress.specs.Wakes.{Woken}
 use Rattle.tsp_progress.specs.WinsUnopposed.{Unopposed, Won, WonUnopposed, opposed, opposes, opposes_in}
-use Rattle.tsp_progress.proofs.{AsksAllProof.clocked_runs_ask, DueFacts.due, DueFacts.free_from, DueFacts.rest_from, HoldKept.SeenAt, HoldKept.seen_at}
-use Rattle.tsp_progress.proofs.{LoneWinsProof.open_numbered, MotivesProof.clocked_runs_have_motives, PortSetups.shared_port, RunWakes.clocked_runs_wake, StandActs.Refuses, StandActs.StandFits}
+use Rattle.tsp_progress.proofs.{AsksAllProof.clocked_runs_ask, DueFacts.due, DueFacts.rest_from, HoldKept.SeenAt, HoldKept.seen_at}
+use Rattle.tsp_progress.proofs.{LoneWinsProof.open_numbered, MotivesProof.clocked_runs_have_motives, PortSetups.shared_port, RunWakes.clocked_runs_wake}
+use Rattle.tsp_progress.proofs.{StandActs.Refuses, StandActs.StandFits}
 use Rattle.tsp_progress.proofs.{StandActs.refuses_kind, StandKeeps.runs_sound, StandPlaces.kept_at, StandPlaces.stood_may, TableProof.clocked_runs_by_table}
 use Rattle.tsp_progress.proofs.{WinsNot.stood_role, WinsUnopposedProof.clocked_runs_win}
-use Rattle.tsp_progress.proofs.StretchFacts.{Source, Stands, Stretch, after_s, asks_as, no_call, stood_short, stood_soon, term, took_source}
+use Rattle.tsp_progress.proofs.StretchFacts.{Source, Candidacy, Stretch, after_s, asks_as, no_call, stood_short, stood_soon, term, took_source}
 use Rattle.tsp_progress.proofs.WaveBacks.{backed_for}
 use Rattle.tsp_progress.proofs.WaveCalm.{FirstStand, calm_after, clean_after, first_stand, gap}
-use Rattle.tsp_progress.proofs.WaveFacts.{act_time, held_by, stand_at, stand_since, stand_tick, stand_time}
+use Rattle.tsp_progress.proofs.WaveFacts.{act_time, held_by, stand_at, stand_since, stand_tick}
 
 -- what two counters differ by
 module _ (setting : Setting) (n a x : ℕ) (short : x ≤ ELECT_MIN + ELECT_SPREAD + 40 * WINDOW) where
@@ -86,7 +86,7 @@ module _ {clocks : Clocks} {header : HeaderValue} {setting : Setting} {late long
     ]
     | inr none ↦ absurd (too-late (λ z w st early soon. let le = none z w st in omega (arith, le, early)))
   ] where
-    too-late : ((z w : ℕ) → Stands z w world → a + term late + long + 10 < w + term late + long + 10 → w ≤ a + Step-long → ⊥) → ⊥
+    too-late : ((z w : ℕ) → Candidacy z w world → a + term late + long + 10 < w + term late + long + 10 → w ≤ a + Step-long → ⊥) → ⊥
     too-late free =
         let sum : (a + term late + long + 10) + (D + late + Drift + 1) ≡ a + Step-long = omega arith in
         let due_then = due k c fore.there fore.may (a + term late + long + 10) (a + Step-long) (omega (arith, from)) (omega arith) until free in
@@ -166,7 +166,7 @@ module _ {clocks : Clocks} {header : HeaderValue} {setting : Setting} {late long
       omega (arith, calm, low, most)
 
   -- nobody stood for long before the second one
-  clean-2 : (z w : ℕ) → stays z ≡ true → Stands z w world → U2 ≤ w + gap late long → w < U2 → ⊥
+  clean-2 : (z w : ℕ) → stays z ≡ true → Candidacy z w world → U2 ≤ w + gap late long → w < U2 → ⊥
   clean-2 z w there st recent early =
       let apart = apart-2 in
       let slack = k.slack in
@@ -178,7 +178,7 @@ module _ {clocks : Clocks} {header : HeaderValue} {setting : Setting} {late long
   long-since-2 = let apart = apart-2 in let low = settled-1 in omega (arith, apart, low)
 
   -- who stands after it, and isn't the foremost, does so when its delay has passed
-  module _ (n y : ℕ) (here : stays n ≡ true) (other : (n == c) ≡ false) (st : Stands n y world) (later : U2 + long < y) (until : y ≤ t) where
+  module _ (n y : ℕ) (here : stays n ≡ true) (other : (n == c) ≡ false) (st : Candidacy n y world) (later : U2 + long < y) (until : y ≤ t) where
     settled-y : S + long < y
     settled-y = let low = settled-2 in omega (arith, low, later)
 
@@ -214,11 +214,11 @@ module _ {clocks : Clocks} {header : HeaderValue} {setting : Setting} {late long
     by_node true e = eqb-true F3.x c e
     by_node false e = absurd (not-soon F3.x U3 F3.there e F3.standing F3.after (let e = early-3 in omega (arith, e)) (omega arith))
 
-  stands-3 : Stands c U3 world
-  stands-3 = subst (λ z. Stands z U3 world) third-is F3.standing
+  stands-3 : Candidacy c U3 world
+  stands-3 = subst (λ z. Candidacy z U3 world) third-is F3.standing
 
   -- nobody else stands until its candidature is over
-  others : (n y : ℕ) → stays n ≡ true → (n == c) ≡ false → Stands n y world → U2 + long < y → y ≤ U3 + term late → ⊥
+  others : (n y : ℕ) → stays n ≡ true → (n == c) ≡ false → Candidacy n y world → U2 + long < y → y ≤ U3 + term late → ⊥
   others n y here other st later soon =
       let early = early-3 in
       let slack = k.slack in
@@ -251,42 +251,42 @@ module _ {clocks : Clocks} {header : HeaderValue} {setting : Setting} {late long
   -- a place of its candidature
   module _ (h : List Line) (inside : Within h world) (still : stood (view first_port (of c h)) ≡ Here stands-3.start ∷ view first_port (of (node_of C) Older))
     where
-    candidate : role_of c h ≡ Candidate
-    candidate = stood_role stands-3.start (view first_port (of (node_of C) Older)) (view first_port (of c h)) still ∙
-        ap (λ z. role_after z (role (view first_port (of (node_of C) Older)))) stands-3.deed
+      candidate : role_of c h ≡ Candidate
+      candidate = stood_role stands-3.start (view first_port (of (node_of C) Older)) (view first_port (of c h)) still ∙
+          ap (λ z. role_after z (role (view first_port (of (node_of C) Older)))) stands-3.deed
 
-    short : (start : Did) (idle : List Seen) → stood (view first_port (of c h)) ≡ Here start ∷ idle → start.step.at + term late ≤ t
-    short start idle e =
-        let same : Here start ∷ idle ≡ Here stands-3.start ∷ view first_port (of (node_of C) Older) = sym e ∙ still in
-        let did : start ≡ stands-3.start = cc in
-        let at = ap (λ (z : Did). z.step.at) did in
-        let own = c-at in
-        let early = early-3 in
-        let slack = k.slack in
-        omega (arith, at, own, early, slack)
+      short : (start : Did) (idle : List Seen) → stood (view first_port (of c h)) ≡ Here start ∷ idle → start.step.at + term late ≤ t
+      short start idle e =
+          let same : Here start ∷ idle ≡ Here stands-3.start ∷ view first_port (of (node_of C) Older) = sym e ∙ still in
+          let did : start ≡ stands-3.start = cc in
+          let at = ap (λ (z : Did). z.step.at) did in
+          let own = c-at in
+          let early = early-3 in
+          let slack = k.slack in
+          omega (arith, at, own, early, slack)
 
-    still-soon : time_of (dids h) ≤ U3 + term late
-    still-soon =
-        let o = stood_short k c fore.there h inside candidate (inr short) in
-        let same : Here o.standing.start ∷ o.standing.idle ≡ Here stands-3.start ∷ view first_port (of (node_of C) Older) = sym o.last ∙ still in
-        let did : o.standing.start ≡ stands-3.start = cc in
-        let at = ap (λ (z : Did). z.step.at) did in
-        let own = c-at in
-        let there = o.standing.at in
-        let soon = o.soon in
-        omega (arith, at, own, there, soon)
+      still-soon : time_of (dids h) ≤ U3 + term late
+      still-soon =
+          let o = stood_short k c fore.there h inside candidate (inr short) in
+          let same : Here o.standing.start ∷ o.standing.idle ≡ Here stands-3.start ∷ view first_port (of (node_of C) Older) = sym o.last ∙ still in
+          let did : o.standing.start ≡ stands-3.start = cc in
+          let at = ap (λ (z : Did). z.step.at) did in
+          let own = c-at in
+          let there = o.standing.at in
+          let soon = o.soon in
+          omega (arith, at, own, there, soon)
 
-    start-there : Within (Here stands-3.start ∷ view first_port (of (node_of C) Older)) (view first_port (of c h))
-    start-there = (stood_at (view first_port (of c h)) (Here stands-3.start) (view first_port (of (node_of C) Older)) still).place
+      start-there : Within (Here stands-3.start ∷ view first_port (of (node_of C) Older)) (view first_port (of c h))
+      start-there = (stood_at (view first_port (of c h)) (Here stands-3.start) (view first_port (of (node_of C) Older)) still).place
 
-    still-late : U3 ≤ time_of (dids (of c h))
-    still-late =
-        let l = locate c first_port h stands-3.start (view first_port (of (node_of C) Older)) (let d = stands-3.deed in rw d refl) start-there in
-        let own = own_in c (line_on first_port stands-3.start) l.older h l.node l.place in
-        let f = own_fits setting c h (fits_at setting h world k.fits inside) in
-        let order = (since setting (line_on first_port stands-3.start ∷ of c l.older) (of c h) f own).time in
-        let at = c-at in
-        omega (arith, order, at)
+      still-late : U3 ≤ time_of (dids (of c h))
+      still-late =
+          let l = locate c first_port h stands-3.start (view first_port (of (node_of C) Older)) (let d = stands-3.deed in rw d refl) start-there in
+          let own = own_in c (line_on first_port stands-3.start) l.older h l.node l.place in
+          let f = own_fits setting c h (fits_at setting h world k.fits inside) in
+          let order = (since setting (line_on first_port stands-3.start ∷ of c l.older) (of c h) f own).time in
+          let at = c-at in
+          omega (arith, order, at)
 
   -- nobody refuses it
   module _ (T : Line) (rest : List Line) (place : Within (T ∷ rest) world) (node : node_of T ≡ c) (port : T.port ≡ first_port)
@@ -357,7 +357,7 @@ module _ {clocks : Clocks} {header : HeaderValue} {setting : Setting} {late long
           let early = asked.early in
           let soon = asked.soon in
           let until : time_of (dids (asked.post ∷ asked.before)) ≤ t = (let le = at2-soon in let e3 = early-3 in let slack = k.slack in
-              omega (arith, early, le, e3, slack)) in
+          omega (arith, early, le, e3, slack)) in
           let st = stood_soon k (node_of asked.post) asked.there (asked.post ∷ asked.before) asked.place until (asks_as k asked r.kind) in
           let low = st.early in
           let high = st.soon in

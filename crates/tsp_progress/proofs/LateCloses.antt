@@ -1,15 +1,15 @@
 -- What stands before a Close that comes late after a place: the other Closes, and the corrections that were posted.
-use Rattle.std.proofs.Common.{sym, ap, subst, subst₂, arith, inl, inr, ◌∙◌, ◌≡◌, ◌≢◌, ◌≤◌, ◌<◌, ◌⊎◌, ℕ, ◌+◌, ◌==◌, ℤ, Bool, true, false, List, [], ◌∷◌, eqb-true, refl}
+use Rattle.std.proofs.Common.{sym, ap, subst, arith, inl, inr, ◌∙◌, ◌≡◌, ◌≢◌, ◌≤◌, ◌<◌, ◌⊎◌, ℕ, ◌+◌, ◌==◌, ℤ, Bool, true, false, List, [], ◌∷◌, eqb-true, refl}
 use Rattle.std.proofs.lemmas.Bool.{cases_lt}
-use Rattle.tsp_rules.specs.Values.{Act, AdjTime, Boot, Close, Kind, Message, Peer, Post, SetTime}
-use Rattle.tsp_base.specs.Words.{Acts, Deed, Did, Here, Line, MessageValue, Seen, Within, dids, first_port, is_correction, is_shared, lives, lives_after, of}
+use Rattle.tsp_rules.specs.Values.{AdjTime, Boot, Close, Kind, Message, Peer, Post, SetTime}
+use Rattle.tsp_base.specs.Words.{Acts, Deed, Did, Line, MessageValue, Within, dids, first_port, is_correction, is_shared, lives, lives_after, of}
 use Rattle.tsp_base.specs.Words.{peer_of, time_of, view}
 use Rattle.tsp_base.proofs.PlaceLemmas.{Within_all, Within_comparable, Within_strict, Within_tail, Within_through}
 use Rattle.tsp_promises.specs.{CorrectionFits.AtClose, CorrectionFits.CorrectionFits, Fits.Fits, Fits.node_of, Seldom.SeldomAt, Setting.Setting}
 use Rattle.tsp_promises.proofs.{shared.HistoryPlaces.line_on, shared.HistoryPlaces.of_other, shared.HistoryPlaces.of_own, shared.Clocks.near}
 use Rattle.tsp_promises.proofs.{shared.SendPlaces.SendPlace, shared.SendPlaces.post_fits, shared.SendPlaces.send_place, shared.RoundPlaces.closed_at}
 use Rattle.tsp_promises.proofs.{shared.EverywhereLemmas.Everywhere_at, promised.ErrsProof.seldom, promised.SendProof.numbered}
-use Rattle.tsp_promises.proofs.promised.OwnFitsProof.{Located, fits_at, fits_in, locate, place_time, tick_in}
+use Rattle.tsp_promises.proofs.promised.OwnFitsProof.{fits_at, fits_in, locate, place_time, tick_in}
 use Rattle.tsp_progress.specs.{FollowOn.Calm, InTable.SetsNone, LateClose.LateClose}
 
 -- what is no boot keeps the node's life

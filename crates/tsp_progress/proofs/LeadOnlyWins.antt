@@ -64,7 +64,6 @@ module _ {clocks : Clocks} {header : HeaderValue} {setting : Setting} (set : Set
     F : Reign setting f Q long (l ∷ older)
     F = reign setting (l ∷ older) (fits_at setting (l ∷ older) World fits place) (won-at (l ∷ older) place) long quick f Q wins
 
-
     f-now : F.w ∷ F.wb ≡ l ∷ older
     f-now = elim F.place [
       | inl e ↦ e

@@ -27,7 +27,6 @@ use Rattle.tsp_run.specs.Clocked.{clocks_of}
 use Rattle.tsp_run.proofs.OwnClocks.{runs_by_own_clocks}
 use Rattle.tsp_progress.specs.TableKept.{ClockedRunsLeave, RunsLeave, TableFits, TablesLast}
 use Rattle.tsp_progress.proofs.{DebtKeeps.Paid, DebtKeeps.pays, DebtKeeps.runs_pay}
-
 use Rattle.tsp_progress.proofs.LeaveRows.{Base, by_tabling, calm_built, rung, sends}
 use Rattle.tsp_rules.specs.Answers.{peer_replies}
 use Rattle.tsp_rules.specs.DateRows.{date_acked}
@@ -160,15 +159,17 @@ unfolding joins
 joining p m kind = Leads_either (may_join p m.number) (puts (Join p) followed_by begins_settime p m.number) nothing
     (Leads_then {Q = Base} (puts (Join p)) (begins_settime p m.number)
     (Leads_puts (Join p) (λ x past h.
-        let parts = and_parts (nat_lt m.number 32768) (not (is_slave_at p x past)) h.1 in
-        (record {
-          message = m;
-          took = h.0.0.1;
-          kind = kind;
-          ticket = ltb-true m.number 32768 parts.0;
-          leads = h.0.1;
-          new = not-true (is_slave_at p x past) parts.1;
-        }, h.0.0.0)))
+    let parts = and_parts (nat_lt m.number 32768) (not (is_slave_at p x past)) h.1 in (
+      record {
+        message = m;
+        took = h.0.0.1;
+        kind = kind;
+        ticket = ltb-true m.number 32768 parts.0;
+        leads = h.0.1;
+        new = not-true (is_slave_at p x past) parts.1;
+      },
+      h.0.0.0,
+    )))
     (pays by_tabling (Correcting ∷ []) (begins_settime p m.number) refl (begun_settime p m.number)))
     (Leads_from (λ x past h. h.0.0.0) Leads_nothing)
 

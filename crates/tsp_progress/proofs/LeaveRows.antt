@@ -128,10 +128,34 @@ apart_kept : (round : List Standing) (a : Act) → is_apart a ≡ true → (x : 
 apart_kept round (Close count lo width mean) e x past h = absurd (true≢false (sym e))
 apart_kept round (Join p) e x past h = absurd (true≢false (sym e))
 apart_kept round (Leave p) e x past h = absurd (true≢false (sym e))
-apart_kept round _ e x past h = record { paid = (tt, h.paid); close = h.close; there = h.there; is = h.is; step = h.step; count = h.count; lo = h.lo; size = h.size; mean = h.mean; deed = h.deed; so = h.so }
+apart_kept round _ e x past h = record {
+  paid = (tt, h.paid);
+  close = h.close;
+  there = h.there;
+  is = h.is;
+  step = h.step;
+  count = h.count;
+  lo = h.lo;
+  size = h.size;
+  mean = h.mean;
+  deed = h.deed;
+  so = h.so;
+}
 
 one_less : (s : Standing) (rest : List Standing) (x : ℕ) (past : Past) → Closed (s ∷ rest) x past → Closed rest x past
-one_less s rest x past h = record { paid = h.paid; close = h.close; there = h.there; is = h.is; step = h.step; count = h.count; lo = h.lo; size = h.size; mean = h.mean; deed = h.deed; so = h.so.1 }
+one_less s rest x past h = record {
+  paid = h.paid;
+  close = h.close;
+  there = h.there;
+  is = h.is;
+  step = h.step;
+  count = h.count;
+  lo = h.lo;
+  size = h.size;
+  mean = h.mean;
+  deed = h.deed;
+  so = h.so.1;
+}
 
 posted : (round : List Standing) (p : PeerId) (kind : Kind) (number : ℕ) (time : ℤ) → Leads (Closed round) (posts_time p kind number time) (Closed round)
 unfolding posts_time
@@ -153,19 +177,22 @@ unfolding corrects_peer corrects_by
 corrects_one mean s rest = by_best s.best refl where
   by_best : (o : Option Estimate) → s.best ≡ o → Leads (Closed (s ∷ rest)) (corrects_by mean s.peer o) (Closed rest)
   by_best None e = Leads_puts (Leave s.peer) (λ x past h. record {
-    paid = (inr (inl (record {
-      close = h.close;
-      past = h.there;
-      is = h.is;
-      step = h.step;
-      count = h.count;
-      lo = h.lo;
-      size = h.size;
-      mean = h.mean;
-      deed = h.deed;
-      measured = h.so.0.1;
-      none = sym h.so.0.0 ∙ e;
-    })), h.paid);
+    paid = (
+      inr (inl (record {
+        close = h.close;
+        past = h.there;
+        is = h.is;
+        step = h.step;
+        count = h.count;
+        lo = h.lo;
+        size = h.size;
+        mean = h.mean;
+        deed = h.deed;
+        measured = h.so.0.1;
+        none = sym h.so.0.0 ∙ e;
+      })),
+      h.paid,
+    );
     close = h.close;
     there = h.there;
     is = h.is;

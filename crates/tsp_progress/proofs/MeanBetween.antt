@@ -1,5 +1,5 @@
 -- The mean of a group is no larger than the values.
-use Rattle.std.proofs.Common.{◌≡◌, sym, subst, ap, ℕ, ◌<◌, ◌≤◌, ◌≤ℤ◌, ◌*ℤ◌, Bool, true, false, if◌then◌else◌, ℤ, pos, neg_ℤ, nat_abs, List, [], ◌∷◌, length, map, arith}
+use Rattle.std.proofs.Common.{◌≡◌, sym, subst, ℕ, ◌<◌, ◌≤ℤ◌, Bool, true, false, if◌then◌else◌, ℤ, pos, neg_ℤ, List, [], ◌∷◌, length, map, arith}
 use Rattle.std.proofs.Common.{Option, None, Some, refl}
 use Rattle.std.proofs.lemmas.{Int.ints, List.Elements.All-cons, List.Elements.All-filter, List.Elements.All-nil, List.Elements.All-weaker}
 use Rattle.std.specs.List.{All, Contains}

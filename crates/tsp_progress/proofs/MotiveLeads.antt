@@ -1,12 +1,12 @@
 -- What single acts make of a port whose deeds have their motives.
-use Rattle.std.proofs.Common.{sym, ap, subst, true≢false, eqb-true, ◌∙◌, ◌≡◌, ◌⊎◌, inl, inr, ℕ, ◌==◌, ◌&&◌, ◌||◌, not, Bool, true, false}
+use Rattle.std.proofs.Common.{sym, ap, subst, true≢false, eqb-true, ◌∙◌, ◌≡◌, ℕ, ◌==◌, ◌&&◌, ◌||◌, not, Bool, true, false}
 use Rattle.std.proofs.Common.{if◌then◌else◌, List, [], ◌∷◌, Option, None, Some, is_some, refl}
 use Rattle.std.proofs.lemmas.Bool.{and_parts, not-true}
-use Rattle.tsp_rules.specs.Values.{Act, Boot, Took, Post, Become, Arm, Ring, Late, Back, Abandon, Acked, Gave, Alarm, Quiet, Search, Elect, Window, Probe}
-use Rattle.tsp_rules.specs.Values.{CloseAlarm, ResolveAlarm, Round, Message, Kind, AdjTime, Election, MasterAck, MasterUp, QuitKind, SetTime, PeerId, Peer}
+use Rattle.tsp_rules.specs.Values.{Act, Boot, Post, Become, Arm, Ring, Late, Back, Abandon, Acked, Gave, Alarm, Quiet, Search, Elect, Window, Probe}
+use Rattle.tsp_rules.specs.Values.{CloseAlarm, Message, Kind, AdjTime, Election, MasterAck, MasterUp, QuitKind, SetTime, PeerId, Peer}
 use Rattle.tsp_rules.specs.Values.{Role, Follow, Master}
-use Rattle.tsp_base.specs.Words.{Acts, Deadlines, Deed, Did, Here, MessageValue, Past, Row, Seen, Leads, acting, armed, armed_after, deadline, grown, is_numbered}
-use Rattle.tsp_base.specs.Words.{message_at, none_armed, open_to, open_to_after, puts, role, role_after, with_deadline}
+use Rattle.tsp_base.specs.Words.{Acts, Deadlines, Did, Here, MessageValue, Past, Row, Seen, Leads, acting, armed, armed_after, deadline, grown, is_numbered}
+use Rattle.tsp_base.specs.Words.{message_at, open_to, open_to_after, puts, role, role_after, with_deadline}
 use Rattle.tsp_base.proofs.LeadsLemmas.{Leads_puts}
 use Rattle.tsp_rules.specs.{CommonRows.is_idle, Guards.is_master, Guards.is_starting_role}
 use Rattle.tsp_rules.proofs.Emits.{Sort, Alarming, Backing, Booting, Changing, Correcting, Emits, Following, Keeps_by, Leading, Numbering, Posting, Rounding}

@@ -1,10 +1,10 @@
 -- Each alarm's row has its motives.
-use Rattle.std.proofs.Common.{sym, ap, subst, true≢false, ◌∙◌, ◌≡◌, ◌⊎◌, inl, inr, ℕ, ◌+◌, ◌==◌, Bool, true, false, List, [], ◌∷◌, Option, None, Some}
+use Rattle.std.proofs.Common.{sym, true≢false, ◌∙◌, ◌≡◌, ◌⊎◌, inl, inr, ℕ, ◌+◌, Bool, true, false, List, [], ◌∷◌, Option, None, Some}
 use Rattle.std.proofs.Common.{is_some, map, refl}
-use Rattle.tsp_rules.specs.Values.{Act, Post, Become, Arm, Ring, Late, Back, Abandon, Alarm, Quiet, Search, Elect, Window, Probe, CloseAlarm, ResolveAlarm, Round}
-use Rattle.tsp_rules.specs.Values.{PeerId, Peer, Role, Starting, Loose, Follow, Candidate, Master, Kind, Ack, Conflict, Election, MasterReq, MasterUp, QuitKind}
-use Rattle.tsp_rules.specs.Values.{SlaveUp, Test, Message, WINDOW, ROUND, PROBE, CLOSE, WAIT}
-use Rattle.tsp_base.specs.Words.{Acts, Deed, Elsewhere, Here, Past, Row, Seen, Leads, arms, armed, bare, for_each, grown, nothing, others, post_of, posts, posts_back}
+use Rattle.tsp_rules.specs.Values.{Become, Arm, Ring, Late, Back, Abandon, Alarm, Quiet, Search, Elect, Window, Probe, CloseAlarm, ResolveAlarm, Round}
+use Rattle.tsp_rules.specs.Values.{PeerId, Role, Starting, Loose, Follow, Candidate, Master, Kind, Election, MasterReq, MasterUp, QuitKind}
+use Rattle.tsp_rules.specs.Values.{SlaveUp, Test, WINDOW, ROUND, PROBE, CLOSE, WAIT}
+use Rattle.tsp_base.specs.Words.{Acts, Deed, Elsewhere, Here, Past, Row, Seen, Leads, arms, armed, for_each, grown, nothing, others, post_of, posts}
 use Rattle.tsp_base.specs.Words.{posts_to_others, puts, either_by, reading, role, taken, ◌followed_by◌}
 use Rattle.tsp_base.proofs.LeadsLemmas.{Leads_then, Leads_either, Leads_reading, Leads_nothing, Leads_puts, Leads_each, Leads_from, Leads_to}
 use Rattle.tsp_rules.specs.CandidateRows.{has_won, lead_row, window_rings, yields}
@@ -176,7 +176,8 @@ asks_all : Leads (In is_candidate) (begins_to_others Election) (In is_candidate)
 unfolding begins_to_others
 asks_all = Leads_reading others_at (for_each (begins Election)) (λ ps. Leads_from (λ x past h. h.0) (Leads_each (begins Election) ps asks_one))
 
-pub stands : {P : ℕ → Past → Type 0} → ((x : ℕ) (past : Past) → P x past → Moved past.seen × ((newest_is elects_by past.seen ≡ true) ⊎ TookKind Test past.seen)) →
+pub stands : {P : ℕ → Past → Type 0} → ((x : ℕ) (past : Past) → P x past → Moved past.seen × ((newest_is elects_by past.seen ≡ true) ⊎ TookKind Test past.seen))
+    →
     Leads P candidature_row Base
 unfolding candidature_row arms
 stands k = Leads_then {Q = StandingNow} (puts (Become Candidate)) (backs_own followed_by (arms Window WINDOW followed_by begins_to_others Election))

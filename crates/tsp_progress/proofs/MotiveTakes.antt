@@ -1,6 +1,5 @@
 -- What a port does with a datagram, and its due sends, have their motives.
-use Rattle.std.proofs.Common.{sym, ap, subst, true≢false, ◌∙◌, ◌≡◌, inl, inr, ℕ, ℤ, ◌+◌, ◌==◌, Bool, true, false, List, [], ◌∷◌, Option, None, Some, map, refl}
-use Rattle.std.proofs.lemmas.Bool.{and_parts}
+use Rattle.std.proofs.Common.{sym, ap, ◌∙◌, ◌≡◌, inl, inr, ℕ, ℤ, ◌==◌, Bool, true, false, List, [], ◌∷◌, Option, None, Some, map, refl}
 use Rattle.tsp_rules.specs.Values.{Act, Took, Post, Back, Quit, Abandon, Acked, Gave, Leave, Search, ResolveAlarm, PeerId, Place, Peer, Stranger, Port, Role}
 use Rattle.tsp_rules.specs.Values.{Starting, Loose, Follow, Candidate, Master, Kind, Accept, Ack, AdjTime, Conflict, Date, DateAck, DateReq, Election, LoopKind}
 use Rattle.tsp_rules.specs.Values.{MasterAck, MasterReq, MasterUp, Msite, MsiteReq, QuitKind, Refuse, ResolveKind, SetDate, SetDateReq, SetTime, SlaveUp, Test}
@@ -10,17 +9,19 @@ use Rattle.tsp_base.specs.Words.{nothing, open_to, others, post_of, posts, posts
 use Rattle.tsp_base.specs.Words.{sending_at, sending_of, taken, time_in, ◌followed_by◌}
 use Rattle.tsp_base.proofs.LeadsLemmas.{Leads_then, Leads_either, Leads_reading, Leads_nothing, Leads_puts, Leads_each, Leads_from, Leads_to}
 use Rattle.tsp_rules.specs.CandidateRows.{candidate_takes, candidate_takes_kind, refused_by, yields}
-use Rattle.tsp_rules.specs.CommonRows.{arms_elect, candidature_row, follow_row, follows_unless, is_awake, is_idle, may_be_asked, names_master, master_name, quits}
+use Rattle.tsp_rules.specs.CommonRows.{arms_elect, candidature_row, follow_row, follows_unless, is_awake, is_idle, may_be_asked, names_master, master_name}
+use Rattle.tsp_rules.specs.CommonRows.{quits}
 use Rattle.tsp_rules.specs.CommonRows.{posts_reply, replies, says_master, tests, traces}
 use Rattle.tsp_rules.specs.SlaveRows.{reports_conflict, masterup_in, masterack_in, election_of}
 use Rattle.tsp_rules.specs.SlaveRows.{acks_repeat, confirms, adjtime_of, settime_of, from_master, slave_takes, slave_takes_kind, takes_amount, takes_value}
 use Rattle.tsp_rules.specs.SlaveRows.{is_repeated}
 use Rattle.tsp_rules.specs.{MasterRows.master_takes, MasterRows.master_takes_kind, MasterRows.sends_away, ResolveRows.resolves}
 use Rattle.tsp_rules.specs.{ClockRows.adjusts, ClockRows.sets}
-use Rattle.tsp_rules.specs.DateRows.{date_acked, date_in, date_of, date_request_in, date_request_of, is_dated, leaves, leaves_all, may_date, new_date, passes_on}
+use Rattle.tsp_rules.specs.DateRows.{date_acked, date_in, date_of, date_request_in, date_request_of, is_dated, leaves, leaves_all, may_date, new_date}
+use Rattle.tsp_rules.specs.DateRows.{passes_on}
 use Rattle.tsp_rules.specs.DateRows.{sets_date_where, sets_in_charge}
 use Rattle.tsp_rules.specs.{GateRows.loosens_master, GateRows.reposts, GateRows.repost, GateRows.loop_to, GateRows.sends_loops}
-use Rattle.tsp_rules.specs.Guards.{is_heard, is_armed, is_in_range, is_master, is_master_at, is_own, may_back_at, may_stand_at, role_at, table_at}
+use Rattle.tsp_rules.specs.Guards.{is_heard, is_armed, is_in_range, is_master, is_master_at, is_own, may_back_at, role_at, table_at}
 use Rattle.tsp_rules.specs.SendRows.{acknowledges, begins, begins_timed, due_send, due_sends, gives_up, has_quit, is_free, next_number}
 use Rattle.tsp_rules.specs.SendRows.{is_send_due, is_spent, leaves_after, open_at, peers_at, repeats, repeats_send}
 use Rattle.tsp_rules.specs.Answers.{from_peer, handles, handles_kind, is_left, peer_replies, peer_says, says_in, takes}
@@ -28,13 +29,12 @@ use Rattle.tsp_rules.proofs.Emits.{Acking, Counting, Correcting, Tabling, Rivall
 use Rattle.tsp_rules.proofs.BuiltShared.{built_acknowledges}
 use Rattle.tsp_rules.proofs.BuiltAnswers.{built_date_acked, built_peer_replies}
 use Rattle.tsp_rules.proofs.{BuiltRoles.built_accepted_by, BuiltRoles.built_joins, BuiltRoles.built_finds_rival}
-use Rattle.tsp_rules.proofs.GuardFacts.{master_is}
 use Rattle.tsp_progress.specs.AlarmsFit.{is_candidate, newest_is}
-use Rattle.tsp_progress.specs.{CausesFit.backs_by, Motives.TookCall, Motives.is_call, Motives.may_say, RolesLast.TookKind, RolesLast.TookOf}
+use Rattle.tsp_progress.specs.{CausesFit.backs_by, Motives.TookCall, Motives.is_call, RolesLast.TookKind}
 use Rattle.tsp_progress.proofs.PortWakes.{Leads_if}
-use Rattle.tsp_progress.proofs.MotiveLeads.{Base, In, Moved, any_role, calm_built, does_plain, does_rule, is_common, is_election, is_plain, is_rule, keep, now_did}
-use Rattle.tsp_progress.proofs.MotiveLeads.{plain, rule, rule_built, says_open}
-use Rattle.tsp_progress.proofs.MotiveRows.{Called, ElectCause, again, arms_resolve, begun, begun_rule, called_after, candidate_busy, drop, elects_for, follows}
+use Rattle.tsp_progress.proofs.MotiveLeads.{Base, In, Moved, any_role, calm_built, does_plain, is_common, is_plain, keep, now_did}
+use Rattle.tsp_progress.proofs.MotiveLeads.{plain, rule_built, says_open}
+use Rattle.tsp_progress.proofs.MotiveRows.{Called, again, arms_resolve, begun, begun_rule, called_after, candidate_busy, drop, elects_for, follows}
 use Rattle.tsp_progress.proofs.MotiveRows.{from_any, master_busy, posted, posted_rule, stands, told_rule, yield}
 
 -- the due sends
@@ -297,7 +297,8 @@ back ok from kind number e = record {
   run = λ x past h. plain ok (Post from (Message (bare kind number past.name))) (back_plain from (bare kind number past.name) e) x past h;
 }
 
-either : {r s : Row} (ok : Role → Bool) (test : ℕ → Past → Bool) → Leads (In ok) r (In ok) → Leads (In ok) s (In ok) → Leads (In ok) (either_by test r s) (In ok)
+either : {r s : Row} (ok : Role → Bool) (test : ℕ → Past → Bool) → Leads (In ok) r (In ok) → Leads (In ok) s (In ok) →
+    Leads (In ok) (either_by test r s) (In ok)
 either {r} {s} ok test d e = Leads_either test r s (Leads_from (λ x past h. h.0) d) (Leads_from (λ x past h. h.0) e)
 
 named : (from : Place) (number : ℕ) → Leads (In any_role) (names_master from number) (In any_role)
@@ -333,7 +334,8 @@ tested from m kind = Leads_either is_awake (posts_back from Ack m.number followe
 
 -- dates
 
-timed_post : (ok : Role → Bool) (p : PeerId) (kind : Kind) (number : ℕ) (time : ℤ) → is_common kind ≡ true → Leads (In ok) (posts_time p kind number time) (In ok)
+timed_post : (ok : Role → Bool) (p : PeerId) (kind : Kind) (number : ℕ) (time : ℤ) → is_common kind ≡ true →
+    Leads (In ok) (posts_time p kind number time) (In ok)
 unfolding posts_time
 timed_post ok p kind number time e = record { run = λ x past h. plain ok _ e x past h }
 
@@ -341,7 +343,8 @@ passed : (ok : Role → Bool) (from : Place) (q : PeerId) (number : ℕ) (time :
 unfolding passes_on begins_timed
 passed ok from q number time = either ok _
     (Leads_then {Q = In ok} (posts_back from Ack number) (reading next_number (λ n. posts_time q SetDateReq n time)) (back ok from Ack number refl)
-    (Leads_reading next_number (λ n. posts_time q SetDateReq n time) (λ n. Leads_from (λ x past h. h.0) (timed_post ok q SetDateReq n time refl)))) Leads_nothing
+    (Leads_reading next_number (λ n. posts_time q SetDateReq n time) (λ n. Leads_from (λ x past h. h.0) (timed_post ok q SetDateReq n time refl))))
+    Leads_nothing
 
 dated : (from : Place) (number : ℕ) (time : ℤ) → Leads (In is_master) (sets_date_where from number time) (In is_master)
 unfolding sets_date_where new_date sets leaves_all leaves

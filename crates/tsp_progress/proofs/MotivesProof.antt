@@ -1,10 +1,10 @@
 -- In every run each deed that elections rest on has its motive.
-use Rattle.std.proofs.Common.{sym, subst, true≢false, ◌∙◌, ◌≡◌, ap, ℕ, ◌+◌, Bool, true, false, List, [], ◌∷◌, is_some, refl}
-use Rattle.tsp_rules.specs.Values.{Arm, Become, Boot, Good, Message, Quiet, Port, Role, Starting, QUIET}
+use Rattle.std.proofs.Common.{sym, subst, true≢false, ◌∙◌, ◌≡◌, ap, ◌+◌, true, is_some, refl}
+use Rattle.tsp_rules.specs.Values.{Arm, Become, Good, Message, Quiet, Role, Starting, QUIET}
 use Rattle.tsp_rules.specs.Guards.{is_starting_role}
-use Rattle.tsp_base.specs.Words.{Acts, HeaderValue, Leads, Past, arms, of, puts, role, view, ◌followed_by◌}
+use Rattle.tsp_base.specs.Words.{Leads, arms, puts, role, ◌followed_by◌}
 use Rattle.tsp_base.proofs.LeadsLemmas.{Leads_puts, Leads_then}
-use Rattle.tsp_run.specs.Clocked.{Clocks, clocks_of, run_by}
+use Rattle.tsp_run.specs.Clocked.{clocks_of}
 use Rattle.tsp_run.proofs.OwnClocks.{runs_by_own_clocks}
 use Rattle.tsp_progress.specs.Motives.{ClockedRunsHaveMotives, HaveMotives, RunsHaveMotives}
 use Rattle.tsp_progress.proofs.InTimeProof.{none_is}

@@ -1,7 +1,7 @@
 -- A node with one port does everything there.
-use Rattle.std.proofs.Common.{sym, ap, subst, arith, inl, inr, ◌∙◌, ◌≡◌, ◌<◌, ℕ, false, List, [], ◌∷◌, length, refl}
+use Rattle.std.proofs.Common.{ap, subst, arith, inl, inr, ◌≡◌, ◌<◌, ℕ, List, [], ◌∷◌, length}
 use Rattle.tsp_rules.specs.Values.{Port}
-use Rattle.tsp_base.specs.Words.{Line, Within, first_port, is_shared}
+use Rattle.tsp_base.specs.Words.{Line, Within, first_port}
 use Rattle.tsp_promises.specs.{Fits.node_of}
 use Rattle.tsp_run.specs.{Networks.networks, Networks.ports_on}
 use Rattle.tsp_run.specs.Clocked.{clocks_of, run_by}

@@ -1,24 +1,24 @@
 -- A master's clock is left alone between two Closes, but for the Correct right after the first.
-use Rattle.std.proofs.Common.{sym, ap, subst, arith, true≢false, inl, inr, ◌∙◌, ◌≡◌, ◌≤◌, ◌⊎◌, ℕ, ◌+◌, ◌==◌, ℤ, Bool, true, false, List, [], ◌∷◌, length, refl}
-use Rattle.tsp_rules.specs.Values.{Close, Correct, Follow, Good, Master, Message, PeerId, Role, Took}
-use Rattle.tsp_base.specs.Words.{Acts, Did, Here, Line, Seen, Within, all_corrects, dids, first_port, from_act, is_shared, of, role, time_of, view}
+use Rattle.std.proofs.Common.{sym, ap, subst, arith, true≢false, inl, inr, ◌∙◌, ◌≡◌, ◌≤◌, ℕ, ℤ, Bool, false, List, ◌∷◌, refl}
+use Rattle.tsp_rules.specs.Values.{Correct, Follow, Master, PeerId, Role}
+use Rattle.tsp_base.specs.Words.{Acts, Did, Here, Line, Seen, Within, all_corrects, dids, first_port, is_shared, of, role, time_of, view}
 use Rattle.tsp_base.proofs.PlaceLemmas.{Within_comparable, Within_strict, Within_tail, Within_through}
 use Rattle.tsp_promises.specs.{Agreed.RightAfter, Agreed.UnchangedBut, CorrectFits.CorrectFits, CorrectFits.WhyCorrect, CorrectFits.ByDate}
-use Rattle.tsp_promises.specs.{CorrectFits.ByMaster, CorrectFits.ByRound, Fits.Fits, Fits.node_of, Setting.Setting, Setting.setup_of}
+use Rattle.tsp_promises.specs.{CorrectFits.ByMaster, CorrectFits.ByRound, Fits.node_of, Setting.Setting, Setting.setup_of}
 use Rattle.tsp_promises.proofs.{shared.HistoryPlaces.line_on}
 use Rattle.tsp_promises.proofs.promised.OwnFitsProof.{deed_fits, fits_at, fits_in, locate, place_time, seen_before, seen_in}
 use Rattle.tsp_promises.proofs.{promised.KnownProof.line_is}
 use Rattle.tsp_run.specs.Clocked.{Clocks}
 use Rattle.tsp_base.specs.Words.{HeaderValue}
 use Rattle.tsp_progress.specs.{InTable.Undated, LateClose.LateClose, SlewsTable.MovesOwn, TakesRounds.NoneSince}
-use Rattle.tsp_progress.proofs.{AllAsked.Asked, AllAsked.on_first, CorrectBetween.Between, CorrectBetween.between, LateCloses.same_lives, LateCloses.since}
+use Rattle.tsp_progress.proofs.{AllAsked.Tended, AllAsked.on_first, CorrectBetween.Between, CorrectBetween.between, LateCloses.same_lives, LateCloses.since}
 use Rattle.tsp_progress.proofs.{SlewsProof.slews_table}
 
 leads_not : {A : Type 0} (p : PeerId) (r : Role) → r ≡ Master → r ≡ Follow p → A
 leads_not p r m e = let bad : Follow p ≡ Master = sym e ∙ m in let no : ⊥ = cc in absurd no
 
 module _ {clocks : Clocks} {header : HeaderValue} {setting : Setting} (late long t : ℕ) (stays : ℕ → Bool) (c : ℕ) (s world : List Line)
-    (a : Asked clocks header setting late long t stays c s world) (undated : Undated c s world) (C : Line) (cp : List Line)
+    (a : Tended clocks header setting late long t stays c s world) (undated : Undated c s world) (C : Line) (cp : List Line)
     (r : LateClose long t c s C cp world) where
   since-cp : Within s cp
   since-cp = since setting world a.fits long t c stays s a.s_in a.calm (on_first a) C cp r
@@ -85,8 +85,7 @@ module _ {clocks : Clocks} {header : HeaderValue} {setting : Setting} (late long
             | inl e ↦ absurd (let same : Own.next.did ≡ d = cc in
                 other r.mean Own.stepped Own.shown (ap (λ (z : Did). z.deed) (sym same) ∙ Own.deed))
             | inr v ↦ v
-          ] in
-          (
+          ] in (
             l.older,
             (
               l.place,

@@ -1,22 +1,24 @@
 -- A correction that a master begins finds its follower ready: the follower may take it, or took its number last.
-use Rattle.std.proofs.Common.{sym, ap, subst, arith, inl, inr, ◌∙◌, ◌≡◌, ◌≢◌, ◌≤◌, ◌<◌, ◌⊎◌, ℕ, ◌+◌, ◌*◌, ◌%◌, ◌==◌}
-use Rattle.std.proofs.Common.{◌||◌, le-leb, Bool, true, false, List, [], ◌∷◌, Option, None, Some, eq-eqb, eqb-true, ℤ, neg_ℤ, int_lt, ◌<ℤ◌, refl}
-use Rattle.std.proofs.lemmas.{Bool.cases_lt, Bool.or_right, Int.ints}
-use Rattle.tsp_rules.specs.Values.{Boot, Correct, Post, AdjTime, SetTime, Message, Good, Peer, PeerId, Role, Follow, Master, GAP}
+use Rattle.std.proofs.Common.{sym, ap, subst, arith, inl, inr, ◌∙◌, ◌≡◌, ◌≤◌, ◌<◌, ◌⊎◌, ℕ, ◌+◌, ◌*◌, ◌==◌}
+use Rattle.std.proofs.Common.{◌||◌, Bool, true, false, List, [], ◌∷◌, Some, eq-eqb, eqb-true, ℤ, neg_ℤ, int_lt, refl}
+use Rattle.std.proofs.lemmas.{Bool.cases_lt, Bool.or_right}
+use Rattle.tsp_rules.specs.Values.{Boot, Correct, Post, AdjTime, SetTime, Message, Good, Peer, PeerId, Follow, GAP}
 use Rattle.tsp_rules.specs.Values.{LIFE, LIMIT}
-use Rattle.tsp_rules.specs.{GateRows.steers, Guards.is_clock_value, Guards.is_follow, SlaveRows.is_by, SlaveRows.is_next, SlaveRows.is_repeated, SlaveRows.takes_amount}
+use Rattle.tsp_rules.specs.{GateRows.steers, Guards.is_clock_value, Guards.is_follow, SlaveRows.is_by, SlaveRows.is_next, SlaveRows.is_repeated}
+use Rattle.tsp_rules.specs.{SlaveRows.takes_amount}
 use Rattle.tsp_rules.specs.{ClockRows.can_adjust, SlaveRows.takes_value}
-use Rattle.tsp_base.specs.Words.{Acts, Deed, Elsewhere, HeaderValue, Here, Line, MessageValue, Past, Within, acting, correct_tick, correcting_of}
+use Rattle.tsp_base.specs.Words.{Acts, Deed, HeaderValue, Here, Line, MessageValue, Past, Within, acting, correct_tick, correcting_of}
 use Rattle.tsp_base.specs.Words.{corrects, dids, first_port, is_correction, is_past, last_correct, last_taken, last_taken_after, of, peer_of, plain, role, said}
-use Rattle.tsp_base.specs.Words.{open_to, seen_as, is_shared, taken, ticket, time_in, time_of, view, word}
-use Rattle.tsp_base.proofs.{PlaceLemmas.Within_all, PlaceLemmas.Within_comparable, PlaceLemmas.Within_length, PlaceLemmas.Within_tail, PlaceLemmas.Within_through, Views.plain_view}
+use Rattle.tsp_base.specs.Words.{open_to, taken, ticket, time_in, time_of, view, word}
+use Rattle.tsp_base.proofs.{PlaceLemmas.Within_all, PlaceLemmas.Within_comparable, PlaceLemmas.Within_length, PlaceLemmas.Within_tail}
+use Rattle.tsp_base.proofs.{PlaceLemmas.Within_through, Views.plain_view}
 use Rattle.tsp_promises.specs.{CorrectFits.CorrectFits, CorrectFits.TakesCorrection}
 use Rattle.tsp_promises.specs.{CorrectionFits.BeginFits}
 use Rattle.tsp_promises.specs.{Fits.Fits, Fits.node_of, Once.OnceConfirmed, Setting.Setting, Setting.setup_of}
 use Rattle.tsp_promises.proofs.{promised.ConfirmedProof.once_confirmed, promised.SameSendProof.same_send}
 use Rattle.tsp_promises.proofs.{promised.SourceProof.Source, promised.SourceProof.source, promised.SendProof.CorrectsTo}
 use Rattle.tsp_promises.proofs.{shared.Clocks.near, shared.Clocks.tick_mono, shared.HistoryPlaces.line_on}
-use Rattle.tsp_promises.proofs.{shared.HistoryPlaces.of_other, shared.HistoryPlaces.of_own, shared.SendPlaces.post_fits}
+use Rattle.tsp_promises.proofs.{shared.HistoryPlaces.of_own, shared.SendPlaces.post_fits}
 use Rattle.tsp_promises.proofs.{shared.SendPlaces.send_place, promised.KnownProof.line_is}
 use Rattle.tsp_promises.proofs.promised.OwnFitsProof.{Given, deed_fits, fits_at, fits_in, given_at, place_time, tick_in}
 use Rattle.tsp_run.specs.Clocked.{Clocks, SetByClocks}
@@ -27,126 +29,9 @@ use Rattle.tsp_progress.specs.StaysIn.{InRange, IsBrief}
 use Rattle.tsp_progress.specs.CorrectsApart.{CorrectsApart}
 use Rattle.tsp_progress.proofs.{FollowHeard.first_steers, MovedByProof.moved_by_master, MovedByProof.takes_correction, ReportsProof.seen_first, SendKept.opens}
 use Rattle.tsp_progress.proofs.PortSetups.{differ}
-use Rattle.tsp_progress.proofs.StaysProof.{BeginsBetween, after_place, correction_numbered}
-
--- a node's last correction stands in the history
-record CorrectLine (n y : ℕ) (h : List Line) : Type 0 where
-  pub line : Line
-  pub before : List Line
-  pub place : Within (line ∷ before) h
-  pub node : node_of line ≡ n
-  pub amount : ℤ
-  pub stepped : Bool
-  pub shown : ℤ
-  pub deed : line.did.deed ≡ Acts (Correct amount stepped shown)
-  pub tick : line.did.tick ≡ y
-
-some_same : (x y : ℕ) → Some x ≡ Some y → x ≡ y
-some_same x y e = ap kept e where
-  kept : Option ℕ → ℕ
-  kept None = x
-  kept (Some z) = z
-
-none_some : {A : Type 0} (y : ℕ) → None ≡ Some y → A
-none_some y e = let bad : ⊥ = cc in absurd bad
-
-correct_line : (n y : ℕ) (h : List Line) → correct_tick (dids (of n h)) ≡ Some y → CorrectLine n y h
-correct_line n y [] e = none_some y e
-correct_line n y (l ∷ h) e = by_node (node_of l == n) refl (correct_line n y h) where
-  later : CorrectLine n y h → CorrectLine n y (l ∷ h)
-  later c = record {
-    line = c.line;
-    before = c.before;
-    place = inr c.place;
-    node = c.node;
-    amount = c.amount;
-    stepped = c.stepped;
-    shown = c.shown;
-    deed = c.deed;
-    tick = c.tick;
-  }
-
-  by_deed : (deed : Deed) → l.did.deed ≡ deed → node_of l ≡ n → correct_tick (l.did ∷ dids (of n h)) ≡ Some y →
-      (correct_tick (dids (of n h)) ≡ Some y → CorrectLine n y h) → CorrectLine n y (l ∷ h)
-  by_deed (Acts Boot) is node k older = none_some y (sym (rw is refl) ∙ k)
-  by_deed (Acts (Correct amount stepped shown)) is node k older = record {
-    line = l;
-    before = h;
-    place = Within_all (l ∷ h);
-    node = node;
-    amount = amount;
-    stepped = stepped;
-    shown = shown;
-    deed = is;
-    tick = some_same l.did.tick y (sym (let same : correct_tick (l.did ∷ dids (of n h)) ≡ Some l.did.tick = rw is refl in same) ∙ k);
-  }
-  by_deed _ is node k older = later (older (sym (let same : correct_tick (l.did ∷ dids (of n h)) ≡ correct_tick (dids (of n h)) = rw is refl in same) ∙ k))
-
-  by_node : (b : Bool) → (node_of l == n) ≡ b → (correct_tick (dids (of n h)) ≡ Some y → CorrectLine n y h) → CorrectLine n y (l ∷ h)
-  by_node true same older = by_deed l.did.deed refl (eqb-true (node_of l) n same)
-      (ap (λ ls. correct_tick (dids ls)) (sym (of_own n l h (eqb-true (node_of l) n same))) ∙ e) older
-  by_node false same older = later (older (ap (λ ls. correct_tick (dids ls)) (sym (of_other n l h same)) ∙ e))
-
--- what a line of the node that neither boots nor corrects it leaves alone
-record LeftAlone (n : ℕ) (l : Line) (h : List Line) : Type 0 where
-  pub number : ticket (dids (of n (l ∷ h))) ≡ ticket (dids (of n h))
-  pub tick : correct_tick (dids (of n (l ∷ h))) ≡ correct_tick (dids (of n h))
-  pub last : last_correct (dids (of n (l ∷ h))) ≡ last_correct (dids (of n h))
-  pub taken_is : last_taken (view first_port (of n (l ∷ h))) ≡ last_taken (view first_port (of n h))
-
-left_alone : (n : ℕ) (l : Line) (h : List Line) → node_of l ≡ n → l.did.deed ≢ Acts Boot →
-    ((amount : ℤ) (stepped : Bool) (shown : ℤ) → l.did.deed ≢ Acts (Correct amount stepped shown)) → LeftAlone n l h
-left_alone n l h node unbooted uncorrected = by_deed l.did.deed refl where
-  abbrev-of : of n (l ∷ h) ≡ l ∷ of n h
-  abbrev-of = of_own n l h node
-
-  flagged : (b : Bool) (deed : Deed) → l.did.deed ≡ deed → last_taken_after deed (taken (view first_port (of n h))) (last_taken (view first_port (of n h))) ≡
-      last_taken (view first_port (of n h)) →
-      last_taken (Elsewhere l.did ∷ view first_port (of n h)) ≡ last_taken (view first_port (of n h)) →
-      last_taken (seen_as b l.did ∷ view first_port (of n h)) ≡ last_taken (view first_port (of n h))
-  flagged true deed is here there = ap (λ d. last_taken_after d (taken (view first_port (of n h))) (last_taken (view first_port (of n h)))) is ∙ here
-  flagged false deed is here there = there
-
-  by_deed : (deed : Deed) → l.did.deed ≡ deed → LeftAlone n l h
-  by_deed (Acts Boot) is = absurd (unbooted is)
-  by_deed (Acts (Correct amount stepped shown)) is = absurd (uncorrected amount stepped shown is)
-  by_deed deed is = record {
-    number = ap (λ ls. ticket (dids ls)) abbrev-of ∙ rw is refl;
-    tick = ap (λ ls. correct_tick (dids ls)) abbrev-of ∙ rw is refl;
-    last = ap (λ ls. last_correct (dids ls)) abbrev-of ∙ rw is refl;
-    taken_is = ap (λ ls. last_taken (view first_port ls)) abbrev-of ∙
-        flagged ((l.port.0 == 0) || is_shared l.did.deed) deed is refl (rw is refl);
-  }
-
-other_line : (n : ℕ) (l : Line) (h : List Line) → (node_of l == n) ≡ false → LeftAlone n l h
-other_line n l h e = record {
-  number = ap (λ ls. ticket (dids ls)) (of_other n l h e);
-  tick = ap (λ ls. correct_tick (dids ls)) (of_other n l h e);
-  last = ap (λ ls. last_correct (dids ls)) (of_other n l h e);
-  taken_is = ap (λ ls. last_taken (view first_port ls)) (of_other n l h e);
-}
-
--- an order that a test finds
-pub less_int : (a b : ℤ) → a <ℤ b → int_lt a b ≡ true
-less_int a b h = by (int_lt a b) refl where
-  by : (t : Bool) → int_lt a b ≡ t → int_lt a b ≡ true
-  by true e = e
-  by false e = absurd (omega (arith, ints, e, h))
-
-past_gap : (o : Option ℕ) (x : ℕ) → ((y : ℕ) → o ≡ Some y → y + GAP ≤ x) → is_past o GAP x ≡ true
-past_gap None x k = refl
-past_gap (Some y) x k = le-leb (y + GAP) x (k y refl)
-
-small_number : (number n : ℕ) → number ≡ n % 32768 → number < 32768
-small_number number n e = let small : n % 32768 < 32768 = omega arith in omega (arith, e, small)
-
-follows_master : {A : Type 0} (p : PeerId) (r : Role) → r ≡ Follow p → r ≡ Master → A
-follows_master p r e m = let bad : Follow p ≡ Master = sym e ∙ m in absurd (no bad) where
-  no : Follow p ≡ Master → ⊥
-  no e = cc
-
-same_peers : (p q : PeerId) → Follow p ≡ Follow q → p ≡ q
-same_peers p q e = cc
+use Rattle.tsp_progress.proofs.{TookPlaces.after_place}
+use Rattle.tsp_progress.proofs.StaysProof.{BeginsBetween, correction_numbered}
+use Rattle.tsp_progress.proofs.ReadyLemmas.{CorrectLine, LeftAlone, correct_line, left_alone, less_int, other_line, past_gap, same_peers, small_number}
 
 module _ {clocks : Clocks} {header : HeaderValue} {setting : Setting} (set : SetByClocks clocks header setting) (world : List Line)
     (whole : Given setting world) (uses : UsesOnePort header world) (long t c : ℕ) (stays : ℕ → Bool) (s : List Line) (s-in : Within s world)
@@ -470,7 +355,8 @@ module _ {clocks : Clocks} {header : HeaderValue} {setting : Setting} (set : Set
           let own : (m.number == ticket (plain There.seen)) ≡ true =
           eq-eqb m.number (ticket (plain There.seen)) (sym (ap ticket plain-is ∙ u.number)) in
           let gap : is_past (correct_tick (plain There.seen)) GAP line.did.tick ≡ true = ap (λ ds. is_past (correct_tick ds) GAP line.did.tick) plain-is ∙
-          (ap (λ o. is_past o GAP line.did.tick) u.tick ∙ past_gap (correct_tick (dids (of n G))) line.did.tick (λ y e. old_enough line.did.tick y tick-there e)) in
+          (ap (λ o. is_past o GAP line.did.tick) u.tick ∙ past_gap (correct_tick (dids (of n G))) line.did.tick
+          (λ y e. old_enough line.did.tick y tick-there e)) in
           rw (own, gap) refl
 
       again : Retaken before → is_repeated (peer_of (node_of l)) m.number line.did.tick There ≡ true

@@ -14,13 +14,13 @@ use Rattle.tsp_progress.specs.WinsLate.{StoodLong, WinsLate, WonFits}
 use Rattle.tsp_progress.proofs.{StopPlaces.within_span, WinsNot.last_change, WinsNot.owed_at}
 
 -- the deed by which a port got its role
-record GotAt (r : Role) (place : List Seen) : Type 0 where
+pub record GotAt (r : Role) (place : List Seen) : Type 0 where
   pub start : Did
   pub idle : List Seen
   pub stood_is : place ≡ Here start ∷ idle
   pub deed : start.deed ≡ Acts (Become r)
 
-got_by : (r : Role) → Starting ≢ r → (seen : List Seen) → role seen ≡ r → GotAt r (stood seen)
+pub got_by : (r : Role) → Starting ≢ r → (seen : List Seen) → role seen ≡ r → GotAt r (stood seen)
 got_by r other [] e = absurd (other e)
 got_by r other (Elsewhere d ∷ before) e = got_by r other before e
 got_by r other (Here d ∷ before) e = by_deed d.deed refl e (λ k. got_by r other before k) where
@@ -30,7 +30,7 @@ got_by r other (Here d ∷ before) e = by_deed d.deed refl e (λ k. got_by r oth
   by_deed (Acts (Become q)) is k more = record { start = d; idle = before; stood_is = refl; deed = is ∙ ap (λ x. Acts (Become x)) k }
   by_deed _ is k more = more k
 
-head_did : {a b : Did} {x y : List Seen} → Here a ∷ x ≡ Here b ∷ y → a ≡ b
+pub head_did : {a b : Did} {x y : List Seen} → Here a ∷ x ≡ Here b ∷ y → a ≡ b
 head_did e = cc
 
 -- no change of the role comes after the last one, and no boot

@@ -232,7 +232,8 @@ pub clocked_runs_report : ClockedRunsReport
 clocked_runs_report clocks header setting events late long t stays c s set possible attended slack told one delivered s-in follow =
     let world = run_by clocks header events in
     let awake = clocked_runs_wake clocks header events in
-    reports_soon set world (clocked_runs_by_table clocks header events) (clocked_runs_fit clocks header setting events set possible).0 (manner_of header) awake.0
+    reports_soon set world (clocked_runs_by_table clocks header events) (clocked_runs_fit clocks header setting events set possible).0 (manner_of header)
+    awake.0
     awake.1 late long t c stays s attended slack told one delivered s-in follow
 
 pub runs_report : RunsReport

@@ -1,18 +1,22 @@
--- What anybody may ask, and dates, call others only in their role.
-use Rattle.std.proofs.Common.{ap, not, ◌≡◌, ℕ, ℤ, Bool, true, false, List, refl}
-use Rattle.tsp_rules.specs.Values.{Post, Leave, Trace, PeerId, Place, Peer, Stranger, Role, Follow, Master}
+-- What anybody may ask, dates, and due sends call others only in their role.
+use Rattle.std.proofs.Common.{ap, not, ◌≡◌, ◌∙◌, ◌∷◌, [], ℕ, ℤ, Bool, true, false, List, Option, None, Some, refl}
+use Rattle.tsp_rules.specs.Values.{Gave, Post, Leave, Trace, PeerId, Place, Peer, Stranger, Role, Follow, Master}
 use Rattle.tsp_rules.specs.Values.{Kind, Ack, DateAck, MasterUp, SetDateReq, Message, Stamp, Reply}
-use Rattle.tsp_base.specs.Words.{MessageValue, ReplyValue, Leads, bare}
+use Rattle.tsp_base.specs.Words.{MessageValue, ReplyValue, Leads, Seen, Sending, bare, did_of, either_by, message_at, message_of, open_to, posts_of}
+use Rattle.tsp_base.specs.Words.{sending_at, sending_of}
 use Rattle.tsp_base.specs.Words.{for_each, nothing, posts, posts_back}
 use Rattle.tsp_base.specs.Words.{posts_time, posts_to_others, puts, reading, time_in, timed, ◌followed_by◌}
-use Rattle.tsp_base.proofs.LeadsLemmas.{Leads_then, Leads_either, Leads_reading, Leads_nothing, Leads_each, Leads_from}
+use Rattle.tsp_base.proofs.LeadsLemmas.{Leads_then, Leads_either, Leads_reading, Leads_nothing, Leads_each, Leads_from, Leads_puts}
 use Rattle.tsp_rules.specs.CommonRows.{master_name, names_master, posts_reply, replies, says_master, traces}
 use Rattle.tsp_rules.specs.{ClockRows.sets}
-use Rattle.tsp_rules.specs.DateRows.{date_in, date_of, date_request_in, date_request_of, is_dated, leaves, leaves_all, may_date, may_pass_on, new_date, passes_on}
+use Rattle.tsp_rules.specs.DateRows.{date_in, date_of, date_request_in, date_request_of, is_dated, leaves, leaves_all, may_date, may_pass_on, new_date}
+use Rattle.tsp_rules.specs.DateRows.{passes_on}
 use Rattle.tsp_rules.specs.DateRows.{sets_date_where, sets_in_charge}
 use Rattle.tsp_rules.specs.Guards.{is_in_range, is_master, is_master_at, role_at, table_at}
-use Rattle.tsp_rules.specs.SendRows.{begins_timed, next_number}
-use Rattle.tsp_progress.proofs.RootLeads.{Base, In, any_role, is_plain, is_root_kind, plain}
+use Rattle.tsp_rules.specs.SendRows.{begins_timed, due_send, due_sends, gives_up, is_send_due, is_spent, leaves_after, next_number, open_at, peers_at}
+use Rattle.tsp_rules.specs.SendRows.{repeats, repeats_send}
+use Rattle.tsp_progress.proofs.RootLeads.{Base, In, any_post, any_role, asks_vote, is_plain, is_root_kind, plain, sends_call}
+use Rattle.tsp_progress.proofs.{PortWakes.Leads_if}
 use Rattle.tsp_progress.proofs.RootRows.{base_root, by_master, does_root, drop, posted_root, told_in}
 
 pub back_plain : (from : Place) (number : ℕ) (name : List ℕ) → is_plain (Post from (Message (bare Ack number name))) ≡ true
@@ -111,3 +115,41 @@ request_in charge m p _ = Leads_from (λ x past h. h.0) Leads_nothing
 pub request : (charge : Bool) (m : MessageValue) (p : PeerId) → Leads Base (date_request_of charge m p) Base
 unfolding date_request_of
 request charge m p = Leads_reading role_at (date_request_in charge m p) (λ r. request_in charge m p r)
+
+-- the due sends
+
+none_sent : {A : Type 0} {s : Sending} → None ≡ Some s → A
+none_sent e = let bad : ⊥ = cc in absurd bad
+
+send_message : (place : List Seen) (n : ℕ) (s : Sending) → sending_at place n ≡ Some s → message_at place ≡ Some s.message
+send_message [] n s e = none_sent e
+send_message (k ∷ older) n s e = by_message (message_of (did_of k).deed) refl e where
+  by_message : (o : Option MessageValue) → message_of (did_of k).deed ≡ o → sending_of o (did_of k).tick n ≡ Some s → message_of (did_of k).deed ≡
+      Some s.message
+  by_message None is e = none_sent e
+  by_message (Some m) is e = is ∙ ap (λ (o : Option Sending). message-or m o) e where
+    message-or : MessageValue → Option Sending → Option MessageValue
+    message-or other None = Some other
+    message-or other (Some t) = Some t.message
+
+gone : (p : PeerId) (kind : Kind) → Leads (In any_role) (gives_up p kind) (In any_role)
+unfolding gives_up leaves_after
+gone p kind = Leads_then {Q = In any_role} (puts (Gave p)) _ (does_root any_role (Gave p) refl)
+    (Leads_if _ _ nothing (Leads_either _ (puts (Leave p)) nothing (Leads_from (λ x past h. h.0) (does_root any_role (Leave p) refl))
+    (Leads_from (λ x past h. h.0) Leads_nothing)) Leads_nothing)
+
+due : (p : PeerId) (o : Option Sending) → Leads (λ x past. In any_role x past × (open_at p x past ≡ o)) (repeats_send p o) (In any_role)
+unfolding repeats_send repeats
+due p None = Leads_from (λ x past h. h.0) Leads_nothing
+due p (Some s) = Leads_either (is_send_due s) (either_by (is_spent s) (gives_up p s.message.kind) (puts (Post (Peer p) (Message s.message)))) nothing
+    (Leads_either (is_spent s) (gives_up p s.message.kind) (puts (Post (Peer p) (Message s.message)))
+    (Leads_from (λ x past h. h.0.0.0) (gone p s.message.kind))
+    (Leads_puts (Post (Peer p) (Message s.message)) (λ x past h. any_post any_role p s.message x past h.0.0.0
+    (λ call. h.0.0.0.0.sends p (ap sends_call (send_message (open_to p past.seen) (posts_of p past.seen) s h.0.0.1) ∙ call))
+    (λ vote. h.0.0.0.0.asks p (ap asks_vote (send_message (open_to p past.seen) (posts_of p past.seen) s h.0.0.1) ∙ vote)))))
+    (Leads_from (λ x past h. h.0.0) Leads_nothing)
+
+pub sends_rooted : Leads Base due_sends Base
+unfolding due_sends due_send
+sends_rooted = base_root (Leads_reading peers_at (for_each (λ p. reading (open_at p) (repeats_send p))) (λ ps. Leads_from (λ x past h. h.0)
+    (Leads_each (λ (p : PeerId). reading (open_at p) (repeats_send p)) ps (λ p. Leads_reading (open_at p) (repeats_send p) (due p)))))

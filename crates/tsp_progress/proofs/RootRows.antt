@@ -30,8 +30,9 @@ use Rattle.tsp_rules.proofs.{EmitsBuilt.emits_built, EmitsBuilt.nothing_owed, Un
 use Rattle.tsp_rules.proofs.BuiltRounds.{close_sorts, built_close_rings}
 use Rattle.tsp_progress.specs.{Calling.TookSome, Calling.WaitFits, Calling.is_call, Calling.is_masters, Calling.lates_by, Heeds.is_loose}
 use Rattle.tsp_progress.specs.{AlarmsFit.is_candidate, AlarmsFit.newest_is, CausesFit.elects_by, RolesLast.TookKind}
-use Rattle.tsp_progress.proofs.RootLeads.{Base, Follows, In, RootEnd, Rooted, Waits, any_post, any_role, arm_elect, arm_round, arm_search, arm_window}
-use Rattle.tsp_progress.proofs.RootLeads.{becomes, calls_not, is_plain, is_root_kind, is_vote, plain, votes_not}
+use Rattle.tsp_progress.proofs.RootArms.{Follows, arm_elect, arm_round, arm_search, arm_window, becomes}
+use Rattle.tsp_progress.proofs.RootLeads.{Base, In, RootEnd, Rooted, Waits, any_post, any_role}
+use Rattle.tsp_progress.proofs.RootLeads.{calls_not, is_plain, is_root_kind, is_vote, plain, votes_not}
 
 -- sorts of acts that aren't all plain
 abbrev root_sorts : List Sort

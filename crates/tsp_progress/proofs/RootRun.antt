@@ -17,9 +17,11 @@ use Rattle.tsp_run.proofs.RunLemmas.{stepped_other, stepped_own}
 use Rattle.tsp_progress.specs.AlarmsFit.{Manner}
 use Rattle.tsp_progress.proofs.NodeKeeps.{Each, Family, Keeps, answers_keep, list_each, node_manner, on_each}
 use Rattle.tsp_progress.proofs.NodeWakes.{Anything, any_given}
-use Rattle.tsp_progress.proofs.RootLeads.{In, RootEnd, Rooted, arm_quiet, becomes, none_armed}
+use Rattle.tsp_progress.proofs.RootArms.{arm_quiet, becomes}
+use Rattle.tsp_progress.proofs.RootLeads.{In, RootEnd, Rooted, none_armed}
 use Rattle.tsp_progress.proofs.RootRows.{rings_rooted}
-use Rattle.tsp_progress.proofs.RootTakes.{abandons_rooted, gives_up_rooted, loops_rooted, reposts_rooted, sends_rooted, takes_rooted, took_rooted}
+use Rattle.tsp_progress.proofs.{RootAnswers.sends_rooted}
+use Rattle.tsp_progress.proofs.RootTakes.{abandons_rooted, gives_up_rooted, loops_rooted, reposts_rooted, takes_rooted, took_rooted}
 
 abbrev rooted : Manner → ℕ → List Seen → Type 0
 rooted m x seen = Rooted seen

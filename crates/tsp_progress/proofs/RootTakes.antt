@@ -1,16 +1,16 @@
 -- What a port does with a datagram, and its due sends, end a role that lasts only as they may, and a QUIT comes of a master.
 use Rattle.std.proofs.Common.{sym, ap, subst, true≢false, ◌∙◌, ◌≡◌, inl, inr, if◌then◌else◌, ℕ, ℤ, ◌+◌, ◌==◌, Bool, true, false, List, []}
-use Rattle.std.proofs.Common.{◌∷◌, Option, None, Some, map, refl}
+use Rattle.std.proofs.Common.{◌∷◌, Some, map, refl}
 use Rattle.std.proofs.lemmas.Bool.{and_parts}
-use Rattle.tsp_rules.specs.Values.{Act, Took, Post, Back, Quit, Abandon, Acked, Gave, Leave, Search}
+use Rattle.tsp_rules.specs.Values.{Act, Took, Post, Back, Quit, Abandon, Acked, Search}
 use Rattle.tsp_rules.specs.Values.{ResolveAlarm, PeerId, Place, Peer, Stranger, Port, Role, Starting, Loose, Follow, Candidate, Master}
 use Rattle.tsp_rules.specs.Values.{Kind, Accept, Ack, AdjTime, Conflict, Date, DateAck, DateReq, Election, LoopKind, MasterAck, MasterReq, MasterUp, Msite}
 use Rattle.tsp_rules.specs.Values.{MsiteReq, QuitKind, Refuse, ResolveKind, SetDate, SetDateReq, SetTime, SlaveUp, Test, TraceOff, TraceOn, Taken, Good, Bad}
 use Rattle.tsp_rules.specs.Values.{Message, Stamp, Request, Reply, WINDOW}
-use Rattle.tsp_base.specs.Words.{MessageValue, Past, Receives, ReplyValue, Row, Seen, Sending, Leads, arms, bare}
-use Rattle.tsp_base.specs.Words.{did_of, for_each, grown, message_at, message_of, nothing, open_to, others, post_of, posts, posts_back}
-use Rattle.tsp_base.specs.Words.{posts_of, posts_to_others, puts, either_by, reading, role, sending_at, sending_of, taken, time_in, ◌followed_by◌}
-use Rattle.tsp_base.proofs.LeadsLemmas.{Leads_then, Leads_either, Leads_reading, Leads_nothing, Leads_puts, Leads_each, Leads_from}
+use Rattle.tsp_base.specs.Words.{MessageValue, Past, Receives, ReplyValue, Row, Seen, Leads, arms, bare}
+use Rattle.tsp_base.specs.Words.{grown, nothing, others, post_of, posts, posts_back}
+use Rattle.tsp_base.specs.Words.{posts_to_others, puts, either_by, reading, role, taken, time_in, ◌followed_by◌}
+use Rattle.tsp_base.proofs.LeadsLemmas.{Leads_then, Leads_either, Leads_reading, Leads_nothing, Leads_puts, Leads_from}
 use Rattle.tsp_rules.specs.CandidateRows.{candidate_takes, candidate_takes_kind, refused_by, yields}
 use Rattle.tsp_rules.specs.CommonRows.{arms_elect, candidature_row, follow_row, tells_ticket, follows_unless, is_awake, is_idle, may_be_asked, quits}
 use Rattle.tsp_rules.specs.CommonRows.{tests}
@@ -22,8 +22,7 @@ use Rattle.tsp_rules.specs.{ClockRows.adjusts, ClockRows.sets, DateRows.date_req
 use Rattle.tsp_rules.specs.{GateRows.loop_to, GateRows.loosens_master, GateRows.reposts, GateRows.repost, GateRows.sends_loops}
 use Rattle.tsp_rules.specs.Guards.{is_heard, is_armed, is_master, is_master_at, is_own, may_back_at}
 use Rattle.tsp_rules.specs.Guards.{may_stand_at, role_at}
-use Rattle.tsp_rules.specs.SendRows.{acknowledges, begins, due_send, due_sends, gives_up, has_quit, is_free}
-use Rattle.tsp_rules.specs.SendRows.{is_send_due, is_spent, leaves_after, open_at, peers_at, repeats, repeats_send}
+use Rattle.tsp_rules.specs.SendRows.{acknowledges, begins, has_quit, is_free}
 use Rattle.tsp_rules.specs.Answers.{from_peer, handles, handles_kind, is_left, peer_replies, peer_says, says_in, takes}
 use Rattle.tsp_rules.proofs.Emits.{Acking, Counting, Correcting, Tabling, Rivalling, Sampling}
 use Rattle.tsp_rules.proofs.BuiltShared.{built_acknowledges}
@@ -32,51 +31,14 @@ use Rattle.tsp_rules.proofs.{BuiltRoles.built_accepted_by, BuiltRoles.built_join
 use Rattle.tsp_progress.specs.{AlarmsFit.is_candidate, RolesLast.TookKind, RolesLast.TookOf}
 use Rattle.tsp_progress.specs.Calling.{TookSome, WaitFits, is_call, is_masters}
 use Rattle.tsp_progress.proofs.PortWakes.{Leads_if}
-use Rattle.tsp_progress.proofs.RootLeads.{Base, In, RootEnd, Rooted, any_post, any_role, arm_resolve, is_plain}
+use Rattle.tsp_progress.proofs.RootArms.{arm_resolve}
+use Rattle.tsp_progress.proofs.RootLeads.{Base, In, RootEnd, Rooted, any_post, any_role, is_plain}
 use Rattle.tsp_progress.proofs.RootLeads.{plain}
-use Rattle.tsp_progress.proofs.RootLeads.{asks_vote, is_vote, sends_call}
+use Rattle.tsp_progress.proofs.RootLeads.{is_vote}
 use Rattle.tsp_rules.proofs.GuardFacts.{master_is, same_peer}
 use Rattle.tsp_progress.proofs.RootAnswers.{back_plain, date_of_holds, named, request, said, stamped, traced}
 use Rattle.tsp_progress.proofs.RootRows.{Waiting, again_root, base_root, begun_root, by_master, calm_built, does_root, drop, elects_root, follows_root}
 use Rattle.tsp_progress.proofs.RootRows.{free_candidate, free_idle, posted_in, posted_root, quit_root, stands_root, told_root, yield_root}
-
--- the due sends
-
-none_sent : {A : Type 0} {s : Sending} → None ≡ Some s → A
-none_sent e = let bad : ⊥ = cc in absurd bad
-
-send_message : (place : List Seen) (n : ℕ) (s : Sending) → sending_at place n ≡ Some s → message_at place ≡ Some s.message
-send_message [] n s e = none_sent e
-send_message (k ∷ older) n s e = by_message (message_of (did_of k).deed) refl e where
-  by_message : (o : Option MessageValue) → message_of (did_of k).deed ≡ o → sending_of o (did_of k).tick n ≡ Some s → message_of (did_of k).deed ≡
-      Some s.message
-  by_message None is e = none_sent e
-  by_message (Some m) is e = is ∙ ap (λ (o : Option Sending). message-or m o) e where
-    message-or : MessageValue → Option Sending → Option MessageValue
-    message-or other None = Some other
-    message-or other (Some t) = Some t.message
-
-gone : (p : PeerId) (kind : Kind) → Leads (In any_role) (gives_up p kind) (In any_role)
-unfolding gives_up leaves_after
-gone p kind = Leads_then {Q = In any_role} (puts (Gave p)) _ (does_root any_role (Gave p) refl)
-    (Leads_if _ _ nothing (Leads_either _ (puts (Leave p)) nothing (Leads_from (λ x past h. h.0) (does_root any_role (Leave p) refl))
-    (Leads_from (λ x past h. h.0) Leads_nothing)) Leads_nothing)
-
-due : (p : PeerId) (o : Option Sending) → Leads (λ x past. In any_role x past × (open_at p x past ≡ o)) (repeats_send p o) (In any_role)
-unfolding repeats_send repeats
-due p None = Leads_from (λ x past h. h.0) Leads_nothing
-due p (Some s) = Leads_either (is_send_due s) (either_by (is_spent s) (gives_up p s.message.kind) (puts (Post (Peer p) (Message s.message)))) nothing
-    (Leads_either (is_spent s) (gives_up p s.message.kind) (puts (Post (Peer p) (Message s.message)))
-    (Leads_from (λ x past h. h.0.0.0) (gone p s.message.kind))
-    (Leads_puts (Post (Peer p) (Message s.message)) (λ x past h. any_post any_role p s.message x past h.0.0.0
-    (λ call. h.0.0.0.0.sends p (ap sends_call (send_message (open_to p past.seen) (posts_of p past.seen) s h.0.0.1) ∙ call))
-    (λ vote. h.0.0.0.0.asks p (ap asks_vote (send_message (open_to p past.seen) (posts_of p past.seen) s h.0.0.1) ∙ vote)))))
-    (Leads_from (λ x past h. h.0.0) Leads_nothing)
-
-pub sends_rooted : Leads Base due_sends Base
-unfolding due_sends due_send
-sends_rooted = base_root (Leads_reading peers_at (for_each (λ p. reading (open_at p) (repeats_send p))) (λ ps. Leads_from (λ x past h. h.0)
-    (Leads_each (λ (p : PeerId). reading (open_at p) (repeats_send p)) ps (λ p. Leads_reading (open_at p) (repeats_send p) (due p)))))
 
 -- what is taken
 
@@ -269,7 +231,10 @@ abbrev Standing : PeerId → MessageValue → ℕ → Past → Type 0
 Standing p m x past = SaidBy p m x past × (role_at x past ≡ Candidate)
 
 candidate_follows : (p : PeerId) (m : MessageValue) → is_call m.kind ≡ true → Leads (Standing p m) (follow_row p) Base
-candidate_follows p m call = follows_root p (λ x past h. record { message = m; took = h.0.1; kind_is = call }) (λ x past h. (h.0.0, subst (λ r. RootEnd r (Follow p) past.seen) (sym h.1) tt))
+candidate_follows p m call = follows_root p (λ x past h. record { message = m; took = h.0.1; kind_is = call }) (λ x past h. (
+  h.0.0,
+  subst (λ r. RootEnd r (Follow p) past.seen) (sym h.1) tt,
+))
 
 refused : (p : PeerId) (number : ℕ) → Leads (In is_candidate) (refused_by p number) Base
 unfolding refused_by

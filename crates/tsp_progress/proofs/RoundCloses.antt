@@ -1,10 +1,9 @@
 -- A round that isn't given up closes.
-use Rattle.std.proofs.Common.{sym, ap, subst, arith, true≢false, inl, inr, ◌∙◌, ◌≡◌, ◌≢◌, ◌≤◌, ◌<◌, ◌⊎◌, ◌||◌, ℕ, ◌+◌, ◌*◌, ◌/◌, ◌==◌, Bool, true, false, List}
-use Rattle.std.proofs.Common.{[], ◌∷◌, ℤ, Some, length, eqb-true, refl}
-use Rattle.std.proofs.lemmas.Bool.{or_parts}
-use Rattle.tsp_rules.specs.Values.{Abandon, Act, Arm, Become, Boot, Close, Late, Ring, Alarm, CloseAlarm, Probe, Round, PeerId, CLOSE, PROBE, ROUND, SLACK}
-use Rattle.tsp_base.specs.Words.{Acts, Begins, Deed, Did, Elsewhere, HeaderValue, Here, Line, Seen, Within, armed, armed_after, dids, first_port, in_table, is_shared}
-use Rattle.tsp_base.specs.Words.{line_of, of, peer_of, seen_as, started, started_after, time_of, view}
+use Rattle.std.proofs.Common.{sym, ap, arith, true≢false, inl, inr, ◌∙◌, ◌≡◌, ◌≢◌, ◌≤◌, ◌<◌, ◌⊎◌, ℕ, ◌+◌, Bool, true, false, List}
+use Rattle.std.proofs.Common.{[], ◌∷◌, ℤ, Some, refl}
+use Rattle.tsp_rules.specs.Values.{Abandon, Arm, Become, Boot, Close, Late, Ring, Alarm, CloseAlarm, PeerId, CLOSE, ROUND}
+use Rattle.tsp_base.specs.Words.{Acts, Deed, Did, Elsewhere, Here, Seen, armed, in_table}
+use Rattle.tsp_base.specs.Words.{started}
 use Rattle.tsp_base.specs.PortFacts.{in_table_after}
 use Rattle.tsp_promises.specs.{RoundFits.CloseFits, RoundFits.StartFits}
 use Rattle.tsp_progress.specs.AlarmsFit.{Manner, NextFits, NextTo, asks_next, newest_is, owes_next}
@@ -28,7 +27,7 @@ pub record ClosedBy (y d : Did) : Type 0 where
   pub over : y.tick + CLOSE ≤ d.tick
 
 -- what is so of each deed of the port
-pub record Mild (m : Manner) (p : PeerId) (y : Did) (d : Did) (before : List Seen) : Type 0 where
+pub record KeepsRound (m : Manner) (p : PeerId) (y : Did) (d : Did) (before : List Seen) : Type 0 where
   pub unbooted : d.deed ≢ Acts Boot
   pub timely : (a : Alarm) → d.deed ≢ Acts (Late a)
   pub given : d.deed ≢ Acts Abandon
@@ -62,7 +61,7 @@ newest_close m (Here d ∷ before) next e n = by_deed d.deed e n where
   by_deed (Acts (Ring a)) e n = by_ring a e n
   by_deed _ e n = absurd (true≢false (sym e))
 
-pub goes_deed : (m : Manner) (p : PeerId) (y : Did) (idle : List Seen) (d : Did) (before : List Seen) → Mild m p y d before → Goes y idle before →
+pub goes_deed : (m : Manner) (p : PeerId) (y : Did) (idle : List Seen) (d : Did) (before : List Seen) → KeepsRound m p y d before → Goes y idle before →
     ClosedBy y d ⊎ Goes y idle (Here d ∷ before)
 goes_deed m p y idle d before f (Rung st e) = elim (newest_close m before d.deed e f.next) [
   | inl k ↦ inl (closed_here y idle d before k.0 k.1.0 k.1.1.0 k.1.1.1.0 k.1.1.1.1 (f.closes k.0 k.1.0 k.1.1.0 k.1.1.1.0 k.1.1.1.1) st)

@@ -1,8 +1,8 @@
 -- In a network that follows its master, a follower's clock is moved by a round of the master: soon after its Close, and not again until the next.
-use Rattle.std.proofs.Common.{sym, ap, subst, subst₂, arith, true≢false, inl, inr, ◌∙◌, ◌≡◌, ◌≢◌, ◌≤◌, ◌<◌, ◌⊎◌, ℕ, ◌+◌, ◌==◌, ℤ, Bool, true, false, List}
-use Rattle.std.proofs.Common.{[], ◌∷◌, Some, is_some, refl}
-use Rattle.tsp_rules.specs.Values.{AdjTime, Close, Correct, Follow, Good, Master, Message, Peer, PeerId, Post, Role}
-use Rattle.tsp_base.specs.Words.{Acts, Did, Here, Line, MessageValue, Seen, Undisturbed, Within, all_corrects, dids, first_port, heard, is_correction, is_shared}
+use Rattle.std.proofs.Common.{sym, ap, subst, subst₂, arith, inl, inr, ◌∙◌, ◌≡◌, ◌≤◌, ◌<◌, ◌⊎◌, ℕ, ◌+◌, ◌==◌, ℤ, Bool, true, false, List}
+use Rattle.std.proofs.Common.{◌∷◌, Some, is_some, refl}
+use Rattle.tsp_rules.specs.Values.{AdjTime, Close, Correct, Follow, Good, Master, Message, Peer, PeerId, Role}
+use Rattle.tsp_base.specs.Words.{Acts, Did, Here, Line, MessageValue, Seen, Undisturbed, Within, all_corrects, dids, first_port, heard, is_shared}
 use Rattle.tsp_base.specs.Words.{of, peer_of, plain, role, taken, time_of, view}
 use Rattle.tsp_base.proofs.{PlaceLemmas.Within_all, PlaceLemmas.Within_comparable, PlaceLemmas.Within_tail, PlaceLemmas.Within_through, Views.plain_view}
 use Rattle.tsp_promises.specs.{Agreed.FromRound, CorrectFits.CorrectFits, CorrectFits.WhyCorrect, CorrectFits.ByDate, CorrectFits.ByMaster, CorrectFits.ByRound}
@@ -10,12 +10,12 @@ use Rattle.tsp_promises.specs.{CorrectionFits.AnswersSlaveUp, CorrectionFits.AtC
 use Rattle.tsp_promises.specs.{OneError.SourceReading, OneError.Taking, Setting.Setting, Setting.setup_of}
 use Rattle.tsp_promises.proofs.{promised.KnownProof.line_is, promised.OnceObeyedProof.once_obeyed, promised.OnceObeyedProof.round_leads}
 use Rattle.tsp_promises.proofs.{promised.OneErrorProof.one_error, promised.SendProof.number-same, promised.SendProof.numbered, promised.SinceProof.since}
-use Rattle.tsp_promises.proofs.promised.OwnFitsProof.{Given, deed_fits, fits_at, fits_in, given_at, locate, own_fits, place_time, seen_same}
+use Rattle.tsp_promises.proofs.promised.OwnFitsProof.{Given, deed_fits, fits_at, given_at, locate, own_fits, place_time, seen_same}
 use Rattle.tsp_promises.proofs.promised.TakingProof.{BegunFacts, ReadFacts, begun_facts, read_facts, round_soon}
 use Rattle.tsp_promises.proofs.{shared.EverywhereLemmas.Everywhere_at, shared.HistoryPlaces.Within_of, shared.HistoryPlaces.line_on}
 use Rattle.tsp_promises.proofs.{shared.HistoryPlaces.of_own, shared.RoundPlaces.best_at, shared.SendPlaces.SendPlace, shared.SendPlaces.send_place}
 use Rattle.tsp_progress.specs.{FollowOn.Calm, FollowOn.FollowUntil, InTable.SetsNone, LateClose.LateClose, LateClose.OfRound}
-use Rattle.tsp_progress.proofs.LateCloses.{adjusts, after_time, close_apart, since as close_since}
+use Rattle.tsp_progress.proofs.LateCloses.{adjusts, after_time, close_apart}
 
 follows_not : {A : Type 0} (p : PeerId) (r : Role) → r ≡ Follow p → r ≡ Master → A
 follows_not p r e m = let bad : Follow p ≡ Master = sym e ∙ m in let no : ⊥ = cc in absurd no
@@ -175,7 +175,8 @@ module _ (setting : Setting) (world : List Line) (whole : Given setting world) (
       same-close : reading.close ∷ reading.cpast ≡ C ∷ cp
       same-close =
           let u = read.used.from in
-          elim (close_apart setting world whole.fits long t c stays s s-in calm first C cp r reading.close reading.cpast close-in reading.is.close_node u.count u.lo
+          elim (close_apart setting world whole.fits long t c stays s s-in calm first C cp r reading.close reading.cpast close-in reading.is.close_node u.count
+          u.lo
           u.size read.used.mean u.deed) [
             | inl e ↦ e
             | inr (inl k) ↦

@@ -1,35 +1,28 @@
 -- Where a correction comes from: it follows a Join, a round closed that measured its addressee, or it is posted again.
 use Rattle.std.proofs.Common.{sym, subst, arith, true≢false, ltb-false, ◌∙◌, ◌≡◌, ◌≤◌, ◌⊎◌, inl, inr, ℕ, ◌+◌, ℤ, ◌-ℤ◌, ◌==◌, ◌||◌, nat_le, nat_lt}
 use Rattle.std.proofs.Common.{Bool, true, false, filter, if◌then◌else◌, List, [], ◌∷◌, map, Option, None, Some, refl}
-use Rattle.tsp_rules.specs.Values.{Act, Post, Ring, Late, Close, Abandon, Gave, Join, Leave, Took, Alarm, CloseAlarm, PeerId, Place, Peer, Stranger, Port}
-use Rattle.tsp_rules.specs.Values.{Role, Starting, Loose, Follow, Candidate, Master, Message, Stamp, Taken, Good, Bad, Request, Reply, SPAN, LAST, TRIES}
-use Rattle.tsp_rules.specs.Values.{Kind, Ack, AdjTime, Conflict, Date, DateAck, DateReq, Election, LoopKind, MasterAck, MasterReq, MasterUp, Msite, MsiteReq}
-use Rattle.tsp_rules.specs.Values.{QuitKind, ResolveKind, SetDate, SetDateReq, SetTime, SlaveUp, Test, TraceOff, TraceOn, Event}
-use Rattle.tsp_base.specs.Words.{Acts, Deed, Did, Estimate, HeaderValue, Here, Leads, MessageValue, Past, Row, Seen, Sending, either_by, estimate}
-use Rattle.tsp_base.specs.Words.{for_each, grown, in_table, is_correction, is_measured, nothing, of, open_send, posts, posts_time, puts, reading, view}
+use Rattle.tsp_rules.specs.Values.{Act, Post, Ring, Late, Close, Abandon, Gave, Join, Leave, Alarm, CloseAlarm, PeerId, Peer}
+use Rattle.tsp_rules.specs.Values.{Message, SPAN, LAST, TRIES}
+use Rattle.tsp_rules.specs.Values.{Kind, AdjTime}
+use Rattle.tsp_rules.specs.Values.{SetTime}
+use Rattle.tsp_base.specs.Words.{Acts, Deed, Did, Estimate, Here, Leads, MessageValue, Past, Row, Seen, Sending, either_by, estimate}
+use Rattle.tsp_base.specs.Words.{for_each, grown, in_table, is_correction, is_measured, nothing, open_send, posts_time, puts, reading}
 use Rattle.tsp_base.specs.Words.{◌followed_by◌}
 use Rattle.tsp_base.proofs.LeadsLemmas.{Leads_each, Leads_either, Leads_from, Leads_nothing, Leads_puts, Leads_reading, Leads_then}
 use Rattle.tsp_promises.specs.StepFacts.{closed}
 use Rattle.tsp_group.specs.{Groups.group_of, declared.group.Group.Group}
-use Rattle.tsp_rules.specs.Answers.{alarm_rings, from_peer, handles, handles_kind, is_left, peer_replies, peer_says, rings, says_in, takes}
-use Rattle.tsp_rules.specs.{ClockRows.adjusts, ClockRows.can_adjust, DateRows.date_acked, DateRows.date_request_of}
-use Rattle.tsp_rules.specs.Guards.{is_due, is_heard, is_in_time, is_own, is_slave_at, role_at, target_at}
-use Rattle.tsp_rules.specs.MasterRows.{joins, master_takes, master_takes_kind, may_join}
+use Rattle.tsp_rules.specs.Answers.{alarm_rings, rings}
+use Rattle.tsp_rules.specs.{ClockRows.adjusts, ClockRows.can_adjust}
+use Rattle.tsp_rules.specs.Guards.{is_due, is_in_time, is_slave_at, target_at}
 use Rattle.tsp_rules.specs.RoundRows.{Standing, abandons, close_act, close_rings, closes, closes_with, corrects_by, corrects_peer, estimates, is_near, mean_by}
 use Rattle.tsp_rules.specs.RoundRows.{moves, round_at, standing}
 use Rattle.tsp_rules.specs.SendRows.{begins_adjtime, begins_settime, due_send, due_sends, gives_up, is_send_due, is_spent, leaves_after, may_correct, may_set}
 use Rattle.tsp_rules.specs.SendRows.{open_at, peers_at, repeats, repeats_send}
 use Rattle.tsp_rules.proofs.GuardFacts.{same_peer}
-use Rattle.tsp_rules.proofs.BuiltAnswers.{built_date_acked, built_date_of, built_date_request_of, built_peer_replies, built_rings, date_sorts, ring_sorts}
-use Rattle.tsp_rules.proofs.BuiltRoles.{all_candidate_sorts, built_candidate_takes, built_conflict, built_finds_rival, built_resolves, built_sends_away}
-use Rattle.tsp_rules.proofs.BuiltRoles.{built_slave_takes, question_sorts, slave_sorts}
-use Rattle.tsp_rules.proofs.BuiltShared.{built_acknowledges, built_names_master, built_quits, built_replies, built_says_master, built_tests, built_traces}
-use Rattle.tsp_rules.proofs.BuiltShared.{quit_sorts, standing_sorts}
-use Rattle.tsp_rules.proofs.{Built.Built, EmitsBuilt.emits_built, EmitsBuilt.nothing_owed, Unchanged.place_unchanged, Unchanged.unchanged}
-use Rattle.tsp_rules.proofs.Emits.{Sort, Acking, Correcting, Numbering, Posting, Rivalling, Sampling, Tracing, is_in, is_part, sort_of, sort_of_kind}
-use Rattle.tsp_run.specs.Clocked.{Clocks, run_by}
-use Rattle.tsp_progress.specs.GivenUp.{Owes}
-use Rattle.tsp_progress.proofs.{DebtKeeps.OwedBy, DebtKeeps.Paid, DebtKeeps.pays, DebtKeeps.runs_pay, PortWakes.Leads_if}
+use Rattle.tsp_rules.proofs.BuiltAnswers.{built_rings, ring_sorts}
+use Rattle.tsp_rules.proofs.{Built.Built, EmitsBuilt.emits_built, EmitsBuilt.nothing_owed, Unchanged.unchanged}
+use Rattle.tsp_rules.proofs.Emits.{Sort, Correcting, is_in, is_part, sort_of, sort_of_kind}
+use Rattle.tsp_progress.proofs.{DebtKeeps.OwedBy, DebtKeeps.Paid, DebtKeeps.pays, PortWakes.Leads_if}
 
 -- p has joined right before
 pub record JoinedNow (p : PeerId) (before : List Seen) : Type 0 where
@@ -76,13 +69,13 @@ uncorrecting : (sorts : List Sort) → is_in Correcting sorts ≡ false → (a :
 uncorrecting sorts none (Post (Peer p) (Message m)) e d before = λ c. unsent sorts none m.kind e c
 uncorrecting sorts none _ e d before = tt
 
-by_correcting : OwedBy Correcting SentFits
+pub by_correcting : OwedBy Correcting SentFits
 by_correcting = record { mark = λ d before. tt; free = uncorrecting }
 
-abbrev Base : ℕ → Past → Type 0
+abbrev pub Base : ℕ → Past → Type 0
 Base x past = Paid SentFits x past
 
-calm_built : {sorts : List Sort} {k c : ℕ} {r r' : Row} → is_part sorts sorts ≡ true → is_in Correcting sorts ≡ false →
+pub calm_built : {sorts : List Sort} {k c : ℕ} {r r' : Row} → is_part sorts sorts ≡ true → is_in Correcting sorts ≡ false →
     Built unchanged nothing_owed sorts k c r r' → Leads Base r Base
 calm_built {sorts} {r = r} own apart d = pays by_correcting sorts r apart (emits_built own d)
 
@@ -115,7 +108,7 @@ due p (Some s) =
     ))))
     (Leads_from (λ x past h. h.0.0) Leads_nothing)
 
-sends : Leads Base due_sends Base
+pub sends : Leads Base due_sends Base
 unfolding due_sends due_send
 sends = Leads_reading peers_at (for_each (λ p. reading (open_at p) (repeats_send p))) (λ ps. Leads_from (λ x past h. h.0)
     (Leads_each (λ p. reading (open_at p) (repeats_send p)) ps (λ p. Leads_reading (open_at p) (repeats_send p) (due p))))
@@ -315,112 +308,8 @@ ring_part : (a : Alarm) → is_part (ring_sorts a) (ring_sorts a) ≡ true
 ring_part CloseAlarm = refl
 ring_part _ = refl
 
-rung : (own wait : Bool) (a : Alarm) → Leads Base (rings own wait a) Base
+pub rung : (own wait : Bool) (a : Alarm) → Leads Base (rings own wait a) Base
 unfolding rings alarm_rings
 rung own wait CloseAlarm = Leads_either (is_due CloseAlarm) (close_rings own) nothing (Leads_from (λ x past h. h.0) (closing own))
     (Leads_from (λ x past h. h.0) Leads_nothing)
 rung own wait a = pays by_correcting (ring_sorts a) (rings own wait a) refl (emits_built (ring_part a) (built_rings own wait a))
-
--- what is taken
-
--- p has just joined
-record Joined (p : PeerId) (x : ℕ) (past : Past) : Type 0 where
-  pub paid : Paid SentFits x past
-  pub joined : JoinedNow p past.seen
-
-settime : (p : PeerId) (number : ℕ) → Leads (Joined p) (begins_settime p number) Base
-unfolding begins_settime posts_time
-settime p number = Leads_either (may_set p number) (reading target_at (posts_time p SetTime number)) nothing
-    (Leads_from (λ x past h. h.0) (Leads_reading target_at (posts_time p SetTime number) (λ time. record {
-      run = λ x past h. (λ c. inl h.0.joined, h.0.paid);
-    })))
-    (Leads_from (λ x past h. h.0.paid) Leads_nothing)
-
-joining : (p : PeerId) (number : ℕ) → Leads Base (joins p number) Base
-unfolding joins
-joining p number = Leads_either (may_join p number) (puts (Join p) followed_by begins_settime p number) nothing
-    (Leads_then {Q = Joined p} (puts (Join p)) (begins_settime p number)
-    (Leads_puts (Join p) (λ x past h. record {
-      paid = (tt, h.0);
-      joined = record { join = record { step = past.step; tick = x; deed = Acts (Join p) }; older = past.seen; is = refl; deed = refl };
-    }))
-    (settime p number))
-    (Leads_from (λ x past h. h.0) Leads_nothing)
-
-answers : (p : PeerId) (number : ℕ) → Leads Base (posts p MasterAck number) Base
-unfolding posts
-answers p number = record { run = λ x past h. (λ c. absurd (true≢false (sym c)), h) }
-
-master : (p : PeerId) (m : MessageValue) (k : Kind) → Leads Base (master_takes_kind p m k) Base
-unfolding master_takes_kind
-master p m SlaveUp = joining p m.number
-master p m MasterReq = answers p m.number
-master p m ResolveKind = answers p m.number
-master p m Election = calm_built {sorts = Numbering ∷ []} refl refl (built_sends_away p tt)
-master p m MasterUp = calm_built {sorts = question_sorts} refl refl built_resolves
-master p m Conflict = calm_built {sorts = question_sorts} refl refl (built_conflict p m.number tt tt)
-master p m MasterAck = calm_built {sorts = Rivalling ∷ []} refl refl (built_finds_rival p tt)
-master p m QuitKind = calm_built {sorts = quit_sorts} refl refl (built_quits p m.number tt tt)
-master p m Ack = calm_built {sorts = Acking ∷ []} refl refl (built_acknowledges p m.number tt)
-master p m _ = Leads_nothing
-
-slave_part : (k : Kind) → is_part (slave_sorts k) (slave_sorts k) ≡ true
-slave_part Ack = refl
-slave_part _ = refl
-
-slave_apart : (k : Kind) → is_in Correcting (slave_sorts k) ≡ false
-slave_apart Ack = refl
-slave_apart _ = refl
-
-says : (p : PeerId) (m : MessageValue) (r : Role) → Leads Base (says_in p m r) Base
-unfolding says_in master_takes
-says p m Starting = Leads_nothing
-says p m Loose = calm_built {sorts = slave_sorts m.kind} (slave_part m.kind) (slave_apart m.kind) (built_slave_takes p m tt tt)
-says p m (Follow q) = calm_built {sorts = slave_sorts m.kind} (slave_part m.kind) (slave_apart m.kind) (built_slave_takes p m tt tt)
-says p m Candidate = calm_built {sorts = all_candidate_sorts} refl refl (built_candidate_takes p m tt tt)
-says p m Master = master p m m.kind
-
-peer_says_holds : (m : MessageValue) (p : PeerId) → Leads Base (peer_says m p) Base
-unfolding peer_says
-peer_says_holds m p = Leads_reading role_at (says_in p m) (λ r. Leads_from (λ x past h. h.0) (says p m r))
-
-peer : (from : Place) (row : PeerId → Row) → ((p : PeerId) → Leads Base (row p) Base) → Leads Base (from_peer from row) Base
-unfolding from_peer
-peer (Peer p) row d = Leads_either (is_heard p) (row p) nothing (Leads_from (λ x past h. h.0) (d p)) (Leads_from (λ x past h. h.0) Leads_nothing)
-peer Stranger row d = Leads_nothing
-
-kinds : (charge : Bool) (from : Place) (m : MessageValue) (k : Kind) → Leads Base (handles_kind charge from m k) Base
-unfolding handles_kind
-kinds charge from m Msite = calm_built {sorts = Posting ∷ []} refl refl (built_names_master from m.number (place_unchanged from) tt tt)
-kinds charge from m MsiteReq = calm_built {sorts = Posting ∷ []} refl refl (built_says_master from m.number (place_unchanged from) tt tt)
-kinds charge from m TraceOn = calm_built {sorts = Tracing ∷ Posting ∷ []} refl refl (built_traces from m.number (place_unchanged from) tt tt true)
-kinds charge from m TraceOff = calm_built {sorts = Tracing ∷ Posting ∷ []} refl refl (built_traces from m.number (place_unchanged from) tt tt false)
-kinds charge from m Test = calm_built {sorts = standing_sorts} refl refl (built_tests from m.number (place_unchanged from) tt tt)
-kinds charge from m Date = calm_built {sorts = date_sorts} refl refl (built_date_of charge m tt tt from (place_unchanged from) tt)
-kinds charge from m SetDate = calm_built {sorts = date_sorts} refl refl (built_date_of charge m tt tt from (place_unchanged from) tt)
-kinds charge from m DateReq = peer from (date_request_of charge m) (λ p. calm_built {sorts = date_sorts} refl refl (built_date_request_of charge m tt tt p tt))
-kinds charge from m SetDateReq = peer from (date_request_of charge m)
-    (λ p. calm_built {sorts = date_sorts} refl refl (built_date_request_of charge m tt tt p tt))
-kinds charge from m DateAck = peer from (date_acked m) (λ p. calm_built {sorts = Acking ∷ []} refl refl (built_date_acked m p tt))
-kinds charge from m LoopKind = Leads_nothing
-kinds charge from m _ = peer from (peer_says m) (peer_says_holds m)
-
-taken_row : (steer charge : Bool) (from : Place) (t : Taken) → Leads Base (handles steer charge from t) Base
-unfolding handles
-taken_row steer charge from (Bad fault) = Leads_nothing
-taken_row steer charge from (Good (Message m)) = Leads_either (is_left steer m.kind) nothing (handles_kind charge from m m.kind)
-    (Leads_from (λ x past h. h.0) Leads_nothing) (Leads_from (λ x past h. h.0) (kinds charge from m m.kind))
-taken_row steer charge from (Good (Stamp (Request word counter))) =
-    calm_built {sorts = Posting ∷ []} refl refl (built_replies from word counter (place_unchanged from) tt tt)
-taken_row steer charge from (Good (Stamp (Reply r))) = peer from (peer_replies r)
-    (λ p. calm_built {sorts = Sampling ∷ []} refl refl (built_peer_replies r p tt tt))
-
-took : (steer charge : Bool) (from : Place) (t : Taken) → Leads Base (takes steer charge from t) Base
-unfolding takes
-took steer charge from t = Leads_then {Q = Base} (puts (Took from t)) (either_by (is_own from) nothing (handles steer charge from t))
-    (Leads_puts (Took from t) (λ x past h. (tt, h)))
-    (Leads_either (is_own from) nothing (handles steer charge from t) (Leads_from (λ x past h. h.0) Leads_nothing)
-    (Leads_from (λ x past h. h.0) (taken_row steer charge from t)))
-
-pub runs_sent : (clocks : Clocks) (header : HeaderValue) (events : List Event) (n : ℕ) (q : Port) → Owes SentFits (view q (of n (run_by clocks header events)))
-runs_sent clocks header events n q = runs_pay by_correcting refl sends rung took clocks header events n q

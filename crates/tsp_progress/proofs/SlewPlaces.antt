@@ -1,27 +1,29 @@
 -- What stands after a Close: the own Correct, and the corrections of those who have a sample.
-use Rattle.std.proofs.Common.{sym, ap, subst, subst₂, arith, true≢false, inl, inr, ◌∙◌, ◌≡◌, ◌≢◌, ◌≤◌, ◌<◌, ◌⊎◌, ◌||◌, ◌&&◌, ℕ, ◌+◌, ◌+ℤ◌, ◌-ℤ◌, ◌==◌, not, nat_lt}
-use Rattle.std.proofs.Common.{ℤ, pos, if◌then◌else◌, Bool, true, false, List, [], ◌∷◌, ◌++◌, map, filter, Option, None, Some, is_some, length, eqb-true, eq-eqb, refl}
+use Rattle.std.proofs.Common.{sym, ap, subst, arith, true≢false, inl, inr, ◌∙◌, ◌≡◌, ◌||◌, ◌&&◌, ℕ, ◌+◌, ◌+ℤ◌, ◌-ℤ◌, ◌==◌, not, nat_lt}
+use Rattle.std.proofs.Common.{ℤ, pos, if◌then◌else◌, Bool, true, false, List, [], ◌∷◌, ◌++◌, map, filter, Option, None, Some, is_some, length, refl}
 use Rattle.std.proofs.lemmas.{Bool.le-leb, Int.ints}
-use Rattle.tsp_rules.specs.Values.{Abandon, Act, AdjTime, Close, CloseAlarm, Correct, Message, Peer, PeerId, Port, Post, Ring, Role, Master, SPAN, REUSE, SetTime}
-use Rattle.tsp_rules.specs.{ClockRows.can_adjust, ClockRows.is_step, GateRows.any_port, GateRows.follows_on, GateRows.leads_clock, GateRows.leads_on, GateRows.ports_from}
+use Rattle.tsp_rules.specs.Values.{Abandon, Act, AdjTime, Close, CloseAlarm, Correct, Message, Peer, PeerId, Port, Post, Ring, Master, SPAN, REUSE}
+use Rattle.tsp_rules.specs.{ClockRows.can_adjust, ClockRows.is_step, GateRows.any_port, GateRows.follows_on, GateRows.leads_clock, GateRows.leads_on}
+use Rattle.tsp_rules.specs.{GateRows.ports_from}
 use Rattle.tsp_rules.specs.{Guards.is_clock_value, Guards.is_follow, Guards.target_at, NodeRows.NodePast, NodeRows.PortSetup}
 use Rattle.tsp_rules.specs.RoundRows.{Standing, close_act, estimates, mean_by, measured_at, round_at, standing}
 use Rattle.tsp_group.specs.{Groups.group_of, Groups.mean_of, declared.group.Group.Group}
-use Rattle.tsp_base.specs.Words.{Acts, Did, Estimate, HeaderValue, Here, Line, MessageValue, Past, Seen, Step, Within, dids, estimate, first_port, grown, is_among}
-use Rattle.tsp_base.specs.Words.{is_correction, is_measured, is_past, is_shared, joined, last_post, line_of, of, peer_of, placed, plain, role, seen_as, target}
+use Rattle.tsp_base.specs.Words.{Acts, Did, Estimate, HeaderValue, Here, Line, MessageValue, Past, Seen, Step, Within, estimate, first_port, grown, is_among}
+use Rattle.tsp_base.specs.Words.{is_measured, is_past, is_shared, joined, last_post, line_of, of, peer_of, placed, plain, role, seen_as}
 use Rattle.tsp_base.specs.Words.{base, moved, shown, time_in, timed, view}
 use Rattle.tsp_base.proofs.{PlaceLemmas.Within_all, PlaceLemmas.Within_tail, PlaceLemmas.Within_through}
-use Rattle.tsp_promises.specs.{Fits.Fits, Fits.SameStep, Fits.node_of, RoundFits.CloseFits, Setting.Setting}
-use Rattle.tsp_promises.proofs.{shared.HistoryPlaces.Within_of, shared.HistoryPlaces.line_on, shared.HistoryPlaces.of_own, shared.HistoryPlaces.own_in, shared.HistoryPlaces.own_same}
+use Rattle.tsp_promises.specs.{Fits.Fits, Fits.node_of, RoundFits.CloseFits, Setting.Setting}
+use Rattle.tsp_promises.proofs.{shared.HistoryPlaces.Within_of, shared.HistoryPlaces.line_on, shared.HistoryPlaces.of_own, shared.HistoryPlaces.own_in}
+use Rattle.tsp_promises.proofs.{shared.HistoryPlaces.own_same}
 use Rattle.tsp_promises.proofs.{shared.Clocks.near}
-use Rattle.tsp_promises.proofs.promised.OwnFitsProof.{fits_at, fits_in, locate, place_time, tick_in}
+use Rattle.tsp_promises.proofs.promised.OwnFitsProof.{fits_in, locate, tick_in}
 use Rattle.tsp_progress.specs.ByTable.{ByTable, before_line, node_in, port_before}
 use Rattle.tsp_progress.specs.Corrects.{ClosesAt, closed_or_not, corrected_each, moved_own}
 use Rattle.tsp_progress.specs.{FollowOn.Calm, Heeds.DoesNext, Heeds.moved_by, InTable.SetsNone, LateClose.LateClose, SlewsTable.MovesOwn, SlewsTable.Slews}
 use Rattle.tsp_progress.proofs.{CorrectsIn.CorrectedIn, CorrectsIn.Free, CorrectsIn.corrected_in, CorrectsIn.last_post_at, CorrectsProof.all_correct}
 use Rattle.tsp_progress.proofs.{CorrectsProof.same_place, LateCloses.older_posts, LateCloses.port, LateCloses.since, PortSetups.PortIs}
 use Rattle.tsp_progress.proofs.{PortSetups.differ, PortSetups.member_port, RivalsQuitProof.among_filter, TableRows.within_joined, TableSampled.close_fits}
-use Rattle.tsp_progress.proofs.WorldPlaces.{WorldPlace, act_place, in_order, own_place, world_place}
+use Rattle.tsp_progress.proofs.WorldPlaces.{WorldPlace, act_place, in_order, world_place}
 use Rattle.tsp_run.specs.Clocked.{Clocks, SetByClocks}
 
 -- the newest line of a node, which its port sees as its own
@@ -212,7 +214,8 @@ module _ {clocks : Clocks} {header : HeaderValue} {setting : Setting} (set : Set
   in-range b m a x k = subst (λ z. is_clock_value z ≡ true) (let e : ((b +ℤ m) +ℤ pos x) +ℤ a ≡ (b +ℤ (m +ℤ a)) +ℤ pos x = omega (arith, ints) in e) k
 
   module _ (n : ℕ) (net : setting.net n first_port ≡ setting.net c first_port) (other : (n == c) ≡ false)
-      (measured : is_measured (peer_of n) (view first_port (of c cp)) ≡ true) (sampled : is_some (estimate (peer_of n) (view first_port (of c cp))) ≡ true) where
+      (measured : is_measured (peer_of n) (view first_port (of c cp)) ≡ true) (sampled : is_some (estimate (peer_of n) (view first_port (of c cp))) ≡
+      true) where
     abbrev P : PeerId
     P = peer_of n
 

@@ -1,19 +1,19 @@
 -- At a Close a master moves its own clock, and posts an ADJTIME to each node in its table.
-use Rattle.std.proofs.Common.{subst, sym, ◌≡◌, ◌≤◌, ℕ, ◌==◌, Bool, true, false, List, ◌∷◌, is_some}
+use Rattle.std.proofs.Common.{subst, ◌≡◌, ◌≤◌, ℕ, ◌==◌, Bool, true, false, List, is_some}
 use Rattle.tsp_rules.specs.Values.{SLACK}
-use Rattle.tsp_base.specs.Words.{HeaderValue, Line, Within, estimate, first_port, is_measured, of, peer_of, view}
+use Rattle.tsp_base.specs.Words.{HeaderValue, Line, Within, estimate, is_measured, of, peer_of, view}
 use Rattle.tsp_promises.specs.Setting.{Setting}
 use Rattle.tsp_run.specs.Clocked.{Clocks, clocks_of, run_by}
 use Rattle.tsp_run.proofs.{OwnClocks.possible_own, OwnClocks.runs_by_own_clocks, OwnClocks.set_own}
 use Rattle.tsp_progress.specs.{Delivered.Delivered, FollowOn.Calm, FollowOn.FollowUntil, FollowOn.OneNetwork, InTable.InTable, InTable.KeepsRange}
 use Rattle.tsp_progress.specs.{InTable.SetsNone, LateClose.LateClose, MeasuresTable.HasSample, RunsWake.manner_of, SampledInTime.IsSwift}
-use Rattle.tsp_progress.specs.SlewsTable.{ClockedRunsSlewTable, MovesOwn, RunsSlewTable, Slews, SlewsTable}
+use Rattle.tsp_progress.specs.SlewsTable.{ClockedRunsSlewTable, RunsSlewTable, SlewsTable}
 use Rattle.tsp_progress.specs.{Watched.Attended, Watched.Told}
-use Rattle.tsp_progress.proofs.{AllAsked.Asked, AllAsked.all_asked, AllAsked.on_first, LateCloses.port, SlewPlaces.moves_own, SlewPlaces.slews}
+use Rattle.tsp_progress.proofs.{AllAsked.Tended, AllAsked.all_asked, AllAsked.on_first, LateCloses.port, SlewPlaces.moves_own, SlewPlaces.slews}
 use Rattle.tsp_progress.proofs.{TableSampled.has_sample}
 
 module _ {clocks : Clocks} {header : HeaderValue} {setting : Setting} (late long t : ℕ) (stays : ℕ → Bool) (c : ℕ) (s world : List Line)
-    (a : Asked clocks header setting late long t stays c s world) where
+    (a : Tended clocks header setting late long t stays c s world) where
   pub sampled_at : (C : Line) (cp : List Line) (r : LateClose long t c s C cp world) (n : ℕ) → stays n ≡ true → (n == c) ≡ false → HasSample c n C cp
   sampled_at C cp r n there other = has_sample a.set world a.table a.fits (manner_of header) a.woken a.wakes late long t c stays s a.attended a.slack a.told
       a.one a.delivered a.s_in a.calm a.follow a.members a.swift a.range (on_first a) C cp r n there other

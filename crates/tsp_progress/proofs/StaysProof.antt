@@ -2,67 +2,30 @@
 use Rattle.std.proofs.Common.{sym, ap, subst, arith, mul-le-mul_left, true≢false, inl, inr, ◌∙◌, ◌≡◌, ◌≤◌, ◌<◌, ◌⊎◌, ℕ, ◌+◌, ◌*◌, ◌/◌, ◌==◌, Bool, true}
 use Rattle.std.proofs.Common.{false, List, [], ◌∷◌, Option, None, Some, is_some, refl}
 use Rattle.std.proofs.lemmas.Bool.{cases_lt}
-use Rattle.tsp_rules.specs.Values.{Act, Leave, Close, Gave, Took, AdjTime, SetTime, Kind, Message, Good, PeerId, Port}
+use Rattle.tsp_rules.specs.Values.{Leave, Close, Gave, AdjTime, SetTime, Kind, Message, Good, PeerId, Port}
 use Rattle.tsp_rules.specs.Values.{Master, GAP, LIFE, RETRY, SLACK, TRIES, WINDOW}
 use Rattle.tsp_rules.specs.{Guards.is_in_range, SlaveRows.takes_amount, SlaveRows.takes_value}
-use Rattle.tsp_base.specs.Words.{Acts, Did, HeaderValue, Here, Line, MessageValue, Received, Seen, Sending, Step, Within, acting, dids, estimate, first_port}
+use Rattle.tsp_base.specs.Words.{Acts, Did, HeaderValue, Here, Line, MessageValue, Seen, Sending, Step, Within, acting, dids, estimate, first_port}
 use Rattle.tsp_base.specs.Words.{is_among, is_correction, is_measured, is_numbered, of, open_send, open_to, peer_of, posts_of, role}
-use Rattle.tsp_base.specs.Words.{sending_at, taken, time_in, time_of, view}
-use Rattle.tsp_base.proofs.PlaceLemmas.{Within_all, Within_comparable, Within_tail, Within_through}
-use Rattle.tsp_promises.specs.{Fits.Fits, Fits.SameStep, Fits.node_of, RoundFits.CloseFits, Setting.Setting}
-use Rattle.tsp_promises.proofs.{shared.Clocks.near, shared.Clocks.tick_mono, shared.EverywhereLemmas.Everywhere_within, shared.HistoryPlaces.lift}
+use Rattle.tsp_base.specs.Words.{sending_at, time_in, time_of, view}
+use Rattle.tsp_base.proofs.PlaceLemmas.{Within_all, Within_tail, Within_through}
+use Rattle.tsp_promises.specs.{Fits.Fits, Fits.node_of, RoundFits.CloseFits, Setting.Setting}
+use Rattle.tsp_promises.proofs.{shared.Clocks.near, shared.Clocks.tick_mono, shared.EverywhereLemmas.Everywhere_within}
 use Rattle.tsp_promises.proofs.{shared.HistoryPlaces.line_on, shared.RoundPlaces.closed_at, shared.RoundPlaces.started_at, shared.SendPlaces.post_fits}
-use Rattle.tsp_promises.proofs.{promised.KnownProof.in_step_holds, promised.KnownProof.own_in_step, promised.KnownProof.step_at, promised.KnownProof.took_split}
 use Rattle.tsp_promises.proofs.{promised.SendProof.Opened, promised.SendProof.opened, promised.TakingProof.round_soon}
-use Rattle.tsp_promises.proofs.promised.OwnFitsProof.{Given, deed_fits, fits_at, fits_in, locate, own_fits, place_time, seen_in, tick_in}
+use Rattle.tsp_promises.proofs.promised.OwnFitsProof.{Given, deed_fits, fits_at, fits_in, locate, place_time, seen_in, tick_in}
 use Rattle.tsp_run.specs.Clocked.{Clocks, SetByClocks}
 use Rattle.tsp_progress.specs.AckedInTime.{Begins, IsPrompt, NeverGivenUp, may_obey}
 use Rattle.tsp_progress.specs.{AnswersInTime.Asks, ByTable.ByTable, ByTable.node_in, ByTable.port_before, Delivered.Delivered, FollowOn.Calm}
-use Rattle.tsp_progress.specs.{GivenUp.GaveFits, GivenUp.GivesUpLate, GivenUp.IsOld, Heeds.is_up_role, InTable.Undated, Obedient.Obedient, OnePort.UsesOnePort}
+use Rattle.tsp_progress.specs.{GivenUp.GaveFits, GivenUp.GivesUpLate, GivenUp.IsOld, Heeds.is_up_role, Obedient.Obedient, OnePort.UsesOnePort}
 use Rattle.tsp_progress.specs.{OneWire.OneWire, SampledInTime.ClosesSince, SampledInTime.IsSwift, SampledInTime.Measured}
 use Rattle.tsp_progress.specs.StaysIn.{InRange, IsBrief, NoneLeaves, PostsCorrection, over_after}
 use Rattle.tsp_progress.specs.TableKept.{GaveCorrection, LeavesFor, SetsDate, TableFits, TablesLast, Unsampled}
 use Rattle.tsp_progress.specs.{Watched.Attended}
+use Rattle.tsp_progress.specs.{GivenUp.Owes}
+use Rattle.tsp_progress.proofs.{NoDateProof.takes-no-date, PassedRows.PassFits, TookPlaces.after_place, TookPlaces.took_line}
 use Rattle.tsp_progress.proofs.{AckedProof.acked_in_time, FollowProof.owes_at, NeverLateProof.newest, NeverLateProof.same_tick, SampledProof.sampled_in_time}
 use Rattle.tsp_progress.proofs.{SendYoung.open_here, SendYoung.send_is, SendYoung.send_young, SendsEndProof.sends_end}
-
--- what comes later than a place stands after it
-pub after_place : (setting : Setting) (s world : List Line) → Fits setting world → Within s world → (k : Line) (w : List Line) → Within (k ∷ w) world →
-    time_of (dids s) < k.did.step.at → Within s w
-after_place setting s world fits s-in k w v less = elim (Within_comparable s (k ∷ w) world s-in v) [
-  | inl (inl e) ↦ absurd (let same = ap (λ (z : List Line). time_of (dids z)) e in omega (arith, same, less))
-  | inl (inr u) ↦ u
-  | inr u ↦ absurd (let le = place_time setting (k ∷ w) s (fits_at setting s world fits s-in) u in omega (arith, le, less))
-]
-
--- the line of a step at which it took something
-pub record TookLine (l : Line) (world : List Line) (r : Received) : Type 0 where
-  pub line : Line
-  pub before : List Line
-  pub place : Within (line ∷ before) world
-  pub step : line.did.step ≡ l.did.step
-  pub port : line.port ≡ l.port
-  pub deed : line.did.deed ≡ Acts (Took r.from r.taken)
-
-none_taken : (r : Received) → taken [] ≡ Some r → ⊥
-none_taken r e = cc
-
-pub took_line : (setting : Setting) (l : Line) (world : List Line) (a : Act) (r : Received) → Fits setting (l ∷ world) → l.did.deed ≡ Acts a →
-    taken (view l.port (of (node_of l) world)) ≡ Some r → TookLine l world r
-took_line setting l world a r f act e =
-    let n = node_of l in
-    let own = of n world in
-    let t = step_at setting _ (λ t. taken (view l.port t) ≡ Some r) own (own_fits setting n world f.1) (λ e. none_taken r e) (took_split l.port r) e in
-    let x = lift n world t.line t.rest t.place in
-    let same : SameStep (Acts a) l.did.step (dids world) = subst (λ k. SameStep k l.did.step (dids world)) act f.0.step in
-    record {
-      line = t.line;
-      before = x.world;
-      place = x.place;
-      step = t.step l.did.step (own_in_step n l.did.step world refl (in_step_holds a l.did.step world same));
-      port = t.is.0;
-      deed = t.is.1;
-    }
 
 -- what is brief is prompt and swift
 less_drift : (drift long : ℕ) → drift ≤ 1000 → long < GAP → 2 * long + (drift * (2 * long) + 999999) / 1000000 < TRIES * RETRY
@@ -131,7 +94,7 @@ module _ {clocks : Clocks} {header : HeaderValue} {setting : Setting} (set : Set
     (table : ByTable header world) (whole : Given setting world) (gives : GivesUpLate world) (tables : TablesLast world) (uses : UsesOnePort header world)
     (late long t c : ℕ) (stays : ℕ → Bool) (s : List Line) (s-in : Within s world) (attended : Attended late world) (slack : late ≤ SLACK)
     (there : stays c ≡ true) (wire : OneWire header setting stays) (calm : Calm long stays s world) (delivered : Delivered setting long t stays s world)
-    (brief : IsBrief setting long) (undated : Undated c s world) (range : InRange header long c s world) where
+    (brief : IsBrief setting long) (passed : (n : ℕ) (q : Port) → Owes PassFits (view q (of n world))) (range : InRange header long c s world) where
   fits : Fits setting world
   fits = whole.fits
 
@@ -143,7 +106,7 @@ module _ {clocks : Clocks} {header : HeaderValue} {setting : Setting} (set : Set
       × (m.kind ≡ SetTime → Obedient header setting long l older world (peer_of n) (may_obey l m (takes_value m.number (time_in m.body))))
 
   module _ (l : Line) (older : List Line) (place : Within (l ∷ older) world) (since : Within s older)
-      (settled : time_of (dids s) + 2 * WINDOW < l.did.step.at) (until : l.did.step.at ≤ t) (node : node_of l ≡ c) (n : ℕ) (stay : stays n ≡ true)
+      (settled : time_of (dids s) + 3 * WINDOW < l.did.step.at) (until : l.did.step.at ≤ t) (node : node_of l ≡ c) (n : ℕ) (stay : stays n ≡ true)
       (other : (n == c) ≡ false) (deed : l.did.deed ≡ Acts (Leave (peer_of n))) where
     abbrev N : ℕ
     N = node_of l
@@ -191,8 +154,8 @@ module _ {clocks : Clocks} {header : HeaderValue} {setting : Setting} (set : Set
         let at = ap (λ (z : Step). z.at) x.step in
         let in-world : Within (x.line ∷ x.before) world = Within_through (x.line ∷ x.before) older world x.place older-in in
         let after = behind x.line x.before in-world (omega (arith, at, settled)) in
-        let none = undated x.line x.before in-world after (ap (λ (z : Step). z.node) x.step ∙ node) k.from k.message x.deed in
-        true≢false (sym k.kind ∙ none)
+        takes-no-date setting world fits passed long stays s s-in calm x.line x.before in-world after (omega (arith, at, settled, brief)) k.from k.message
+        x.deed k.kind
 
     -- a round that closes has a sample
 
@@ -270,7 +233,8 @@ module _ {clocks : Clocks} {header : HeaderValue} {setting : Setting} (set : Set
         let least = n1.least in
         let begun-late : time_of (dids s) + LIFE < oc.first.step.at =
         omega (arith, young, tick, tick_g, tick_f, same-node, same-tick, least, at, over, slack) in
-        let old : IsOld P g.gave g.older = subst (λ d. GaveFits d g.gave g.older) g.deed (owes_at GaveFits g.gave g.older (view Q (of N world)) (seen-gave g) (gives N Q)) in
+        let old : IsOld P g.gave g.older = subst (λ d. GaveFits d g.gave g.older) g.deed (owes_at GaveFits g.gave g.older (view Q (of N world)) (seen-gave g)
+        (gives N Q)) in
         let send = send_is P g.older oc.first oc.older m oc.is oc.opens.begins.deed in
         let began : old.sending.began ≡ oc.first.tick = began_is old.sending (record { began = oc.first.tick; posts = posts_of P g.older; message = m })
         (sym old.open_is ∙ send) in
@@ -298,7 +262,8 @@ module _ {clocks : Clocks} {header : HeaderValue} {setting : Setting} (set : Set
         } in
         let begins : acting (view Q (of (node_of F) lf.older)) ≡ true = ap (λ j. acting (view Q (of j lf.older))) lf.node ∙
         (ap acting lf.before ∙ oc.opens.begins.begins) in
-        let leads : role (view Q (of (node_of F) lf.older)) ≡ Master = (post_fits setting (node_of F) F lf.older P m (fits_in setting F lf.older world fits first-world)
+        let leads : role (view Q (of (node_of F) lf.older)) ≡ Master = (post_fits setting (node_of F) F lf.older P m
+        (fits_in setting F lf.older world fits first-world)
         refl oc.opens.begins.deed oc.corrects).leads in
         let sends : Begins is_up_role F lf.older = record { begins = begins; role_is = ap is_up_role leads } in
         let r = ready n F lf.older m stay other (record {
@@ -308,7 +273,8 @@ module _ {clocks : Clocks} {header : HeaderValue} {setting : Setting} (set : Set
           early = omega (arith, apart, at, until);
         }) (omega (arith, apart, at, until)) in
         let acks = acked_in_time set world table fits gives long t stays s delivered prompt in
-        let kept : NeverGivenUp P (Here oc.first ∷ view Q (of (node_of F) lf.older)) (view Q (of (node_of F) world)) = elim (corrects_which m.kind oc.corrects) [
+        let kept : NeverGivenUp P (Here oc.first ∷ view Q (of (node_of F) lf.older)) (view Q (of (node_of F) world)) =
+        elim (corrects_which m.kind oc.corrects) [
           | inl kind ↦ (acks.adjtimes F lf.older P m asks kind sends (r.0 kind)).kept
           | inr kind ↦ (acks.settimes F lf.older P m asks kind sends (r.1 kind)).kept
         ] in
@@ -337,5 +303,5 @@ module _ {clocks : Clocks} {header : HeaderValue} {setting : Setting} (set : Set
         ]
 
   pub none_leaves : Ready → NoneLeaves t stays c s world
-  none_leaves ready l older place since settled until node n stay other deed = 
+  none_leaves ready l older place since settled until node n stay other deed =
       leave-no l older place since (omega (arith, settled)) until node n stay other deed ready settled

@@ -1,24 +1,25 @@
 -- A stretch of a history without a master: who posted what is taken in it, and how long a candidature lasts.
-use Rattle.std.proofs.Common.{sym, ap, subst, arith, true≢false, inl, inr, ◌∙◌, ◌≡◌, ◌≢◌, ◌≤◌, ◌<◌, ◌⊎◌, ℕ, ◌+◌, ◌-◌, ◌*◌, ◌==◌, ◌||◌, Bool, true, false}
+use Rattle.std.proofs.Common.{sym, ap, subst, arith, true≢false, inl, inr, ◌∙◌, ◌≡◌, ◌≤◌, ◌<◌, ◌⊎◌, ℕ, ◌+◌, ◌==◌, Bool, true, false}
 use Rattle.std.proofs.Common.{List, [], ◌∷◌, eqb-true, refl}
 use Rattle.std.proofs.lemmas.Bool.{cases_lt}
-use Rattle.tsp_rules.specs.Values.{Act, Become, Boot, Post, Took, Datagram, Election, Good, Kind, Message, PeerId, Peer, Place, Port, Role, Candidate, Master}
-use Rattle.tsp_rules.specs.Values.{AdjTime, SetTime, MasterUp, MasterAck, QuitKind, Follow, Loose, Starting, SLACK, WINDOW}
+use Rattle.tsp_rules.specs.Values.{Act, Become, Boot, Post, Took, Datagram, Election, Good, Kind, Message, Peer, Place, Port, Role, Candidate, Master}
+use Rattle.tsp_rules.specs.Values.{AdjTime, SetTime, MasterUp, MasterAck, QuitKind, SLACK, WINDOW}
 use Rattle.tsp_rules.specs.Guards.{is_master}
-use Rattle.tsp_base.specs.Words.{Acts, Begins, Came, Cause, Deed, Did, Elsewhere, Handed, HeaderValue, Here, Line, MessageValue, Received, Seen, TakesFrom, Within, dids}
-use Rattle.tsp_base.specs.Words.{first_port, of, peer_of, plain, role, role_after, stood, stood_after, tick_of, time_of, view}
-use Rattle.tsp_base.proofs.PlaceLemmas.{Within_all, Within_comparable, Within_tail, Within_through}
+use Rattle.tsp_base.specs.Words.{Acts, Begins, Came, Cause, Deed, Did, Elsewhere, Handed, HeaderValue, Here, Line, MessageValue, Seen, TakesFrom, Within, dids}
+use Rattle.tsp_base.specs.Words.{first_port, of, peer_of, role, role_after, stood, stood_after, time_of, view}
+use Rattle.tsp_base.proofs.PlaceLemmas.{Within_comparable, Within_tail, Within_through}
 use Rattle.tsp_promises.specs.{Fits.Fits, Fits.TookFits, Fits.node_of, Setting.Setting}
 use Rattle.tsp_promises.proofs.{shared.Clocks.near, shared.Clocks.tick_mono, shared.ElectionFacts.stood_at, shared.EverywhereLemmas.Everywhere_at}
 use Rattle.tsp_promises.proofs.{shared.HistoryPlaces.Within_of, shared.HistoryPlaces.line_on}
 use Rattle.tsp_promises.proofs.promised.OwnFitsProof.{fits_at, fits_in, locate, place_time, seen_in, tick_in, view_line}
 use Rattle.tsp_run.specs.Clocked.{Clocks, SetByClocks}
 use Rattle.tsp_progress.specs.{AlarmsFit.is_candidate, AsksAll.AsksAll, ByTable.ByTable, Delivered.Delivered, FollowOn.Calm, FollowOn.IsMild, FollowOn.role_of}
-use Rattle.tsp_progress.specs.{GivenUp.Owes, Headless.AllUp, Headless.Headless, InTime.CandidatureEnds, Motives.HaveMotives, Motives.MotiveFits}
+use Rattle.tsp_progress.specs.{Headless.AllUp, Headless.Headless, InTime.CandidatureEnds, Motives.HaveMotives, Motives.MotiveFits}
 use Rattle.tsp_progress.specs.{Motives.is_call, Motives.may_say, OneWire.OneWire, RunsWake.manner_of, Wakes.AllWake, Wakes.Woken, Watched.Attended}
 use Rattle.tsp_progress.specs.{Watched.Told}
-use Rattle.tsp_progress.proofs.{FollowCalls.Cut, FollowCalls.cut, FollowProof.owes_at, FollowTaken.PostTaken, FollowTaken.taken_post, InTimeProof.attended_in_time}
-use Rattle.tsp_progress.proofs.{InTimeProof.told_in_time, SearchKept.view_within, StandActs.Sound, TimePlaces.before_time, WinsNot.stood_back}
+use Rattle.tsp_progress.proofs.{FollowCalls.Cut, FollowCalls.cut, FollowProof.owes_at, FollowTaken.PostTaken, FollowTaken.taken_post}
+use Rattle.tsp_progress.proofs.{InTimeProof.attended_in_time}
+use Rattle.tsp_progress.proofs.{InTimeProof.told_in_time, SearchKept.view_within, StandActs.Sound, WinsNot.stood_back}
 use Rattle.tsp_progress.proofs.{WinsNot.stood_role}
 
 -- a run of a network that is calm after the place s, in which no node that stays is master until the true time t
@@ -74,7 +75,7 @@ stood_last (Here d ∷ before) e = by_deed d.deed refl e (λ f. stood_last befor
       }
 
 -- node n stands for election at the true time y, on its first port
-pub record Stands (n y : ℕ) (world : List Line) : Type 0 where
+pub record Candidacy (n y : ℕ) (world : List Line) : Type 0 where
   pub start : Did
   pub idle : List Seen
   pub place : Within (Here start ∷ idle) (view first_port (of n world))
@@ -260,7 +261,7 @@ module _ {clocks : Clocks} {header : HeaderValue} {setting : Setting} {late long
     abbrev Y : ℕ
     Y = last-one.start.step.at
 
-    abbrev stood-now : Stands n Y world
+    abbrev stood-now : Candidacy n Y world
     stood-now = record {
       start = last-one.start;
       idle = last-one.idle;
@@ -342,7 +343,7 @@ module _ {clocks : Clocks} {header : HeaderValue} {setting : Setting} {late long
     -- who is a candidate there stood not long before
     pub record StoodSoon : Type 0 where
       pub at : ℕ
-      pub standing : Stands n at world
+      pub standing : Candidacy n at world
       pub early : at ≤ time_of (dids h)
       pub soon : time_of (dids h) ≤ at + term late
       pub last : stood (view first_port (of n h)) ≡ Here standing.start ∷ standing.idle

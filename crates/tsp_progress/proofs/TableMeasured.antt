@@ -1,36 +1,36 @@
 -- Who is in its master's table is measured by each round.
-use Rattle.std.proofs.Common.{sym, ap, subst, arith, true≢false, inl, inr, ◌∙◌, ◌≡◌, ◌≢◌, ◌≤◌, ◌<◌, ◌⊎◌, ◌||◌, ◌&&◌, ℕ, ◌+◌, ◌-◌, ◌==◌, Bool, true, false}
+use Rattle.std.proofs.Common.{sym, ap, subst, arith, true≢false, inl, inr, ◌∙◌, ◌≡◌, ◌≢◌, ◌≤◌, ◌||◌, ◌&&◌, ℕ, ◌+◌, ◌-◌, ◌==◌, Bool, true, false}
 use Rattle.std.proofs.Common.{List, [], ◌∷◌, if◌then◌else◌, eqb-true, eq-eqb, refl}
-use Rattle.tsp_rules.specs.Values.{Act, Arm, Become, Boot, Leave, Post, Request, Ring, Alarm, Round, Probe, CloseAlarm, Close, Stamp, Peer, PeerId, Role}
+use Rattle.tsp_rules.specs.Values.{Act, Arm, Become, Boot, Leave, Post, Request, Round, Probe, CloseAlarm, Close, Stamp, Peer, PeerId}
 use Rattle.tsp_rules.specs.Values.{CLOSE, PROBE, ROUND, SLACK}
 use Rattle.tsp_rules.specs.{GateRows.waits, RoundRows.round_begins}
-use Rattle.tsp_base.specs.Words.{Acts, Begins, Deed, Did, Elsewhere, HeaderValue, Here, Line, Past, Seen, Within, dids, first_port, in_table}
+use Rattle.tsp_base.specs.Words.{Acts, Deed, Did, Elsewhere, HeaderValue, Here, Line, Past, Seen, Within, dids, first_port, in_table}
 use Rattle.tsp_base.specs.Words.{is_among, is_measured, is_shared, is_starting, joined, line_of, of, peer_of, placed, seen_as, started}
-use Rattle.tsp_base.specs.Words.{started_after, time_of, view}
+use Rattle.tsp_base.specs.Words.{time_of, view}
 use Rattle.tsp_base.specs.PortFacts.{in_table_after}
 use Rattle.tsp_base.proofs.PlaceLemmas.{Within_all, Within_tail, Within_through}
-use Rattle.tsp_promises.specs.{DeedFits.DeedFits, Fits.Fits, Fits.LineFits, Fits.Sees, Fits.node_of, RoundFits.CloseFits, RoundFits.StartFits, Setting.Setting}
+use Rattle.tsp_promises.specs.{DeedFits.DeedFits, Fits.Fits, Fits.LineFits, Fits.node_of, RoundFits.CloseFits, RoundFits.StartFits, Setting.Setting}
 use Rattle.tsp_promises.specs.{Setting.setup_of}
 use Rattle.tsp_promises.proofs.{shared.HistoryPlaces.line_on, shared.HistoryPlaces.of_other, shared.HistoryPlaces.of_own, shared.Clocks.near}
-use Rattle.tsp_promises.proofs.{shared.Clocks.tick_mono}
-use Rattle.tsp_promises.proofs.promised.OwnFitsProof.{deed_fits, fits_at, fits_in, place_time, tick_in}
+use Rattle.tsp_promises.proofs.promised.OwnFitsProof.{deed_fits, fits_in, tick_in}
 use Rattle.tsp_run.specs.Clocked.{Clocks, SetByClocks}
 use Rattle.tsp_progress.specs.{AlarmsFit.Manner, ByTable.ByTable, ByTable.before_line, ByTable.node_in, ByTable.port_before, Delivered.Delivered}
 use Rattle.tsp_progress.specs.{FollowOn.Calm, FollowOn.FollowUntil, FollowOn.OneNetwork, InTable.InTable, LateClose.LateClose}
 use Rattle.tsp_progress.specs.{Wakes.AllWake, Wakes.Woken, Watched.Attended, Watched.Told}
-use Rattle.tsp_progress.proofs.{AsksTable.BegunWith, AsksTable.Rung, AsksTable.begins, AsksTable.posts_keep, AsksTable.round_asks, FollowHeard.Ringing, FollowHeard.ringing}
+use Rattle.tsp_progress.proofs.{AsksTable.BegunWith, AsksTable.Rung, AsksTable.begins, AsksTable.posts_keep, AsksTable.round_asks, FollowHeard.RoundRang}
+use Rattle.tsp_progress.proofs.{FollowHeard.ringing}
 use Rattle.tsp_progress.proofs.{FollowHeard.single_waits, PortSetups.PortIs, PortSetups.differ, PortSetups.member_port, TableRows.within_joined}
-use Rattle.tsp_progress.proofs.{LateCloses.port, LateCloses.since, TimePlaces.before_time}
+use Rattle.tsp_progress.proofs.{LateCloses.port, TimePlaces.before_time}
 use Rattle.tsp_progress.proofs.WorldPlaces.{WorldPlace, act_place, in_order, own_place, world_place}
 
 -- while no other round begins, whoever was asked when this one began is measured, as long as it is in the table; another one begins ROUND later
-data Held (p : PeerId) (y : Did) (idle : List Seen) (seen : List Seen) : Type 0 where
-  Same : started seen ≡ Here y ∷ idle → is_measured p seen ≡ true → Held p y idle seen
-  Next : (z : Did) (i : List Seen) → started seen ≡ Here z ∷ i → y.tick + ROUND ≤ z.tick → Held p y idle seen
+data StillMeasured (p : PeerId) (y : Did) (idle : List Seen) (seen : List Seen) : Type 0 where
+  Same : started seen ≡ Here y ∷ idle → is_measured p seen ≡ true → StillMeasured p y idle seen
+  Next : (z : Did) (i : List Seen) → started seen ≡ Here z ∷ i → y.tick + ROUND ≤ z.tick → StillMeasured p y idle seen
 
 held_deed : (p : PeerId) (y : Did) (idle : List Seen) (d : Did) (before : List Seen) (deed : Deed) → d.deed ≡ deed → deed ≢ Acts Boot →
     ((at : ℕ) → deed ≡ Acts (Arm CloseAlarm at) → StartFits d before) → in_table_after p deed (in_table p before) ≡ true →
-    Held p y idle before → Held p y idle (Here d ∷ before)
+    StillMeasured p y idle before → StillMeasured p y idle (Here d ∷ before)
 held_deed p y idle d before (Acts Boot) is unbooted fits there h = absurd (unbooted refl)
 held_deed p y idle d before (Acts (Become r)) is unbooted fits there h = absurd (true≢false (sym there))
 held_deed p y idle d before (Acts (Arm CloseAlarm at)) is unbooted fits there (Same s m) =
@@ -38,7 +38,7 @@ held_deed p y idle d before (Acts (Arm CloseAlarm at)) is unbooted fits there (S
 held_deed p y idle d before (Acts (Arm CloseAlarm at)) is unbooted fits there (Next z i s far) =
     let far2 = (fits at refl).spaced z i s in Next d before (rw is refl) (omega (arith, far, far2))
 held_deed p y idle d before (Acts (Leave q)) is unbooted fits there (Same s m) = by_peer (q.0 == p.0) refl there where
-  by_peer : (b : Bool) → (q.0 == p.0) ≡ b → (if b then false else in_table p before) ≡ true → Held p y idle (Here d ∷ before)
+  by_peer : (b : Bool) → (q.0 == p.0) ≡ b → (if b then false else in_table p before) ≡ true → StillMeasured p y idle (Here d ∷ before)
   by_peer true e t = absurd (true≢false (sym t))
   by_peer false e t = Same (rw is s) (rw (is, e) m)
 held_deed p y idle d before (Acts (Post (Peer q) (Stamp (Request word counter)))) is unbooted fits there (Same s m) =
@@ -66,7 +66,7 @@ module _ {clocks : Clocks} {header : HeaderValue} {setting : Setting} (set : Set
   sofar : FollowUntil stays c Time s world
   sofar h w v le = follow h w v (let early = r.early in omega (arith, le, early))
 
-  rang : Ringing setting late c s world Time
+  rang : RoundRang setting late c s world Time
   rang = ringing set world table fits m woken wakes late long t c stays s attended slack told one delivered s-in Time n there other
       (let early = r.early in omega (arith, early)) (let after = r.late in omega (arith, after))
       (λ h w v le. (sofar h w v le).leads)
@@ -142,19 +142,19 @@ module _ {clocks : Clocks} {header : HeaderValue} {setting : Setting} (set : Set
       }) (begins (node_in header c) (of c world) (table c) L (of c rang.older) own-ring rang.rings alone))
 
   -- it is measured then
-  held_first : Held P Y Idle (view first_port (of c (R ∷ request.older)))
+  held_first : StillMeasured P Y Idle (view first_port (of c (R ∷ request.older)))
   held_first =
       let keep = posts_keep rang.ring.step X begun.front Base begun.posts in
       let own : view first_port (of c (R ∷ request.older)) ≡ Here R.did ∷ view first_port Own =
       ap (view first_port) (of_own c R request.older request.node) ∙ ap (λ ls. Here R.did ∷ view first_port ls) request.own_is in
       let same : (n == n) ≡ true = eq-eqb n n refl in
       let starts : is_starting (view first_port Own) ≡ true = keep.1 in
-      subst (λ z. Held P Y Idle z) (sym own) (Same keep.0 (rw (same, starts) refl))
+      subst (λ z. StillMeasured P Y Idle z) (sym own) (Same keep.0 (rw (same, starts) refl))
 
   -- and so it is up to the Close, unless another round begins
-  held : (h : List Line) → Within (R ∷ request.older) h → Within h world → time_of (dids h) ≤ t → Held P Y Idle (view first_port (of c h))
+  held : (h : List Line) → Within (R ∷ request.older) h → Within h world → time_of (dids h) ≤ t → StillMeasured P Y Idle (view first_port (of c h))
   held [] w v le = let bad : ⊥ = cc in absurd bad
-  held (l ∷ h) (inl e) v le = subst (λ z. Held P Y Idle (view first_port (of c z))) e held_first
+  held (l ∷ h) (inl e) v le = subst (λ z. StillMeasured P Y Idle (view first_port (of c z))) e held_first
   held (l ∷ h) (inr w) v le = by_node (node_of l == c) refl (held h w (Within_tail l h world v) (omega (arith, line.order, le))) where
     line : LineFits setting l h
     line = fits_in setting l h world fits v
@@ -164,23 +164,23 @@ module _ {clocks : Clocks} {header : HeaderValue} {setting : Setting} (set : Set
         (in_order c L rang.older R request.older world rang.place request.place (subst (λ ls. Within (L ∷ of c rang.older) ls) (sym request.own_is)
         (within_joined rang.ring.step X (placed first_port begun.front) Base (L ∷ of c rang.older) (inr (inr (inr (Within_all (L ∷ of c rang.older)))))))))) w
 
-    by_node : (b : Bool) → (node_of l == c) ≡ b → Held P Y Idle (view first_port (of c h)) → Held P Y Idle (view first_port (of c (l ∷ h)))
-    by_node false e k = subst (λ ls. Held P Y Idle (view first_port ls)) (sym (of_other c l h e)) k
-    by_node true e k = subst (λ ls. Held P Y Idle (view first_port ls)) (sym own) (by_flag ((l.port.0 == 0) || is_shared l.did.deed) refl) where
+    by_node : (b : Bool) → (node_of l == c) ≡ b → StillMeasured P Y Idle (view first_port (of c h)) → StillMeasured P Y Idle (view first_port (of c (l ∷ h)))
+    by_node false e k = subst (λ ls. StillMeasured P Y Idle (view first_port ls)) (sym (of_other c l h e)) k
+    by_node true e k = subst (λ ls. StillMeasured P Y Idle (view first_port ls)) (sym own) (by_flag ((l.port.0 == 0) || is_shared l.did.deed) refl) where
       node : node_of l ≡ c
       node = eqb-true (node_of l) c e
 
       own : of c (l ∷ h) ≡ l ∷ of c h
       own = of_own c l h node
 
-      by_flag : (b : Bool) → ((l.port.0 == 0) || is_shared l.did.deed) ≡ b → Held P Y Idle (seen_as b l.did ∷ view first_port (of c h))
+      by_flag : (b : Bool) → ((l.port.0 == 0) || is_shared l.did.deed) ≡ b → StillMeasured P Y Idle (seen_as b l.did ∷ view first_port (of c h))
       by_flag true f = held_deed P Y Idle l.did (view first_port (of c h)) l.did.deed refl (calm.unbooted l h v since-s)
           (λ at is. subst (λ d. DeedFits (setup_of setting (node_of l) first_port) d l.did (view first_port (of c h))) is
           (subst (λ k. DeedFits (setup_of setting (node_of l) first_port) l.did.deed l.did (view first_port (of k h))) node (line.deeds first_port f)))
           (let now = members (l ∷ h) v (inr since-s) le n there other in
           subst (λ b. in_table P (seen_as b l.did ∷ view first_port (of c h)) ≡ true) f (subst (λ ls. in_table P (view first_port ls) ≡ true) own now)) k
       by_flag false f = elsewhere k where
-        elsewhere : Held P Y Idle (view first_port (of c h)) → Held P Y Idle (Elsewhere l.did ∷ view first_port (of c h))
+        elsewhere : StillMeasured P Y Idle (view first_port (of c h)) → StillMeasured P Y Idle (Elsewhere l.did ∷ view first_port (of c h))
         elsewhere (Same s m) = Same s m
         elsewhere (Next z i s far) = Next z i s far
 
@@ -196,15 +196,15 @@ module _ {clocks : Clocks} {header : HeaderValue} {setting : Setting} (set : Set
   pub measured : is_measured P (view first_port (of c cp)) ≡ true
   measured = by_held (held cp request-before cp-in (let order = (fits_in setting C cp world fits r.place).order in let early = r.early in
       omega (arith, order, early))) where
-    by_held : Held P Y Idle (view first_port (of c cp)) → is_measured P (view first_port (of c cp)) ≡ true
-    by_held (Same s m) = m
-    by_held (Next z i s far) =
-        let is : Here z ∷ i ≡ Here close-fits.start ∷ close-fits.idle = sym s ∙ close-fits.start_is in
-        let same : z ≡ close-fits.start = cc in
-        let tick : z.tick ≡ close-fits.start.tick = ap (λ (d : Did). d.tick) same in
-        let over = close-fits.over in
-        let recent = rang.recent in
-        let close-tick = tick_in setting c C cp world fits r.node r.place in
-        let after = r.late in
-        let most = (near setting c (C.did.step.at - 1) C.did.step.at (omega arith)).most in
-        absurd (omega (arith, tick, over, far, recent, close-tick, most, slack, after))
+        by_held : StillMeasured P Y Idle (view first_port (of c cp)) → is_measured P (view first_port (of c cp)) ≡ true
+        by_held (Same s m) = m
+        by_held (Next z i s far) =
+            let is : Here z ∷ i ≡ Here close-fits.start ∷ close-fits.idle = sym s ∙ close-fits.start_is in
+            let same : z ≡ close-fits.start = cc in
+            let tick : z.tick ≡ close-fits.start.tick = ap (λ (d : Did). d.tick) same in
+            let over = close-fits.over in
+            let recent = rang.recent in
+            let close-tick = tick_in setting c C cp world fits r.node r.place in
+            let after = r.late in
+            let most = (near setting c (C.did.step.at - 1) C.did.step.at (omega arith)).most in
+            absurd (omega (arith, tick, over, far, recent, close-tick, most, slack, after))

@@ -1,21 +1,22 @@
 -- Each node in its master's table has a sample when a round closes.
-use Rattle.std.proofs.Common.{sym, ap, subst, arith, inr, length, ◌∙◌, ◌≡◌, ◌≤◌, ◌<◌, ℕ, ◌+◌, ◌==◌, Bool, true, false, List, ◌∷◌, is_some, refl}
-use Rattle.tsp_rules.specs.Values.{Close, PeerId, Port, SLACK}
+use Rattle.std.proofs.Common.{sym, ap, subst, arith, inr, length, ◌∙◌, ◌≡◌, ◌≤◌, ℕ, ◌+◌, ◌==◌, Bool, true, false, List, ◌∷◌, is_some, refl}
+use Rattle.tsp_rules.specs.Values.{Close, Port, SLACK}
 use Rattle.tsp_rules.specs.Guards.{is_clock_value, is_in_range}
-use Rattle.tsp_base.specs.Words.{Acts, Did, HeaderValue, Here, Line, Seen, Within, dids, estimate, first_port, is_among, is_measured, is_shared, of, peer_of, plain}
-use Rattle.tsp_base.specs.Words.{started, target, time_of, view}
+use Rattle.tsp_base.specs.Words.{Acts, HeaderValue, Here, Line, Within, dids, estimate, first_port, is_among, is_measured, is_shared, of, peer_of, plain}
+use Rattle.tsp_base.specs.Words.{started, target, view}
 use Rattle.tsp_base.proofs.{PlaceLemmas.Within_tail, PlaceLemmas.Within_through, Views.plain_view}
 use Rattle.tsp_promises.specs.{Fits.Fits, Fits.node_of, RoundFits.CloseFits, Setting.Setting}
 use Rattle.tsp_promises.proofs.{shared.HistoryPlaces.line_on, shared.RoundPlaces.started_at, promised.TakingProof.round_soon}
-use Rattle.tsp_promises.proofs.promised.OwnFitsProof.{Located, deed_fits, fits_at, fits_in, locate}
+use Rattle.tsp_promises.proofs.promised.OwnFitsProof.{Located, deed_fits, fits_in, locate}
 use Rattle.tsp_run.specs.Clocked.{Clocks, SetByClocks, clocks_of, run_by}
 use Rattle.tsp_run.proofs.{OwnClocks.possible_own, OwnClocks.runs_by_own_clocks, OwnClocks.set_own, RunFits.clocked_runs_fit}
-use Rattle.tsp_progress.specs.{AlarmsFit.Manner, AnswersInTime.Meanwhile, ByTable.ByTable, ByTable.node_in, Delivered.Delivered, FollowOn.Calm, FollowOn.FollowUntil}
+use Rattle.tsp_progress.specs.{AlarmsFit.Manner, AnswersInTime.Meanwhile, ByTable.ByTable, ByTable.node_in, Delivered.Delivered, FollowOn.Calm}
+use Rattle.tsp_progress.specs.{FollowOn.FollowUntil}
 use Rattle.tsp_progress.specs.{FollowOn.OneNetwork, InTable.InTable, InTable.KeepsRange, LateClose.LateClose, RunsWake.manner_of}
 use Rattle.tsp_progress.specs.MeasuresTable.{ClockedRunsMeasureTable, HasSample, MeasuresTable, RunsMeasureTable}
-use Rattle.tsp_progress.specs.SampledInTime.{ClosesSince, IsSwift, Measured}
+use Rattle.tsp_progress.specs.SampledInTime.{ClosesSince, IsSwift}
 use Rattle.tsp_progress.specs.{Wakes.AllWake, Wakes.Woken, Watched.Attended, Watched.Told}
-use Rattle.tsp_progress.proofs.{LateCloses.after_time, LateCloses.port, LateCloses.since, OnePortProof.clocked_runs_use_one_port, PortSetups.differ}
+use Rattle.tsp_progress.proofs.{LateCloses.after_time, LateCloses.port, OnePortProof.clocked_runs_use_one_port}
 use Rattle.tsp_progress.proofs.{RunWakes.clocked_runs_wake, SampledProof.sampled_in_time, TableMeasured.measured, TableProof.clocked_runs_by_table}
 
 -- where the round of a Close began
@@ -63,7 +64,8 @@ module _ {clocks : Clocks} {header : HeaderValue} {setting : Setting} (set : Set
 
     on-port : is_measured (peer_of n) (view C.port (of c cp)) ≡ true
     on-port = subst (λ q. is_measured (peer_of n) (view q (of c cp)) ≡ true) (sym c-port)
-        (measured set world table fits m woken wakes late long t c stays s attended slack told one delivered s-in calm follow members first n there other C cp r)
+        (measured set world table fits m woken wakes late long t c stays s attended slack told one delivered s-in calm follow members first n there other C cp
+        r)
 
     abbrev Begin : Line
     Begin = line_on first_port (close_fits setting world fits long t c stays s s-in calm first C cp r).start

@@ -123,4 +123,3 @@ module _ {header : HeaderValue} (setting : Setting) (world : List Line) (fits : 
             | inr l ↦ inr l
           ]
       by_node false same was = inl (ap (λ ls. in_table P (view first_port ls)) (of_other c k h same) ∙ was)
-

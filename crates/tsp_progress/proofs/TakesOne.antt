@@ -1,35 +1,42 @@
 -- One follower is moved by one round of its master.
-use Rattle.std.proofs.Common.{sym, ap, subst, subst₂, arith, true≢false, inl, inr, ◌∙◌, ◌≡◌, ◌≢◌, ◌≤◌, ◌<◌, ◌⊎◌, ◌&&◌, ℕ, ◌+◌, ◌*◌, ◌==◌, ◌+ℤ◌, ℤ, Bool, true}
-use Rattle.std.proofs.Common.{false, List, [], ◌∷◌, Option, None, Some, is_some, length, eq-eqb, le-leb, refl}
-use Rattle.tsp_rules.specs.Values.{AdjTime, Close, Correct, GAP, Good, Message, Peer, PeerId, Post, Reply, SLACK, Stamp, Took}
+use Rattle.std.proofs.Common.{sym, ap, subst, arith, true≢false, inl, inr, ◌∙◌, ◌≡◌, ◌≤◌, ◌<◌, ◌&&◌, ℕ, ◌+◌, ◌==◌, ◌+ℤ◌, ℤ, Bool, true}
+use Rattle.std.proofs.Common.{false, List, ◌∷◌, Option, None, Some, length, eq-eqb, le-leb, refl}
+use Rattle.tsp_rules.specs.Values.{Correct, GAP, Message, Peer, PeerId, Post}
 use Rattle.tsp_rules.specs.{ClockRows.can_adjust, Guards.is_clock_value, SlaveRows.is_next, SlaveRows.takes_amount}
-use Rattle.tsp_base.specs.Words.{Acts, Came, Did, Estimate, HeaderValue, Here, Line, MessageValue, Past, Sampled, Seen, Step, Undisturbed, Within, best}
-use Rattle.tsp_base.specs.Words.{correct_tick, dids, estimate_of, first_port, is_among, is_correction, is_past, is_shared, of, peer_of, plain, posted, started}
-use Rattle.tsp_base.specs.Words.{target, tick_of, ticket, time_in, time_of, view}
+use Rattle.tsp_base.specs.Words.{Acts, Did, Estimate, HeaderValue, Here, Line, Past, Sampled, Step, Within, best}
+use Rattle.tsp_base.specs.Words.{correct_tick, dids, estimate_of, first_port, is_among, is_past, of, peer_of, plain, posted, started}
+use Rattle.tsp_base.specs.Words.{target, ticket, time_in, time_of, view}
 use Rattle.tsp_base.proofs.{PlaceLemmas.Within_comparable, PlaceLemmas.Within_tail, PlaceLemmas.Within_through, Views.plain_view}
-use Rattle.tsp_promises.specs.{Agreed.Unchanged, Fits.Fits, Fits.node_of, MeasureFits.SampleFits, RoundFits.CloseFits, Setting.Setting}
-use Rattle.tsp_promises.proofs.{shared.HistoryPlaces.line_on, shared.HistoryPlaces.of_other, shared.HistoryPlaces.of_own, shared.Clocks.near, shared.Clocks.tick_mono}
-use Rattle.tsp_promises.proofs.{promised.MeasuredProof.Reading, promised.MeasuredProof.reading_at, promised.MeasuredProof.sample_fits}
+use Rattle.tsp_promises.specs.{Agreed.Unchanged, Fits.node_of, RoundFits.CloseFits, Setting.Setting}
+use Rattle.tsp_promises.proofs.{shared.HistoryPlaces.line_on, shared.HistoryPlaces.of_own, shared.Clocks.near}
+use Rattle.tsp_promises.proofs.{promised.MeasuredProof.reading_at, promised.MeasuredProof.sample_fits}
 use Rattle.tsp_promises.proofs.{shared.RoundPlaces.best_at, shared.RoundPlaces.same_start, promised.SinceProof.last_by, shared.SendPlaces.post_unique}
 use Rattle.tsp_promises.proofs.{shared.SendPlaces.same_number}
 use Rattle.tsp_promises.proofs.promised.OwnFitsProof.{Given, Located, fits_at, fits_in, given_at, locate, of_tick, own_fits, place_time, tick_in}
 use Rattle.tsp_run.specs.Clocked.{Clocks}
 use Rattle.tsp_progress.specs.{ByTable.node_in, FollowOn.AfterPlace, LateClose.LateClose, LateClose.OfRound, Obeyed.Adjusts, Obeyed.MovedIn, Obeyed.Obeyed}
-use Rattle.tsp_progress.specs.{MovedBy.FromMaster, SentAway.past_there, SlewsTable.Slews, TakesRounds.NoneSince, TakesRounds.TakesRound}
+use Rattle.tsp_progress.specs.{SentAway.past_there, SlewsTable.Slews, TakesRounds.NoneSince, TakesRounds.TakesRound}
 use Rattle.tsp_progress.specs.TicketKept.{TicketStays}
-use Rattle.tsp_progress.proofs.{AllAsked.Asked, AllAsked.on_first, CorrectBetween.Between, CorrectBetween.Quiet, CorrectBetween.between, CorrectBetween.last_is}
-use Rattle.tsp_progress.proofs.{LateCloses.after_time, LateCloses.older_posts, LateCloses.port as close_port_is, LateCloses.same_lives, LateCloses.since, MovedByProof.moved_by_master}
+use Rattle.tsp_progress.proofs.{AllAsked.Tended, AllAsked.on_first, CorrectBetween.Between, CorrectBetween.NoneBetween, CorrectBetween.between}
+use Rattle.tsp_progress.proofs.{CorrectBetween.last_is}
+use Rattle.tsp_progress.proofs.{LateCloses.after_time, LateCloses.older_posts, LateCloses.port as close_port_is, LateCloses.since, MovedByProof.moved_by_master}
 use Rattle.tsp_progress.proofs.{ObeyedProof.all_obey, RoundCorrects.not_again, RoundCorrects.of_round, SlewsProof.slews_table, TableSampled.begin_at}
-use Rattle.tsp_progress.proofs.{TableSampled.begin_in, TableSampled.begin_since, TableSampled.begin_young, TableSampled.close_fits, TicketProof.keeps_ticket}
+use Rattle.tsp_progress.proofs.{TableSampled.begin_since, TableSampled.begin_young, TableSampled.close_fits, TicketProof.keeps_ticket}
 
 -- what an estimate rests on
 sample_of : (o : Option Sampled) (b : Estimate) → estimate_of o ≡ Some b → (x : Sampled) × ((o ≡ Some x) × (b.ticket ≡ x.ticket))
 sample_of None b e = let bad : ⊥ = cc in absurd bad
-sample_of (Some x) b e = (x, (refl, let same : Some (record { diff = x.diff; ticket = x.ticket }) ≡ Some b = e in
-    let tickets : (let k : Estimate = record { diff = x.diff; ticket = x.ticket } in k) ≡ b = cc in sym (ap (λ (k : Estimate). k.ticket) tickets)))
+sample_of (Some x) b e = (
+  x,
+  (
+    refl,
+    let same : Some (record { diff = x.diff; ticket = x.ticket }) ≡ Some b = e in
+        let tickets : (let k : Estimate = record { diff = x.diff; ticket = x.ticket } in k) ≡ b = cc in sym (ap (λ (k : Estimate). k.ticket) tickets),
+  ),
+)
 
 module _ {clocks : Clocks} {header : HeaderValue} {setting : Setting} (late long t : ℕ) (stays : ℕ → Bool) (c : ℕ) (s world : List Line)
-    (a : Asked clocks header setting late long t stays c s world) (whole : Given setting world) (C : Line) (cp : List Line)
+    (a : Tended clocks header setting late long t stays c s world) (whole : Given setting world) (C : Line) (cp : List Line)
     (r : LateClose long t c s C cp world) (early : C.did.step.at + long < t) (n : ℕ) (there : stays n ≡ true) (other : (n == c) ≡ false)
     (single : length (node_in header n).ports ≡ 1) where
   abbrev P : PeerId
@@ -110,6 +117,10 @@ module _ {clocks : Clocks} {header : HeaderValue} {setting : Setting} (late long
     pub takes_it : TakesRound long t c n s C cp world
     takes_it = record { correct = K; before = W; place = place; node = node; after = after; soon = soon; round = taken; left = left }
 
+    -- at that line
+    pub takes_there : (k : TakesRound long t c n s C cp world) × (K ∷ W ≡ k.correct ∷ k.before)
+    takes_there = (record { correct = K; before = W; place = place; node = node; after = after; soon = soon; round = taken; left = left }, refl)
+
   -- the ADJTIME of the round
   c-net : setting.net (node_of sl.post) sl.post.port ≡ setting.net n first_port
   c-net = ap (λ q. setting.net (node_of sl.post) q) sl.port ∙ (ap (λ k. setting.net k first_port) sl.node ∙ sym (a.one.net n there))
@@ -178,7 +189,8 @@ module _ {clocks : Clocks} {header : HeaderValue} {setting : Setting} (late long
       let g = given_at setting (line ∷ l.older) world whole (Within_through (line ∷ l.older) cp world l.place cp-in) in
       let sf = sample_fits setting line l.older P x.0.counter x.0.ticket x.0.diff x.0.err g.fits.0 b.deed in
       let read = reading_at setting line l.older P x.0.counter x.0.ticket x.0.diff x.0.err g.fits g.honest (inl g.life) b.deed sf in
-      let mine : started (view first_port (of c l.older)) ≡ Here sf.start ∷ sf.idle = subst (λ k. started (view first_port (of k l.older)) ≡ Here sf.start ∷ sf.idle)
+      let mine : started (view first_port (of c l.older)) ≡ Here sf.start ∷ sf.idle = subst (λ k. started (view first_port (of k l.older)) ≡ Here sf.start ∷
+      sf.idle)
       l.node sf.start_is in
       let same : sf.start ≡ Cf.start = same_start sf.start Cf.start sf.idle Cf.idle (view first_port (of c l.older)) b.rest (view first_port (of c cp)) mine
       (sym l.before) b.round Cf.start_is in
@@ -245,15 +257,16 @@ module _ {clocks : Clocks} {header : HeaderValue} {setting : Setting} (late long
       omega (arith, low, b-order, old, soon, recent, small)
 
   -- so the correction is the next one
-  number-is : Quiet n G B → sl.message.number ≡ ticket (dids (of n B))
+  number-is : NoneBetween n G B → sl.message.number ≡ ticket (dids (of n B))
   number-is q =
       let from-reading = stays-to-close (reading.line ∷ reading.older) (inr (after_time setting world a.fits s a.s_in reading.line reading.older
       (Within_through (reading.line ∷ reading.older) cp world reading.place cp-in)
-      (let late_enough = r.late in let recent = young in let after = reading.after in omega (arith, late_enough, recent, after)))) reading.place reading.after in
+      (let late_enough = r.late in let recent = young in let after = reading.after in omega (arith, late_enough, recent, after)))) reading.place reading.after
+      in
       let from-begin = stays-to-close G since-g g-in (omega arith) in
       reading.ticket_is ∙ (sym from-reading.same ∙ (from-begin.same ∙ sym q.ticket_is))
 
-  gap : Quiet n G B → (o : Option ℕ) → correct_tick (dids (of n B)) ≡ o → is_past o GAP A.did.tick ≡ true
+  gap : NoneBetween n G B → (o : Option ℕ) → correct_tick (dids (of n B)) ≡ o → is_past o GAP A.did.tick ≡ true
   gap q None e = refl
   gap q (Some y) e =
       let g-world : Within G world = Within_through G cp world g-in cp-in in
@@ -281,7 +294,7 @@ module _ {clocks : Clocks} {header : HeaderValue} {setting : Setting} (late long
   and-true : (x y : Bool) → x ≡ true → y ≡ true → (x && y) ≡ true
   and-true x y e f = rw (e, f) refl
 
-  takes : Quiet n G B → takes_amount sl.message.number (time_in sl.message.body) A.did.tick There ≡ true
+  takes : NoneBetween n G B → takes_amount sl.message.number (time_in sl.message.body) A.did.tick There ≡ true
   takes q =
       let number : (sl.message.number == ticket (plain There.seen)) ≡ true =
       subst (λ ds. (sl.message.number == ticket ds) ≡ true) (sym seen-is) (eq-eqb sl.message.number (ticket (dids (of n B))) (number-is q)) in
@@ -295,7 +308,7 @@ module _ {clocks : Clocks} {header : HeaderValue} {setting : Setting} (late long
       and-true (is_next sl.message.number A.did.tick There) (can_adjust (time_in sl.message.body) A.did.tick There)
       (and-true (sl.message.number == ticket (plain There.seen)) (is_past (correct_tick (plain There.seen)) GAP A.did.tick) number rests) can
 
-  moved : Quiet n G B → TakesRound long t c n s C cp world
+  moved : NoneBetween n G B → TakesRound long t c n s C cp world
   moved q =
       let m : MovedIn setting c n A.did.step world = obeyed.moves (takes q) in
       let br = m.rests.acts.brings in

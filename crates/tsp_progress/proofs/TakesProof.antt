@@ -1,5 +1,5 @@
 -- Each follower is moved by each round of its master, soon after the Close, and left alone until the next.
-use Rattle.std.proofs.Common.{subst, ◌≡◌, ◌≤◌, ℕ, ◌==◌, Bool, true, false, List, ◌∷◌}
+use Rattle.std.proofs.Common.{subst, ◌≡◌, ◌≤◌, ℕ, Bool, true, List}
 use Rattle.tsp_rules.specs.Values.{SLACK}
 use Rattle.tsp_base.specs.Words.{HeaderValue, Line, Within}
 use Rattle.tsp_promises.specs.{Premises.Honest, Premises.Life, Setting.Setting}
@@ -10,14 +10,14 @@ use Rattle.tsp_progress.specs.{Delivered.Delivered, FollowOn.Calm, FollowOn.Foll
 use Rattle.tsp_progress.specs.{InTable.SetsNone, InTable.Undated, OneWire.OneWire, SampledInTime.IsSwift}
 use Rattle.tsp_progress.specs.TakesRounds.{ClockedRunsTakeRounds, RunsTakeRounds, TakesRounds}
 use Rattle.tsp_progress.specs.{Watched.Attended, Watched.Told}
-use Rattle.tsp_progress.proofs.{AllAsked.Asked, AllAsked.all_asked, OwnKept.own_kept, TakesOne.takes_round}
+use Rattle.tsp_progress.proofs.{AllAsked.Tended, AllAsked.all_asked, OwnKept.own_kept, TakesOne.takes_round}
 
 pub one_network : {header : HeaderValue} {setting : Setting} {stays : ℕ → Bool} (c : ℕ) → OneWire header setting stays → stays c ≡ true →
     OneNetwork header setting stays c
 one_network c wire there = record { there = there; single = wire.single c there; net = λ n is. wire.net n c is there }
 
 pub takes_rounds : {clocks : Clocks} {header : HeaderValue} {setting : Setting} (late long t : ℕ) (stays : ℕ → Bool) (c : ℕ) (s world : List Line) →
-    Asked clocks header setting late long t stays c s world → Given setting world → OneWire header setting stays → Undated c s world →
+    Tended clocks header setting late long t stays c s world → Given setting world → OneWire header setting stays → Undated c s world →
     TakesRounds long t stays c s world
 takes_rounds late long t stays c s world a whole wire undated = record {
   each = λ C cp r early n there other. takes_round late long t stays c s world a whole C cp r early n there other (wire.single n there);

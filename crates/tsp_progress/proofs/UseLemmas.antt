@@ -20,10 +20,10 @@ one_letter c e = record {
 }
 
 -- a node without drift that has it
-keeps : (c : ℕ) (may : Bool) → (0 == c) ≡ false → KeepsDrift 0 (record { name = c ∷ []; rate = pos 0; wall = pos 0; may = may })
+pub keeps : (c : ℕ) (may : Bool) → (0 == c) ≡ false → KeepsDrift 0 (record { name = c ∷ []; rate = pos 0; wall = pos 0; may = may })
 keeps c may e = record { name = one_letter c e; rate = omega arith; wall = omega arith }
 
-abbrev node_a : NodeLine
+abbrev pub node_a : NodeLine
 node_a = record { name = 97 ∷ []; rate = pos 0; wall = pos 0; may = true }
 
 abbrev node_b : NodeLine
@@ -40,7 +40,7 @@ header_is = record {
 }
 
 -- where both may be master
-abbrev node_b_may : NodeLine
+abbrev pub node_b_may : NodeLine
 node_b_may = record { name = 98 ∷ []; rate = pos 0; wall = pos 0; may = true }
 
 pub two_header_is : IsHeader two_may

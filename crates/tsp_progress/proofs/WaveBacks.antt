@@ -1,28 +1,26 @@
 -- In a stretch without a master each backing is of somebody who stood not long before, and who takes a question for a vote has backed somebody since.
-use Rattle.std.proofs.Common.{sym, ap, subst, arith, true≢false, inl, inr, ◌∙◌, ◌≡◌, ◌≢◌, ◌≤◌, ◌<◌, ◌⊎◌, ℕ, ◌+◌, ◌-◌, ◌*◌, ◌==◌, ◌||◌, ◌&&◌, not}
-use Rattle.std.proofs.Common.{Bool, true, false, List, [], ◌∷◌, Option, None, Some, eqb-true, length, refl}
-use Rattle.std.proofs.lemmas.Bool.{cases_lt}
-use Rattle.tsp_rules.specs.Values.{Act, Accept, Arm, Back, Become, Boot, Post, Took, Datagram, Elect, Election, Good, Kind, Message, PeerId, Peer}
-use Rattle.tsp_rules.specs.Values.{Place, Port, Role, Candidate, Follow, Loose, Master, Starting, HOLD, SLACK, WINDOW}
+use Rattle.std.proofs.Common.{sym, ap, subst, arith, true≢false, inl, inr, ◌∙◌, ◌≡◌, ◌≢◌, ◌≤◌, ◌<◌, ◌⊎◌, ℕ, ◌+◌, ◌==◌}
+use Rattle.std.proofs.Common.{Bool, true, false, List, [], ◌∷◌, length, refl}
+use Rattle.tsp_rules.specs.Values.{Accept, Back, Become, Boot, Took, Election, Good, Message, PeerId, Peer}
+use Rattle.tsp_rules.specs.Values.{Place, Role, Candidate, Follow, Loose, Master, Starting, HOLD}
 use Rattle.tsp_rules.specs.{CommonRows.is_idle, Guards.is_starting_role, Guards.may_back_at}
 use Rattle.tsp_base.specs.Words.{Acts, Deed, Did, Elsewhere, HeaderValue, Held, Here, Line, MessageValue, Past, Seen, Step, TakesFrom, Within, dids}
-use Rattle.tsp_base.specs.Words.{first_port, held, held_after, is_among, joined, line_of, of, peer_of, placed, plain, role, stood, stood_after, tick_of, time_of, view}
+use Rattle.tsp_base.specs.Words.{first_port, held, is_among, line_of, of, peer_of, plain, role, stood, stood_after, tick_of, time_of, view}
 use Rattle.tsp_base.proofs.PlaceLemmas.{Within_all, Within_tail, Within_through}
-use Rattle.tsp_base.proofs.ViewPlaces.{sees_own}
 use Rattle.tsp_promises.specs.{Fits.node_of, Setting.Setting}
-use Rattle.tsp_promises.proofs.{shared.Clocks.near, shared.Clocks.tick_mono, shared.ElectionFacts.held_at, shared.ElectionFacts.stood_at}
-use Rattle.tsp_promises.proofs.{shared.HistoryPlaces.Within_of, shared.HistoryPlaces.line_on}
+use Rattle.tsp_promises.proofs.{shared.Clocks.near, shared.ElectionFacts.stood_at}
+use Rattle.tsp_promises.proofs.{shared.HistoryPlaces.line_on}
 use Rattle.tsp_promises.proofs.promised.OwnFitsProof.{Located, fits_at, fits_in, locate, place_time, seen_in, tick_in, view_line}
 use Rattle.tsp_run.specs.Clocked.{Clocks}
-use Rattle.tsp_progress.specs.AlarmsFit.{AlarmsFit, Manner, NextFits, NextTo, newest_is, stands_by, stands_now}
-use Rattle.tsp_progress.specs.{AsksAll.AsksPeer, Delivered.Arrives, Delivered.PostsTo, FollowOn.role_of, Headless.delay_of}
+use Rattle.tsp_progress.specs.AlarmsFit.{NextFits, NextTo, newest_is, stands_by, stands_now}
+use Rattle.tsp_progress.specs.{AsksAll.AsksPeer, Delivered.Arrives, Delivered.PostsTo}
 use Rattle.tsp_progress.specs.{ByTable.node_in, ByTable.port_before, Heeds.Hears, Heeds.arms_for_delay, Heeds.posts_bare}
-use Rattle.tsp_progress.specs.{Heeds.role_before, Motives.MotiveFits, OneAtATime.StandsAt, RolesLast.TookOf, RunsWake.manner_of}
-use Rattle.tsp_progress.proofs.{AloneProof.PacedAt, AnswersProof.hears_there, ElectAhead.BackedSince, FollowHeard.paced_at, FollowProof.owes_at, HeedsProof.all_heed, PaceProof.paced}
-use Rattle.tsp_progress.proofs.{SearchKept.alarms_within, SearchKept.view_within, TimePlaces.before_time}
-use Rattle.tsp_progress.proofs.StretchFacts.{Source, Stands, Stretch, StoodSoon, after_s, asks_as, in_time_order, source, stood_last, stood_soon, term}
-use Rattle.tsp_progress.proofs.WaveFacts.{Backed, act_time, alarms_of, held_by, later_back, no_boot, rise_of, stand_at, stand_back, stand_late, stand_since}
-use Rattle.tsp_progress.proofs.WaveFacts.{stand_tick, stand_time}
+use Rattle.tsp_progress.specs.{Motives.MotiveFits, OneAtATime.StandsAt, RolesLast.TookOf, RunsWake.manner_of}
+use Rattle.tsp_progress.proofs.{AloneProof.PacedAt, AnswersProof.hears_there, FollowHeard.paced_at, FollowProof.owes_at, HeedsProof.all_heed, PaceProof.paced}
+use Rattle.tsp_progress.proofs.{SearchKept.alarms_within}
+use Rattle.tsp_progress.proofs.StretchFacts.{Source, Candidacy, Stretch, asks_as, source, stood_soon, term}
+use Rattle.tsp_progress.proofs.WaveFacts.{Backed, act_time, alarms_of, held_by, rise_of, stand_at, stand_back, stand_since}
+use Rattle.tsp_progress.proofs.WaveFacts.{stand_tick}
 use Rattle.tsp_progress.proofs.WorldPlaces.{act_place, in_order, world_place}
 use Rattle.tsp_base.proofs.PlaceLemmas.{Within_length}
 
@@ -57,7 +55,7 @@ module _ {clocks : Clocks} {header : HeaderValue} {setting : Setting} {late long
   pub record StoodBy (x v : ℕ) : Type 0 where
     pub there : stays x ≡ true
     pub at : ℕ
-    pub stood : Stands x at world
+    pub stood : Candidacy x at world
     pub early : at ≤ v
     pub soon : v ≤ at + term late + long
 
@@ -113,7 +111,7 @@ module _ {clocks : Clocks} {header : HeaderValue} {setting : Setting} {late long
           let stands = stands-deed c.deed e in
           let inside : Within (Here c ∷ rest) (view first_port (of n world)) = subst (λ z. Within z (view first_port (of n world))) is
           (Within_tail (Here d) before (view first_port (of n world)) place) in
-          let st : Stands n c.step.at world = record { start = c; idle = rest; place = inside; deed = stands; at = refl } in
+          let st : Candidacy n c.step.at world = record { start = c; idle = rest; place = inside; deed = stands; at = refl } in
           let level : d.tick ≡ c.tick = pacing.level (Back p) back ∙ ap (λ z. tick_of (plain z)) is in
           let tick = tick_in setting n (line_on first_port d) at-line.older world k.fits at-line.node at-line.place in
           let tick' = stand_tick k st in
@@ -146,7 +144,7 @@ module _ {clocks : Clocks} {header : HeaderValue} {setting : Setting} {late long
     pub recent : setting.tick n at < b + HOLD
     pub backed : Backed k n b at
 
-  module _ {x n u : ℕ} (st : Stands x u world) (settled : time_of (dids s) + long < u) (there : stays x ≡ true) (here : stays n ≡ true)
+  module _ {x n u : ℕ} (st : Candidacy x u world) (settled : time_of (dids s) + long < u) (there : stays x ≡ true) (here : stays n ≡ true)
       (other : (n == x) ≡ false) (early : u + long < t) where
     abbrev C : Line
     C = line_on first_port st.start
@@ -259,7 +257,8 @@ module _ {clocks : Clocks} {header : HeaderValue} {setting : Setting} {late long
     candidate-struck e =
         let c = stood_soon k n here a.before a-in (let at = a-time in let le = until in omega (arith, at, le)) e in
         let w = (stood_at Then (Here c.standing.start) c.standing.idle c.last).place in
-        let back = (stand_back (manner_of header n) Then (alarms_of k n a.before a-in) (rise_of k n a.before a-in) c.standing.start c.standing.idle c.standing.deed w
+        let back = (stand_back (manner_of header n) Then (alarms_of k n a.before a-in) (rise_of k n a.before a-in) c.standing.start c.standing.idle
+        c.standing.deed w
         (λ d before place after. kept_life Then c.standing.start c.standing.idle c.last d before place after)).0 in
         let low = c.early in
         let high = c.soon in

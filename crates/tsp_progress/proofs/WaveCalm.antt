@@ -1,19 +1,19 @@
 -- In a stretch without a master: after who stands nobody else does for long; and the first one that stands after some time.
-use Rattle.std.proofs.Common.{sym, ap, subst, arith, true≢false, inl, inr, ◌∙◌, ◌≡◌, ◌≢◌, ◌≤◌, ◌<◌, ◌⊎◌, ℕ, ◌+◌, ◌-◌, ◌*◌, ◌==◌, Bool, true, false}
-use Rattle.std.proofs.Common.{List, [], ◌∷◌, Some, eqb-true, length, refl}
+use Rattle.std.proofs.Common.{sym, ap, subst, arith, true≢false, inl, inr, ◌∙◌, ◌≡◌, ◌≤◌, ◌<◌, ◌⊎◌, ℕ, ◌+◌, ◌==◌, Bool, true, false}
+use Rattle.std.proofs.Common.{List, [], ◌∷◌, eqb-true, length, refl}
 use Rattle.std.proofs.lemmas.Bool.{cases_lt}
-use Rattle.tsp_rules.specs.Values.{Back, Become, Boot, Elect, Ring, PeerId, Port, Candidate, HOLD}
-use Rattle.tsp_base.specs.Words.{Acts, Deed, Did, Elsewhere, HeaderValue, Held, Here, Line, Seen, Within, dids, first_port, held, of, time_of, view}
+use Rattle.tsp_rules.specs.Values.{Back, Become, Elect, Ring, Port, Candidate, HOLD}
+use Rattle.tsp_base.specs.Words.{Acts, Deed, Did, Elsewhere, HeaderValue, Here, Line, Seen, Within, dids, first_port, of, time_of, view}
 use Rattle.tsp_base.proofs.PlaceLemmas.{Within_all, Within_length, Within_tail, Within_through}
 use Rattle.tsp_base.proofs.ViewPlaces.{port_same}
 use Rattle.tsp_promises.specs.{Fits.node_of, Setting.Setting}
 use Rattle.tsp_promises.proofs.{shared.Clocks.near, shared.Clocks.tick_mono, shared.ElectionFacts.held_at, shared.HistoryPlaces.line_on}
-use Rattle.tsp_promises.proofs.promised.OwnFitsProof.{fits_at, fits_in, locate, place_time, seen_in, tick_in, view_line}
+use Rattle.tsp_promises.proofs.promised.OwnFitsProof.{fits_at, locate, place_time, seen_in, tick_in, view_line}
 use Rattle.tsp_run.specs.Clocked.{Clocks}
 use Rattle.tsp_progress.specs.{AlarmsFit.newest_is, AlarmsFit.stands_by, CausesFit.elects_by, Headless.delay_of, RunsWake.manner_of}
 use Rattle.tsp_progress.proofs.{ElectAhead.BackedSince, TimePlaces.before_time}
-use Rattle.tsp_progress.proofs.StretchFacts.{Stands, Stretch, after_s, term}
-use Rattle.tsp_progress.proofs.WaveBacks.{Struck, backed_for, struck}
+use Rattle.tsp_progress.proofs.StretchFacts.{Candidacy, Stretch, after_s, term}
+use Rattle.tsp_progress.proofs.WaveBacks.{backed_for, struck}
 use Rattle.tsp_progress.proofs.WaveFacts.{alarms_of, later_back, no_boot, rise_of, stand_at, stand_back, stand_late, stand_rang, stand_since, stand_tick}
 use Rattle.tsp_progress.proofs.WaveFacts.{stand_time, view_length}
 
@@ -32,7 +32,7 @@ both_newest (Here d ∷ older) e f = by_deed d.deed e f where
 module _ {clocks : Clocks} {header : HeaderValue} {setting : Setting} {late long t : ℕ} {stays : ℕ → Bool} {s world : List Line}
     (k : Stretch clocks header setting late long t stays s world) where
   -- x stands at u, and n, later, at y
-  module _ {x n u y : ℕ} (sx : Stands x u world) (sn : Stands n y world) (there : stays x ≡ true) (here : stays n ≡ true)
+  module _ {x n u y : ℕ} (sx : Candidacy x u world) (sn : Candidacy n y world) (there : stays x ≡ true) (here : stays n ≡ true)
       (settled : time_of (dids s) + long < u) (later : u + long < y) (until : y ≤ t) where
     abbrev Before : List Line
     Before = (stand_at k sn).older
@@ -80,7 +80,8 @@ module _ {clocks : Clocks} {header : HeaderValue} {setting : Setting} {late long
         let back = (stand_back (manner_of header n) (view first_port (of n Before)) (alarms_of k n Before before-in) (rise_of k n Before before-in) sx.start
         (view first_port (of n o.older)) sx.deed w
         (λ d before place after. no_boot k n (C ∷ o.older) Before order before-in (inr (stand_since k sx settled)) d before place
-        (let le = Within_length (Here sx.start ∷ view first_port (of n o.older)) before after in let more = ap length seen in omega (arith, le, len, more)))).0 in
+        (let le = Within_length (Here sx.start ∷ view first_port (of n o.older)) before after in let more = ap length seen in omega (arith, le, len, more)))).0
+        in
         let tick = stand_tick k sx in
         elim back [
           | inl just ↦ absurd (both_newest sn.idle (subst (λ z. newest_is stands_by z ≡ true) idle-is just) (stand_rang k sn settled-n))
@@ -106,7 +107,7 @@ module _ {clocks : Clocks} {header : HeaderValue} {setting : Setting} {late long
         omega (arith, le, recent, tick)
 
     -- and where nobody stood for long before u, its whole delay
-    module _ (clean : (z w : ℕ) → stays z ≡ true → Stands z w world → u ≤ w + gap late long → w < u → ⊥)
+    module _ (clean : (z w : ℕ) → stays z ≡ true → Candidacy z w world → u ≤ w + gap late long → w < u → ⊥)
         (long-since : time_of (dids s) + long + HOLD + 100000 < u) where
       abbrev At : ℕ
       At = since.back.at
@@ -114,7 +115,8 @@ module _ {clocks : Clocks} {header : HeaderValue} {setting : Setting} {late long
       held-there : (did : Did) (before : List Seen) → Within (Here did ∷ before) sn.idle → did.deed ≡ Acts (Back since.back.of_peer) → did.tick ≡ At →
           setting.tick n u ≤ At
       held-there did before place deed tick =
-          let inside : Within (Here did ∷ before) (view first_port (of n world)) = Within_through (Here did ∷ before) sn.idle (view first_port (of n world)) place
+          let inside : Within (Here did ∷ before) (view first_port (of n world)) =
+          Within_through (Here did ∷ before) sn.idle (view first_port (of n world)) place
           (Within_tail (Here sn.start) sn.idle (view first_port (of n world)) sn.place) in
           let l = locate n first_port world did before (rw deed refl) inside in
           let own = tick_in setting n (line_on first_port did) l.older world k.fits l.node l.place in
@@ -145,9 +147,9 @@ module _ {clocks : Clocks} {header : HeaderValue} {setting : Setting} {late long
     pub x : ℕ
     pub u : ℕ
     pub there : stays x ≡ true
-    pub standing : Stands x u world
+    pub standing : Candidacy x u world
     pub after : a < u
-    pub first : (z w : ℕ) → Stands z w world → a < w → u ≤ w
+    pub first : (z w : ℕ) → Candidacy z w world → a < w → u ≤ w
 
   abbrev IsStand : Line → Type 0
   IsStand l = (l.did.deed ≡ Acts (Become Candidate)) × (l.port ≡ first_port)
@@ -221,10 +223,10 @@ module _ {clocks : Clocks} {header : HeaderValue} {setting : Setting} {late long
     by_flag true e none = by_port (stands_is c.did.deed e) none (c.port.0 == 0) refl
     by_flag false e none = skip none (λ is. absurd (true≢false (sym (ap stands_by is.0) ∙ e)))
 
-  stand-line : {z w : ℕ} (st : Stands z w world) → IsStand (line_on first_port st.start)
+  stand-line : {z w : ℕ} (st : Candidacy z w world) → IsStand (line_on first_port st.start)
   stand-line st = (st.deed, refl)
 
-  pub first_stand : (a : ℕ) → time_of (dids s) ≤ a → FirstStand a ⊎ ((z w : ℕ) → Stands z w world → w ≤ a)
+  pub first_stand : (a : ℕ) → time_of (dids s) ≤ a → FirstStand a ⊎ ((z w : ℕ) → Candidacy z w world → w ≤ a)
   first_stand a from = elim (search_in a world (Within_all world)) [
     | inl f ↦ inl (record {
       x = node_of f.line;

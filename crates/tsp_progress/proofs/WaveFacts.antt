@@ -1,30 +1,27 @@
 -- Waves of candidatures in a stretch without a master: after one each Elect is armed for long.
-use Rattle.std.proofs.Common.{sym, ap, subst, arith, true≢false, inl, inr, ◌∙◌, ◌≡◌, ◌≢◌, ◌≤◌, ◌<◌, ◌⊎◌, ℕ, ◌+◌, ◌-◌, ◌*◌, ◌==◌, ◌||◌, ◌&&◌, nat_le, not}
+use Rattle.std.proofs.Common.{sym, ap, subst, arith, true≢false, inl, inr, ◌∙◌, ◌≡◌, ◌≢◌, ◌≤◌, ◌<◌, ◌⊎◌, ℕ, ◌+◌, ◌==◌, ◌||◌, nat_le}
 use Rattle.std.proofs.Common.{Bool, true, false, List, [], ◌∷◌, Option, None, Some, length, eqb-true, le-leb, refl}
 use Rattle.std.proofs.lemmas.Bool.{cases_lt}
-use Rattle.tsp_rules.specs.Values.{Act, Accept, Arm, Back, Become, Boot, Post, Quit, Ring, Took, Datagram, Elect, Election, Good, Kind, Message, PeerId, Peer}
-use Rattle.tsp_rules.specs.Values.{Place, Port, Role, Candidate, Follow, Loose, Master, Starting, Test, HOLD, SLACK, WINDOW}
-use Rattle.tsp_rules.specs.{CommonRows.is_idle, Guards.delay, Guards.is_starting_role, Guards.may_back_at}
-use Rattle.tsp_base.specs.Words.{Acts, Begins, Deed, Did, Elsewhere, HeaderValue, Held, Here, Line, MessageValue, Past, Seen, Step, TakesFrom, Within, dids}
-use Rattle.tsp_base.specs.Words.{first_port, held, held_after, is_among, joined, line_of, may_back_after, of, peer_of, placed, plain, role, tick_of, time_of}
+use Rattle.tsp_rules.specs.Values.{Act, Back, Become, Boot, Post, Quit, Ring, Elect, Message, PeerId, Peer}
+use Rattle.tsp_rules.specs.Values.{Port, Candidate, Test, HOLD}
+use Rattle.tsp_rules.specs.{Guards.delay}
+use Rattle.tsp_base.specs.Words.{Acts, Deed, Did, Elsewhere, HeaderValue, Held, Here, Line, Seen, Step, TakesFrom, Within, dids}
+use Rattle.tsp_base.specs.Words.{first_port, held, held_after, may_back_after, of, peer_of, plain, tick_of, time_of}
 use Rattle.tsp_base.specs.Words.{view, word, word_after}
 use Rattle.tsp_base.proofs.PlaceLemmas.{Within_all, Within_comparable, Within_length, Within_tail, Within_through}
 use Rattle.tsp_base.proofs.Views.{plain_view}
-use Rattle.tsp_promises.specs.{DeedFits.MessageFits, Fits.Fits, Fits.SameStep, Fits.node_of, Setting.Setting, Setting.setup_of}
-use Rattle.tsp_promises.proofs.{shared.Clocks.near, shared.Clocks.tick_mono, shared.ElectionFacts.held_at}
+use Rattle.tsp_promises.specs.{DeedFits.MessageFits, Fits.SameStep, Fits.node_of, Setting.Setting, Setting.setup_of}
 use Rattle.tsp_promises.proofs.{shared.HistoryPlaces.Within_of, shared.HistoryPlaces.line_on, shared.HistoryPlaces.of_other, shared.HistoryPlaces.of_own}
 use Rattle.tsp_promises.proofs.{shared.HistoryPlaces.own_in}
-use Rattle.tsp_promises.proofs.promised.OwnFitsProof.{Located, deed_fits, fits_at, fits_in, locate, of_tick, own_fits, place_time, seen_in, tick_in}
+use Rattle.tsp_promises.proofs.promised.OwnFitsProof.{Located, deed_fits, fits_at, fits_in, locate, own_fits, tick_in}
 use Rattle.tsp_run.specs.Clocked.{Clocks}
-use Rattle.tsp_progress.specs.AlarmsFit.{AlarmsFit, Manner, NextFits, NextTo, asks_next, is_candidate, newest_is, owes_next, stands_by, stands_now}
-use Rattle.tsp_progress.specs.{AsksAll.AsksPeer, CausesFit.elects_by, Delivered.Arrives, Delivered.PostsTo, FollowOn.role_of, Headless.delay_of}
-use Rattle.tsp_progress.specs.{ByTable.node_in, ByTable.port_before, Heeds.Hears, Heeds.arms_for_delay, Heeds.is_candidate_role, Heeds.posts_bare}
-use Rattle.tsp_progress.specs.{Heeds.role_before, Motives.MotiveFits, Motives.may_say, OneAtATime.StandsAt, RolesLast.TookKind, RolesLast.TookOf, RunsWake.manner_of}
-use Rattle.tsp_progress.proofs.{AnswersProof.hears_there, ElectAhead.BackedSince, ElectAhead.backed_before, ElectAhead.backed_later, ElectAhead.rung_late, ElectAhead.Unshared}
-use Rattle.tsp_progress.proofs.{ElectAhead.unshared, FollowProof.owes_at, HeedsProof.all_heed, HoldKept.seen_at, SearchKept.alarms_within}
-use Rattle.tsp_progress.proofs.{SearchKept.view_within, StandsProof.Rising, StandsProof.rising, TimePlaces.before_time}
-use Rattle.tsp_progress.proofs.StretchFacts.{Source, Stands, Stretch, after_s, asks_as, in_time_order, says_first, source, stood_last, stood_soon, term}
-use Rattle.tsp_progress.proofs.WorldPlaces.{Among, act_place, world_place}
+use Rattle.tsp_progress.specs.AlarmsFit.{AlarmsFit, Manner, NextFits, NextTo, asks_next, newest_is, owes_next, stands_by}
+use Rattle.tsp_progress.specs.{CausesFit.elects_by, Headless.delay_of}
+use Rattle.tsp_progress.specs.{Motives.MotiveFits, RolesLast.TookKind, RunsWake.manner_of}
+use Rattle.tsp_progress.proofs.{ElectAhead.BackedSince, ElectAhead.backed_before, ElectAhead.backed_later, ElectAhead.rung_late, ElectAhead.Unshared}
+use Rattle.tsp_progress.proofs.{ElectAhead.unshared, FollowProof.owes_at, HoldKept.seen_at, SearchKept.alarms_within}
+use Rattle.tsp_progress.proofs.{SearchKept.view_within, StandsProof.Rising, StandsProof.rising}
+use Rattle.tsp_progress.proofs.StretchFacts.{Candidacy, Stretch, after_s, in_time_order, source}
 
 -- who stood for election has backed itself since, unless it did so just now
 pub stand_back : (m : Manner) (seen : List Seen) → AlarmsFit m seen → Rising seen → (start : Did) (idle : List Seen) → start.deed ≡ Acts (Become Candidate) →
@@ -37,11 +34,13 @@ stand_back m (s ∷ before) f up start idle is (inl e) calm =
 stand_back m (Elsewhere d ∷ before) f up start idle is (inr w) calm =
     let o = stand_back m before f.1 up.1 start idle is w (λ c b v u. calm c b (inr v) u) in
     let rise = up.0 in
-    let le = o.1 in
-    (elim o.0 [
-      | inl n ↦ absurd (owed before n f.0)
-      | inr b ↦ inr (record { at = b.at; of_peer = b.of_peer; back_is = b.back_is; since = b.since })
-    ], omega (arith, rise, le)) where
+    let le = o.1 in (
+      elim o.0 [
+        | inl n ↦ absurd (owed before n f.0)
+        | inr b ↦ inr (record { at = b.at; of_peer = b.of_peer; back_is = b.back_is; since = b.since })
+      ],
+      omega (arith, rise, le),
+    ) where
       by_deed : (deed : Deed) (x : ℕ) (older : List Seen) → stands_by deed ≡ true → asks_next deed x older ≡ false → ⊥
       by_deed (Acts (Become r)) x older e n = true≢false (sym e ∙ n)
       by_deed _ x older e n = true≢false (sym e)
@@ -53,11 +52,13 @@ stand_back m (Elsewhere d ∷ before) f up start idle is (inr w) calm =
 stand_back m (Here d ∷ before) f up start idle is (inr w) calm =
     let o = stand_back m before f.1.1 up.1 start idle is w (λ c b v u. calm c b (inr v) u) in
     let rise = up.0 in
-    let le = o.1 in
-    (elim o.0 [
-      | inl n ↦ inr (now (backs before n f.1.0) (omega (arith, rise, le)))
-      | inr b ↦ inr (by_deed d.deed refl b (omega (arith, rise, le)))
-    ], omega (arith, rise, le)) where
+    let le = o.1 in (
+      elim o.0 [
+        | inl n ↦ inr (now (backs before n f.1.0) (omega (arith, rise, le)))
+        | inr b ↦ inr (by_deed d.deed refl b (omega (arith, rise, le)))
+      ],
+      omega (arith, rise, le),
+    ) where
       by_next : (last : Deed) (x : ℕ) (older : List Seen) (next : Deed) → stands_by last ≡ true → NextFits m last x older next →
           (p : PeerId) × (next ≡ Acts (Back p))
       by_next (Acts (Become Candidate)) x older next e n = n
@@ -187,7 +188,7 @@ module _ {clocks : Clocks} {header : HeaderValue} {setting : Setting} {late long
       (let le = Within_length (view first_port (of n o.early)) before after in let len = view_length first_port (of n o.early) in omega (arith, le, len)))).0
 
   -- where a node stands
-  module _ {n y : ℕ} (st : Stands n y world) where
+  module _ {n y : ℕ} (st : Candidacy n y world) where
     pub stand_at : Located n first_port world st.start st.idle
     stand_at = locate n first_port world st.start st.idle (rw st.deed refl) st.place
 
@@ -217,7 +218,8 @@ module _ {clocks : Clocks} {header : HeaderValue} {setting : Setting} {late long
           let n = node_of o.post in
           let posts = deed_fits setting o.post o.before (Acts (Post (Peer (peer_of (node_of Stand_line))) (Message q.message))) o.deed
           (fits_in setting o.post o.before world k.fits o.place) in
-          subst (λ kind. MessageFits (setup_of setting n o.post.port) kind o.post.did (view o.post.port (of n o.before)) (peer_of (node_of Stand_line)) q.message)
+          subst (λ kind. MessageFits (setup_of setting n o.post.port) kind o.post.did (view o.post.port (of n o.before)) (peer_of (node_of Stand_line))
+          q.message)
           q.kind_is posts.fits
 
       pub stand_rang : newest_is elects_by st.idle ≡ true

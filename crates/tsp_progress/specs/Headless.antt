@@ -1,8 +1,8 @@
 -- A network without a master gets one, in elections that aren't strict.
-use Rattle.std.specs.Prelude.{◌≡◌, ◌≢◌, ◌≤◌, ◌<◌, ℕ, ◌+◌, ◌*◌, ◌/◌, ◌==◌, Bool, true, false, List}
-use Rattle.tsp_rules.specs.Values.{Event, Master, ELECT_MIN, ELECT_SPREAD, SLACK, WINDOW}
+use Rattle.std.specs.Prelude.{◌≡◌, ◌≢◌, ◌≤◌, ◌<◌, ℕ, ◌+◌, ◌*◌, ◌/◌, ◌==◌, Bool, true, false, List, []}
+use Rattle.tsp_rules.specs.Values.{Event, Master, ELECT_MIN, ELECT_SPREAD, QUIET, SLACK, WINDOW}
 use Rattle.tsp_rules.specs.Guards.{delay}
-use Rattle.tsp_base.specs.Words.{HeaderValue, Line, Within, dids, first_port, of, time_of, word}
+use Rattle.tsp_base.specs.Words.{HeaderValue, Line, Within, dids, first_port, of, stood, time_of, view, word}
 use Rattle.tsp_promises.specs.Setting.{Setting}
 use Rattle.tsp_run.specs.Clocked.{Clocks, PossibleBy, SetByClocks, run_by}
 use Rattle.tsp_run.specs.{Possible.Possible, Run.run, Setting.SetBy, Setup.node_line}
@@ -35,6 +35,10 @@ pub record Foremost (header : HeaderValue) (setting : Setting) (late long : ℕ)
 abbrev pub AllUp : (ℕ → Bool) → List Line → List Line → Type 0
 AllUp stays s world = (n : ℕ) → stays n ≡ true → StaysUp n first_port s world
 
+-- each node that stays has booted at the place s: its port has had a role since then
+abbrev pub AllBooted : (ℕ → Bool) → List Line → Type 0
+AllBooted stays s = (n : ℕ) → stays n ≡ true → stood (view first_port (of n s)) ≢ []
+
 -- how long a network may be without a master: ELECT_MIN (300 s), three times the delay of the foremost node, 12 times WINDOW (60 s) and 8 times `long`
 abbrev pub longest_headless : ℕ → ℕ → ℕ
 longest_headless long d = ELECT_MIN + 3 * d + 12 * WINDOW + 8 * long
@@ -63,3 +67,18 @@ ClockedRunsGetMaster = (clocks : Clocks) (header : HeaderValue) (setting : Setti
     Fair header setting late long t stays s (run_by clocks header events) → Within s (run_by clocks header events) →
     AllUp stays s (run_by clocks header events) → Foremost header setting late long stays c s → Headless stays t s (run_by clocks header events) →
     t ≤ time_of (dids s) + longest_headless long (delay_of c s)
+
+-- so it is from a place on at which the nodes that stay have just booted, a quiet time and 10 s later
+abbrev pub RunsGetMasterSoon : Type 0
+RunsGetMasterSoon = (header : HeaderValue) (setting : Setting) (events : List Event) (late long t : ℕ) (stays : ℕ → Bool) (c : ℕ) (s : List Line) →
+    SetBy header setting → Possible header events → header.strict ≡ false → Fair header setting late long t stays s (run header events) →
+    Within s (run header events) → AllBooted stays s → Foremost header setting late long stays c s →
+    Headless stays t s (run header events) → t ≤ time_of (dids s) + (QUIET + 2 * WINDOW + longest_headless long (delay_of c s))
+
+-- by any clocks
+abbrev pub ClockedRunsGetMasterSoon : Type 0
+ClockedRunsGetMasterSoon = (clocks : Clocks) (header : HeaderValue) (setting : Setting) (events : List Event) (late long t : ℕ) (stays : ℕ → Bool) (c : ℕ)
+    (s : List Line) → SetByClocks clocks header setting → PossibleBy clocks header events → header.strict ≡ false →
+    Fair header setting late long t stays s (run_by clocks header events) → Within s (run_by clocks header events) →
+    AllBooted stays s → Foremost header setting late long stays c s → Headless stays t s (run_by clocks header events) →
+    t ≤ time_of (dids s) + (QUIET + 2 * WINDOW + longest_headless long (delay_of c s))

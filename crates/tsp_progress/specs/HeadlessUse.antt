@@ -1,6 +1,6 @@
 -- A network without a master that gets one, and networks that don't.
 use Rattle.std.specs.Prelude.{◌≡◌, ◌<◌, ◌+◌, List, [], ◌∷◌}
-use Rattle.tsp_rules.specs.Values.{BootAt, Candidate, Event, Loose, Master, Take, Turn}
+use Rattle.tsp_rules.specs.Values.{BootAt, Event, Master, Take, Turn}
 use Rattle.tsp_base.specs.Words.{dids, time_of}
 use Rattle.tsp_promises.specs.Setting.{Setting}
 use Rattle.tsp_run.specs.{Ranges.Accepted, Run.run, Setting.SetBy}

@@ -1,5 +1,5 @@
 -- What is asked of a network whose clocks agree: its master has all in its table, and posts no SETTIME, and nobody sets the date.
-use Rattle.std.specs.Prelude.{◌≡◌, ◌≢◌, ◌≤◌, ℕ, ◌==◌, ◌+ℤ◌, Bool, true, false, List, ◌∷◌}
+use Rattle.std.specs.Prelude.{◌≡◌, ◌≢◌, ◌≤◌, ℕ, ◌==◌, ◌+ℤ◌, Bool, true, false, List}
 use Rattle.tsp_rules.specs.Values.{Abandon, AdjTime, Good, Message, Peer, PeerId, Place, Post, SetTime, Took}
 use Rattle.tsp_rules.specs.Guards.{is_clock_value}
 use Rattle.tsp_base.specs.Words.{Acts, Line, MessageValue, Within, dids, first_port, in_table, of, peer_of, sets_date, target, time_in, time_of}

@@ -6,7 +6,7 @@ use Rattle.tsp_promises.specs.{Premises.Honest, Premises.Life, Setting.Setting}
 use Rattle.tsp_run.specs.Clocked.{Clocks, PossibleBy, SetByClocks, run_by}
 use Rattle.tsp_run.specs.{Possible.Possible, Run.run, Setting.SetBy}
 use Rattle.tsp_progress.specs.{AckedInTime.IsPrompt, Delivered.Delivered, FollowOn.AllFollow, FollowOn.Calm, FollowOn.OneNetwork}
-use Rattle.tsp_progress.specs.Gather.{AllTold, AllUp, LeadUntil, gathered_after, others_of}
+use Rattle.tsp_progress.specs.Gather.{AllTold, AllAwake, LeadUntil, gathered_after, others_of}
 use Rattle.tsp_progress.specs.{Watched.Attended}
 
 -- how long after datagrams are delivered what they do to a candidature is seen: 15 s
@@ -23,7 +23,7 @@ LeadOnly long t stays c s world = (h : List Line) → Within h world → Within 
 abbrev pub RunsLeadOnly : Type 0
 RunsLeadOnly = (header : HeaderValue) (setting : Setting) (events : List Event) (late long t : ℕ) (stays : ℕ → Bool) (c : ℕ) (s : List Line) →
     SetBy header setting → Possible header events → Attended late (run header events) → late ≤ SLACK → OneNetwork header setting stays c →
-    Calm long stays s (run header events) → Delivered setting long t stays s (run header events) → IsPrompt setting long → AllUp stays s →
+    Calm long stays s (run header events) → Delivered setting long t stays s (run header events) → IsPrompt setting long → AllAwake stays s →
     Honest (run header events) → Life (run header events) → LeadOnly long t stays c s (run header events)
 
 -- by any clocks
@@ -32,7 +32,7 @@ ClockedRunsLeadOnly =
     (clocks : Clocks) (header : HeaderValue) (setting : Setting) (events : List Event) (late long t : ℕ) (stays : ℕ → Bool) (c : ℕ) (s : List Line) →
     SetByClocks clocks header setting → PossibleBy clocks header events → Attended late (run_by clocks header events) → late ≤ SLACK →
     OneNetwork header setting stays c → Calm long stays s (run_by clocks header events) → Delivered setting long t stays s (run_by clocks header events) →
-    IsPrompt setting long → AllUp stays s → Honest (run_by clocks header events) → Life (run_by clocks header events) →
+    IsPrompt setting long → AllAwake stays s → Honest (run_by clocks header events) → Life (run_by clocks header events) →
     LeadOnly long t stays c s (run_by clocks header events)
 
 -- so all come to follow c, and do so on: from `gathered_after` that place on
@@ -46,7 +46,7 @@ abbrev pub RunsComeToLeader : Type 0
 RunsComeToLeader = (header : HeaderValue) (setting : Setting) (events : List Event) (late long t : ℕ) (stays : ℕ → Bool) (c : ℕ) (s : List Line) →
     SetBy header setting → Possible header events → Attended late (run header events) → late ≤ SLACK → AllTold late setting t stays (run header events) →
     OneNetwork header setting stays c → Calm long stays s (run header events) → Delivered setting long t stays s (run header events) →
-    IsPrompt setting long → AllUp stays s → Honest (run header events) → Life (run header events) → ComeTo setting long t stays c s (run header events)
+    IsPrompt setting long → AllAwake stays s → Honest (run header events) → Life (run header events) → ComeTo setting long t stays c s (run header events)
 
 -- by any clocks
 abbrev pub ClockedRunsComeToLeader : Type 0
@@ -54,5 +54,5 @@ ClockedRunsComeToLeader =
     (clocks : Clocks) (header : HeaderValue) (setting : Setting) (events : List Event) (late long t : ℕ) (stays : ℕ → Bool) (c : ℕ) (s : List Line) →
     SetByClocks clocks header setting → PossibleBy clocks header events → Attended late (run_by clocks header events) → late ≤ SLACK →
     AllTold late setting t stays (run_by clocks header events) → OneNetwork header setting stays c → Calm long stays s (run_by clocks header events) →
-    Delivered setting long t stays s (run_by clocks header events) → IsPrompt setting long → AllUp stays s → Honest (run_by clocks header events) →
+    Delivered setting long t stays s (run_by clocks header events) → IsPrompt setting long → AllAwake stays s → Honest (run_by clocks header events) →
     Life (run_by clocks header events) → ComeTo setting long t stays c s (run_by clocks header events)

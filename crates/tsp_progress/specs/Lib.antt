@@ -1,6 +1,8 @@
 pub mod AckedInTime
 pub mod AckedUse
+pub mod AgreeUse
 pub mod AgreesAlways
+pub mod AgreesMeanwhile
 pub mod AgreesOn
 pub mod AgreesSoon
 pub mod AlarmsFit
@@ -35,6 +37,7 @@ pub mod Humble
 pub mod InTable
 pub mod InTime
 pub mod LateClose
+pub mod LeadFrom
 pub mod LeadOnUse
 pub mod LeadOnly
 pub mod LoneLeads
@@ -43,10 +46,12 @@ pub mod MastersTell
 pub mod MeanwhileUse
 pub mod Measures
 pub mod MeasuresTable
+pub mod MembersUse
 pub mod Motives
 pub mod MovedBy
 pub mod Needed
 pub mod NeverLate
+pub mod NoDate
 pub mod NoSecondMaster
 pub mod NoneBeside
 pub mod Obedient
@@ -88,6 +93,7 @@ pub mod TableKept
 pub mod TableUse
 pub mod TakesRounds
 pub mod TicketKept
+pub mod TwoRoundsUse
 pub mod Wakes
 pub mod Watched
 pub mod WinUse

@@ -1,5 +1,5 @@
 -- Each node in its master's table has a sample when a round closes.
-use Rattle.std.specs.Prelude.{◌≡◌, ◌≤◌, ℕ, ◌==◌, Bool, true, false, List, ◌∷◌, is_some}
+use Rattle.std.specs.Prelude.{◌≡◌, ◌≤◌, ℕ, ◌==◌, Bool, true, false, List, is_some}
 use Rattle.tsp_rules.specs.Values.{Event, SLACK}
 use Rattle.tsp_base.specs.Words.{HeaderValue, Line, Within, estimate, is_measured, of, peer_of, view}
 use Rattle.tsp_promises.specs.{Setting.Setting}

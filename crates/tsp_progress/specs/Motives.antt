@@ -1,6 +1,6 @@
 -- Why a port backs somebody, waits, searches, stands for election or gives up: what stands before it, or what its step took; and who says what.
 use Rattle.std.specs.Prelude.{◌≡◌, ◌⊎◌, ℕ, Bool, true, false, List, [], ◌∷◌}
-use Rattle.tsp_rules.specs.Values.{Arm, Back, Become, Post, Ring, Elect, Quiet, Search, Candidate, Loose, Follow, Master, Role, PeerId, Peer, Port, Message, Kind}
+use Rattle.tsp_rules.specs.Values.{Arm, Back, Become, Post, Ring, Elect, Quiet, Search, Candidate, Loose, Role, PeerId, Peer, Port, Message, Kind}
 use Rattle.tsp_rules.specs.Values.{AdjTime, SetTime, MasterUp, MasterAck, QuitKind, Election, Test, Event}
 use Rattle.tsp_rules.specs.{CommonRows.is_idle, Guards.is_master, Guards.is_starting_role}
 use Rattle.tsp_base.specs.Words.{Acts, Deed, Did, Elsewhere, HeaderValue, Here, Line, MessageValue, Receives, Seen, of, role, view}

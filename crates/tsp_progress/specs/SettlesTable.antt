@@ -5,7 +5,7 @@ use Rattle.tsp_base.specs.Words.{HeaderValue, Line, Within, dids, time_of}
 use Rattle.tsp_promises.specs.{Premises.Honest, Premises.Life, Setting.Setting}
 use Rattle.tsp_run.specs.Clocked.{Clocks, PossibleBy, SetByClocks, run_by}
 use Rattle.tsp_run.specs.{Possible.Possible, Run.run, Setting.SetBy}
-use Rattle.tsp_progress.specs.{Delivered.Delivered, FollowOn.Calm, FollowOn.FollowUntil, InTable.InTable, InTable.Undated, OneWire.OneWire}
+use Rattle.tsp_progress.specs.{Delivered.Delivered, FollowOn.Calm, FollowOn.FollowUntil, InTable.InTable, OneWire.OneWire}
 use Rattle.tsp_progress.specs.{ReportsSoon.reported_after, StaysIn.InRange, StaysIn.IsBrief, StaysIn.over_after}
 use Rattle.tsp_progress.specs.{Watched.Attended, Watched.Told}
 
@@ -24,7 +24,8 @@ RunsSettleTable = (header : HeaderValue) (setting : Setting) (events : List Even
     SetBy header setting → Possible header events → Attended late (run header events) → late ≤ SLACK → Told late setting t c (run header events) →
     stays c ≡ true → OneWire header setting stays → Within s (run header events) → Calm long stays s (run header events) →
     Delivered setting long t stays s (run header events) → IsBrief setting long → Honest (run header events) → Life (run header events) →
-    Undated c s (run header events) → InRange header long c s (run header events) → FollowUntil stays c t s (run header events) → SettlesTable long t stays c s (run header events)
+    InRange header long c s (run header events) → FollowUntil stays c t s (run header events) →
+    SettlesTable long t stays c s (run header events)
 
 -- by any clocks
 abbrev pub ClockedRunsSettleTable : Type 0
@@ -33,5 +34,6 @@ ClockedRunsSettleTable =
     SetByClocks clocks header setting → PossibleBy clocks header events → Attended late (run_by clocks header events) → late ≤ SLACK →
     Told late setting t c (run_by clocks header events) → stays c ≡ true → OneWire header setting stays → Within s (run_by clocks header events) →
     Calm long stays s (run_by clocks header events) → Delivered setting long t stays s (run_by clocks header events) → IsBrief setting long →
-    Honest (run_by clocks header events) → Life (run_by clocks header events) → Undated c s (run_by clocks header events) →
-    InRange header long c s (run_by clocks header events) → FollowUntil stays c t s (run_by clocks header events) → SettlesTable long t stays c s (run_by clocks header events)
+    Honest (run_by clocks header events) → Life (run_by clocks header events) → InRange header long c s (run_by clocks header events) →
+    FollowUntil stays c t s (run_by clocks header events) →
+    SettlesTable long t stays c s (run_by clocks header events)

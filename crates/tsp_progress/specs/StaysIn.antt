@@ -7,7 +7,7 @@ use Rattle.tsp_promises.specs.{Fits.node_of, Premises.Honest, Premises.Life, Set
 use Rattle.tsp_run.specs.Clocked.{Clocks, PossibleBy, SetByClocks, run_by}
 use Rattle.tsp_run.specs.{Possible.Possible, Run.run, Setting.SetBy}
 use Rattle.tsp_progress.specs.{ByTable.node_in, ByTable.port_before, Delivered.Delivered, FollowOn.AfterPlace, FollowOn.Calm, FollowOn.FollowUntil}
-use Rattle.tsp_progress.specs.{InTable.Undated, OneWire.OneWire, Watched.Attended}
+use Rattle.tsp_progress.specs.{OneWire.OneWire, Watched.Attended}
 
 -- `long`, by the clock of a node that keeps the drift, is less than GAP, 1 s
 abbrev pub IsBrief : Setting → ℕ → Type 0
@@ -38,12 +38,12 @@ NoneLeaves t stays c s world = AfterPlace s world (λ l older. time_of (dids s) 
     (n : ℕ) → stays n ≡ true → (n == c) ≡ false → l.did.deed ≢ Acts (Leave (peer_of n)))
 
 -- in a possible run that is calm after the place s, follows node c until t, and in which each node is looked at within SLACK, datagrams are delivered within
--- less than a second, nobody sets the date, and no clock comes near the end of its range
+-- less than a second, and no clock comes near the end of its range
 abbrev pub RunsStayMember : Type 0
 RunsStayMember = (header : HeaderValue) (setting : Setting) (events : List Event) (late long t : ℕ) (stays : ℕ → Bool) (c : ℕ) (s : List Line) →
     SetBy header setting → Possible header events → Attended late (run header events) → late ≤ SLACK → stays c ≡ true → OneWire header setting stays →
     Within s (run header events) → Calm long stays s (run header events) → Delivered setting long t stays s (run header events) → IsBrief setting long →
-    Honest (run header events) → Life (run header events) → Undated c s (run header events) → InRange header long c s (run header events) →
+    Honest (run header events) → Life (run header events) → InRange header long c s (run header events) →
     FollowUntil stays c t s (run header events) → NoneLeaves t stays c s (run header events)
 
 -- by any clocks
@@ -53,5 +53,5 @@ ClockedRunsStayMember =
     SetByClocks clocks header setting → PossibleBy clocks header events → Attended late (run_by clocks header events) → late ≤ SLACK → stays c ≡ true →
     OneWire header setting stays → Within s (run_by clocks header events) → Calm long stays s (run_by clocks header events) →
     Delivered setting long t stays s (run_by clocks header events) → IsBrief setting long → Honest (run_by clocks header events) →
-    Life (run_by clocks header events) → Undated c s (run_by clocks header events) → InRange header long c s (run_by clocks header events) →
+    Life (run_by clocks header events) → InRange header long c s (run_by clocks header events) →
     FollowUntil stays c t s (run_by clocks header events) → NoneLeaves t stays c s (run_by clocks header events)

@@ -1,7 +1,8 @@
 -- What ends a place in a master's table of slaves, and what begins one.
 use Rattle.std.specs.Prelude.{◌≡◌, ◌<◌, ◌⊎◌, ℕ, ℤ, true, false, List, ◌∷◌, None, Some}
 use Rattle.tsp_rules.specs.Values.{Close, Gave, Join, Leave, SlaveUp, Message, PeerId, Place, Port, Master, Event}
-use Rattle.tsp_base.specs.Words.{Acts, Deed, Did, HeaderValue, Here, Line, MessageValue, Receives, Seen, Sending, TakesFrom, correct_tick, estimate, in_table, is_correction}
+use Rattle.tsp_base.specs.Words.{Acts, Deed, Did, HeaderValue, Here, Line, MessageValue, Receives, Seen, Sending, TakesFrom, correct_tick, estimate, in_table}
+use Rattle.tsp_base.specs.Words.{is_correction}
 use Rattle.tsp_base.specs.Words.{is_measured, of, open_send, plain, role, sets_date, view}
 use Rattle.tsp_promises.specs.{StepFacts.closed}
 use Rattle.tsp_run.specs.{Clocked.Clocks, Clocked.run_by, Run.run}

@@ -1,11 +1,14 @@
 //! Theorems about clocks of a network that follows one master: how far they differ at each time.
 //! Nothing here runs.
+ghost use Rattle.tsp_progress.specs.AgreeUse.{AgreeUse};
 ghost use Rattle.tsp_progress.specs.AgreesAlways.{ClockedRunsAgreeAlways, RunsAgreeAlways};
+ghost use Rattle.tsp_progress.specs.AgreesMeanwhile.{ClockedRunsAgreeMeanwhile, RunsAgreeMeanwhile};
 ghost use Rattle.tsp_progress.specs.AgreesOn.{ClockedRunsAgreeUntilNext, RunsAgreeUntilNext};
 ghost use Rattle.tsp_progress.specs.MeasuresTable.{ClockedRunsMeasureTable, RunsMeasureTable};
 ghost use Rattle.tsp_progress.specs.OnePort.{ClockedRunsUseOnePort, RunsUseOnePort};
 ghost use Rattle.tsp_progress.specs.SlewsTable.{ClockedRunsSlewTable, RunsSlewTable};
 ghost use Rattle.tsp_progress.specs.TakesRounds.{ClockedRunsTakeRounds, RunsTakeRounds};
+ghost use Rattle.tsp_progress.specs.TwoRoundsUse.{TwoRoundsUse};
 
 /// A node that has one port does everything there. So it corrects its clock there alone.
 pub fn runs_use_one_port()
@@ -71,4 +74,28 @@ pub fn runs_agree_always()
 /// So it is in a run by any clocks.
 pub fn clocked_runs_agree_always()
     ensures { ClockedRunsAgreeAlways }
+{}
+
+/// And soon after a Close, too: at each true time from 728 s and `long` after all follow on,
+/// without exception, any two clocks differ by at most four times the error of a reading, and what
+/// counters drift in a round.
+pub fn runs_agree_meanwhile()
+    ensures { RunsAgreeMeanwhile }
+{}
+
+/// So it is in a run by any clocks.
+pub fn clocked_runs_agree_meanwhile()
+    ensures { ClockedRunsAgreeMeanwhile }
+{}
+
+/// A run in which two clocks agree from 10 ms after a Close on, for which all that these laws ask
+/// holds; and one in which a node leaves the table, and its clock stays behind.
+pub fn agree_use()
+    ensures { AgreeUse }
+{}
+
+/// A run of two rounds for which all holds that `runs_agree_always` asks for, and in which two
+/// clocks agree.
+pub fn two_rounds_use()
+    ensures { TwoRoundsUse }
 {}

@@ -2,6 +2,8 @@
 ghost use Rattle.tsp_progress.specs.Calling.{ClockedRunsCall, RunsCall};
 ghost use Rattle.tsp_progress.specs.Gather.{ClockedRunsGather, RunsGather};
 ghost use Rattle.tsp_progress.specs.GatherUse.{GatherUse};
+ghost use Rattle.tsp_progress.specs.LeadFrom.{ClockedRunsComeToWinner, ClockedRunsLeadFromWin};
+ghost use Rattle.tsp_progress.specs.LeadFrom.{RunsComeToWinner, RunsLeadFromWin};
 ghost use Rattle.tsp_progress.specs.LeadOnly.{ClockedRunsComeToLeader, ClockedRunsLeadOnly};
 ghost use Rattle.tsp_progress.specs.LeadOnly.{RunsComeToLeader, RunsLeadOnly};
 
@@ -17,9 +19,9 @@ pub fn clocked_runs_call()
     ensures { ClockedRunsCall }
 {}
 
-/// In a calm network in which one node leads and no other does, all nodes that stay follow it, 242 s
-/// and twice `long` after some place, and 844 s and twice `long` more for each of them: those that
-/// follow another come one by one at least, when their Elects ring.
+/// In a calm network in which one node leads and no other does all nodes that stay follow it, from
+/// 484 s and three times `long` after some place on, and 609 s and `long` more for each of them:
+/// those that follow another come one by one at least, when their Elects ring.
 pub fn runs_gather()
     ensures { RunsGather }
 {}
@@ -30,7 +32,7 @@ pub fn clocked_runs_gather()
 {}
 
 /// Where datagrams have been delivered for 15 s, and nothing comes from elsewhere, a node that is
-/// master alone leads on, and no other node wins.
+/// master alone for `long` leads on, and no other node wins.
 pub fn runs_lead_only()
     ensures { RunsLeadOnly }
 {}
@@ -50,8 +52,30 @@ pub fn clocked_runs_come_to_leader()
     ensures { ClockedRunsComeToLeader }
 {}
 
-/// A run in which a node comes to follow the one that leads, and does so on for longer than all
-/// must, and one in which what that sends is lost, so that it stands for election.
+/// So does one that is master where no other node has been for `long`, as one that has just won in
+/// a network without a master.
+pub fn runs_lead_from_win()
+    ensures { RunsLeadFromWin }
+{}
+
+/// So it is in a run by any clocks.
+pub fn clocked_runs_lead_from_win()
+    ensures { ClockedRunsLeadFromWin }
+{}
+
+/// So all come to follow it, and do so on.
+pub fn runs_come_to_winner()
+    ensures { RunsComeToWinner }
+{}
+
+/// So it is in a run by any clocks.
+pub fn clocked_runs_come_to_winner()
+    ensures { ClockedRunsComeToWinner }
+{}
+
+/// A run in which a node that follows another, which is gone, hears three calls of the one that
+/// leads, then stands for election, is sent away and follows it, and one in which what the one that
+/// leads sends is lost, so that a node stands for election beside it.
 pub fn gather_use()
     ensures { GatherUse }
 {}

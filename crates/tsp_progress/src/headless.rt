@@ -1,5 +1,6 @@
 //! Theorems about a network that has no master: it gets one. Nothing here runs.
-ghost use Rattle.tsp_progress.specs.Headless.{ClockedRunsGetMaster, RunsGetMaster};
+ghost use Rattle.tsp_progress.specs.Headless.{ClockedRunsGetMaster, ClockedRunsGetMasterSoon};
+ghost use Rattle.tsp_progress.specs.Headless.{RunsGetMaster, RunsGetMasterSoon};
 ghost use Rattle.tsp_progress.specs.HeadlessUse.{HeadlessUse};
 ghost use Rattle.tsp_progress.specs.Motives.{ClockedRunsHaveMotives, RunsHaveMotives};
 
@@ -25,6 +26,16 @@ pub fn runs_get_master()
 /// So it is in a run by any clocks.
 pub fn clocked_runs_get_master()
     ensures { ClockedRunsGetMaster }
+{}
+
+/// So it is from when its nodes have booted, a quiet time and 10 s later.
+pub fn runs_get_master_soon()
+    ensures { RunsGetMasterSoon }
+{}
+
+/// So it is in a run by any clocks.
+pub fn clocked_runs_get_master_soon()
+    ensures { ClockedRunsGetMasterSoon }
 {}
 
 /// A network in which a node stands and leads after 5 minutes, and two in which nobody leads for

@@ -1,5 +1,7 @@
 //! Theorems about the slaves of a master: who follows it joins them, and stays. Nothing here runs.
 ghost use Rattle.tsp_progress.specs.CorrectsApart.{ClockedRunsCorrectApart, RunsCorrectApart};
+ghost use Rattle.tsp_progress.specs.MembersUse.{MembersUse};
+ghost use Rattle.tsp_progress.specs.NoDate.{ClockedRunsTakeNoDate, RunsTakeNoDate};
 ghost use Rattle.tsp_progress.specs.ReportsSoon.{ClockedRunsReport, RunsReport};
 ghost use Rattle.tsp_progress.specs.SettlesTable.{ClockedRunsSettleTable, RunsSettleTable};
 ghost use Rattle.tsp_progress.specs.StaysIn.{ClockedRunsStayMember, RunsStayMember};
@@ -30,9 +32,20 @@ pub fn clocked_runs_report()
     ensures { ClockedRunsReport }
 {}
 
-/// In a calm network that follows its master, in which datagrams take less than a second, nobody
-/// sets the date and no clock comes near the end of its range, the corrections that the master
-/// begins to one follower, later than 10 s after that began, begin at least 8 s apart.
+/// In a calm network no node takes a date later than 10 s and `long` after that began: clients are
+/// outside, and what a follower had passed on before is over.
+pub fn runs_take_no_date()
+    ensures { RunsTakeNoDate }
+{}
+
+/// So it is in a run by any clocks.
+pub fn clocked_runs_take_no_date()
+    ensures { ClockedRunsTakeNoDate }
+{}
+
+/// In a calm network that follows its master, in which datagrams take less than a second and no
+/// clock comes near the end of its range, the corrections that the master begins to one follower,
+/// later than 15 s after that began, begin at least 8 s apart.
 pub fn runs_correct_apart()
     ensures { RunsCorrectApart }
 {}
@@ -61,4 +74,10 @@ pub fn runs_settle_table()
 /// So it is in a run by any clocks.
 pub fn clocked_runs_settle_table()
     ensures { ClockedRunsSettleTable }
+{}
+
+/// A run in which a follower joins its master's table and stays in it, and ones in which it leaves:
+/// the requests of a round are lost, the acknowledgment of a correction is, or the date is set.
+pub fn members_use()
+    ensures { MembersUse }
 {}

@@ -24,14 +24,15 @@ use Rattle.tsp_rules.specs.GateRows.{loosens_master, forwards, takes_loop_step, 
 use Rattle.tsp_rules.specs.GateRows.{answers_all, boots_on, boots_all}
 use Rattle.tsp_group.specs.Groups.{group_from, goes_before, better}
 use Rattle.tsp_codec.specs.Taken.{taken_of}
-use Rattle.std.proofs.Common.{arith, subst, sym, true≢false, ◌∙◌, ◌≡◌, ◌≤◌, ◌<◌, ◌==◌, ◌+◌, ◌%◌, ◌/◌, ℕ, zero, suc, true, false, List, ◌∷◌, [], ap, length, ◌*◌}
-use Rattle.tsp_rules.specs.Values.{BootAt, Event, Take, Turn, SLACK}
-use Rattle.tsp_base.specs.Words.{Line, first_port, of, peer_of, view}
+use Rattle.std.proofs.Common.{arith, subst, sym, true≢false, ◌∙◌, ◌≡◌, ◌≤◌, ◌<◌, ◌==◌, ◌+◌, ℕ, zero, suc, true, false, ◌∷◌, [], ap, length, ◌*◌}
+use Rattle.tsp_rules.specs.Values.{BootAt, Take, Turn}
+use Rattle.tsp_base.specs.Words.{first_port, of, peer_of, view}
 use Rattle.tsp_promises.specs.{Setting.Setting}
 use Rattle.tsp_run.specs.{Ranges.Accepted, Setting.SetBy}
 use Rattle.tsp_run.proofs.{PossibleRun.accepted_possible, RunFits.possible_runs_fit_holds}
-use Rattle.tsp_progress.specs.{ByTable.node_in, FollowUse.two_stay, HeadlessUse.a_leads, HeadlessUse.fourth_wave, HeadlessUse.looks_late, HeadlessUse.until_waits, OneUse.two_may}
-use Rattle.tsp_progress.specs.{Headless.AllUp, Headless.Fair, Headless.delay_of, Headless.drift_of, Headless.lead, OneWire.OneWire, RefusedUse.until_elects, Watched.Told, Watched.Watched}
+use Rattle.tsp_progress.specs.{ByTable.node_in, FollowUse.two_stay, HeadlessUse.a_leads, HeadlessUse.fourth_wave, HeadlessUse.looks_late}
+use Rattle.tsp_progress.specs.{HeadlessUse.until_waits, OneUse.two_may}
+use Rattle.tsp_progress.specs.{Headless.AllUp, Headless.delay_of, Headless.lead, OneWire.OneWire, RefusedUse.until_elects, Watched.Told, Watched.Watched}
 use Rattle.tsp_progress.proofs.{CalmChecks.calm_by, DeliveredChecks.delivered_by, HeadlessChecks.headless_by, LeftOneChecks.up_by, UseLemmas.boot_ranges}
 use Rattle.tsp_progress.proofs.{UseLemmas.later_ranges, UseLemmas.two_header_is, WatchChecks.attended_by_holds, WatchChecks.watched_by_holds}
 use Rattle.tsp_progress.proofs.headless.headless_use.Goals as goal
@@ -111,21 +112,91 @@ returns c = record {
   whole : Accepted two_may a_leads
   whole = record {
     header_is = two_header_is;
-    ranges = later_ranges (Turn 390000000 0 ∷ Take 385020000 3 ∷ Take 385010000 2 ∷ Turn 385000000 0 ∷ Turn 85000000 1 ∷ Turn 85000000 0 ∷ Turn 80000000 1 ∷ Turn 80000000 0 ∷ []) (BootAt 0 1 10000000 ∷ BootAt 0 0 0 ∷ []) refl (boot_ranges 10000000 (omega arith));
+    ranges = later_ranges (Turn 390000000 0 ∷ Take 385020000 3 ∷ Take 385010000 2 ∷ Turn 385000000 0 ∷ Turn 85000000 1 ∷ Turn 85000000 0 ∷ Turn 80000000 1 ∷
+        Turn 80000000 0 ∷ []) (BootAt 0 1 10000000 ∷ BootAt 0 0 0 ∷ []) refl (boot_ranges 10000000 (omega arith));
     valid = (refl, (refl, (refl, (refl, (refl, (refl, (refl, (refl, (refl, (refl, tt))))))))));
   }
 
   equal : Accepted two_may fourth_wave
   equal = record {
     header_is = two_header_is;
-    ranges = later_ranges (Take 1285080000 17 ∷ Take 1285080000 16 ∷ Take 1285070000 14 ∷ Take 1285070000 15 ∷ Turn 1285060000 0 ∷ Turn 1285060000 1 ∷ Take 985060000 13 ∷ Take 985060000 12 ∷ Take 985050000 10 ∷ Take 985050000 11 ∷ Turn 985040000 0 ∷ Turn 985040000 1 ∷ Take 685040000 9 ∷ Take 685040000 8 ∷ Take 685030000 6 ∷ Take 685030000 7 ∷ Turn 685020000 0 ∷ Turn 685020000 1 ∷ Take 385020000 5 ∷ Take 385020000 4 ∷ Take 385010000 2 ∷ Take 385010000 3 ∷ Turn 385000000 0 ∷ Turn 385000000 1 ∷ Turn 85000000 1 ∷ Turn 85000000 0 ∷ Turn 80000000 1 ∷ Turn 80000000 0 ∷ []) (BootAt 0 1 0 ∷ BootAt 0 0 0 ∷ []) refl (boot_ranges 0 (omega arith));
-    valid = (refl, (refl, (refl, (refl, (refl, (refl, (refl, (refl, (refl, (refl, (refl, (refl, (refl, (refl, (refl, (refl, (refl, (refl, (refl, (refl, (refl, (refl, (refl, (refl, (refl, (refl, (refl, (refl, (refl, (refl, tt))))))))))))))))))))))))))))));
+    ranges = later_ranges (Take 1285080000 17 ∷ Take 1285080000 16 ∷ Take 1285070000 14 ∷ Take 1285070000 15 ∷ Turn 1285060000 0 ∷ Turn 1285060000 1 ∷
+        Take 985060000 13 ∷ Take 985060000 12 ∷ Take 985050000 10 ∷ Take 985050000 11 ∷ Turn 985040000 0 ∷ Turn 985040000 1 ∷ Take 685040000 9 ∷
+        Take 685040000 8 ∷ Take 685030000 6 ∷ Take 685030000 7 ∷ Turn 685020000 0 ∷ Turn 685020000 1 ∷ Take 385020000 5 ∷ Take 385020000 4 ∷ Take 385010000 2 ∷
+        Take 385010000 3 ∷ Turn 385000000 0 ∷ Turn 385000000 1 ∷ Turn 85000000 1 ∷ Turn 85000000 0 ∷ Turn 80000000 1 ∷ Turn 80000000 0 ∷ []) (BootAt 0 1 0 ∷
+        BootAt 0 0 0 ∷ []) refl (boot_ranges 0 (omega arith));
+    valid = (
+      refl,
+      (
+        refl,
+        (
+          refl,
+          (
+            refl,
+            (
+              refl,
+              (
+                refl,
+                (
+                  refl,
+                  (
+                    refl,
+                    (
+                      refl,
+                      (
+                        refl,
+                        (
+                          refl,
+                          (
+                            refl,
+                            (
+                              refl,
+                              (
+                                refl,
+                                (
+                                  refl,
+                                  (
+                                    refl,
+                                    (
+                                      refl,
+                                      (
+                                        refl,
+                                        (
+                                          refl,
+                                          (
+                                            refl,
+                                            (
+                                              refl,
+                                              (refl, (refl, (refl, (refl, (refl, (refl, (refl, (refl, (refl, tt))))))))),
+                                            ),
+                                          ),
+                                        ),
+                                      ),
+                                    ),
+                                  ),
+                                ),
+                              ),
+                            ),
+                          ),
+                        ),
+                      ),
+                    ),
+                  ),
+                ),
+              ),
+            ),
+          ),
+        ),
+      ),
+    );
   }
 
   late : Accepted two_may looks_late
   late = record {
     header_is = two_header_is;
-    ranges = later_ranges (Turn 1329000004 1 ∷ Turn 1289000004 0 ∷ Turn 1018000003 1 ∷ Turn 988000003 0 ∷ Turn 707000002 1 ∷ Turn 687000002 0 ∷ Turn 396000001 1 ∷ Turn 386000001 0 ∷ Turn 85000000 1 ∷ Turn 85000000 0 ∷ Turn 80000000 1 ∷ Turn 80000000 0 ∷ []) (BootAt 0 1 10000000 ∷ BootAt 0 0 0 ∷ []) refl (boot_ranges 10000000 (omega arith));
+    ranges = later_ranges (Turn 1329000004 1 ∷ Turn 1289000004 0 ∷ Turn 1018000003 1 ∷ Turn 988000003 0 ∷ Turn 707000002 1 ∷ Turn 687000002 0 ∷
+        Turn 396000001 1 ∷ Turn 386000001 0 ∷ Turn 85000000 1 ∷ Turn 85000000 0 ∷ Turn 80000000 1 ∷ Turn 80000000 0 ∷ []) (BootAt 0 1 10000000 ∷ BootAt 0 0 0 ∷
+        []) refl (boot_ranges 10000000 (omega arith));
     valid = (refl, (refl, (refl, (refl, (refl, (refl, (refl, (refl, (refl, (refl, (refl, (refl, (refl, (refl, tt))))))))))))));
   }
 
