@@ -16,7 +16,7 @@ use Rattle.tsp_promises.proofs.promised.OwnFitsProof.{Located, deed_fits, fits_a
 use Rattle.tsp_run.specs.{Clocked.Clocks, Setup.node_line}
 use Rattle.tsp_progress.specs.AlarmsFit.{AlarmFits, Manner, newest_is}
 use Rattle.tsp_progress.specs.{CausesFit.backs_by, CausesFit.elects_by, CausesFit.seeks_by, Headless.delay_of, InTime.CandidatureEnds, InTime.last_arm}
-use Rattle.tsp_progress.specs.{Motives.MotiveFits, Motives.TookCall, Motives.frees_by, Motives.is_call, Motives.seeks_after, Motives.seeks_now}
+use Rattle.tsp_progress.specs.{Motives.MotiveFits, Motives.TookCall, Motives.frees_by, Calling.is_masters, Motives.seeks_after, Motives.seeks_now}
 use Rattle.tsp_progress.specs.{RunsWake.manner_of, Stands.AfterElect, Stands.StandsOn, Wakes.Wakes, Wakes.WokenAt, Watched.AttendedAt, Watched.Watched}
 use Rattle.tsp_progress.proofs.{AloneProof.PacedAt, FollowCalls.Cut, FollowCalls.LastArm, FollowCalls.cut, FollowCalls.last_arm_at, FollowHeard.paced_at}
 use Rattle.tsp_progress.proofs.{FollowProof.owes_at}
@@ -156,7 +156,7 @@ module _ {clocks : Clocks} {header : HeaderValue} {setting : Setting} {late long
             let taken_is : Receives q.before q.from (Message f.message) =
             ap taken (sym (seen-there q.did q.before w (Quit q.from) deed l)) ∙ (ap taken f.is ∙ (let d = f.deed in rw d refl)) in
             absurd (uncalled q.did q.before w (Quit q.from) deed l
-            (record { from = q.from; message = f.message; took = taken_is; call = ap is_call f.kind }) more (omega (arith, order, until)))
+            (record { from = q.from; message = f.message; took = taken_is; call = ap is_masters f.kind }) more (omega (arith, order, until)))
         | inr le ↦ let mono = tick_mono setting c q.did.step.at (S + long) le in omega (arith, own, tick, mono)
       ]
 

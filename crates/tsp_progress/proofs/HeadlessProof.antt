@@ -16,7 +16,7 @@ use Rattle.tsp_promises.proofs.promised.OwnFitsProof.{Located, fits_at, fits_in,
 use Rattle.tsp_run.specs.{Clocked.Clocks, Clocked.clocks_of, Clocked.run_by, Setup.node_line}
 use Rattle.tsp_run.proofs.{OwnClocks.possible_own, OwnClocks.runs_by_own_clocks, OwnClocks.set_own, RunFits.clocked_runs_fit}
 use Rattle.tsp_progress.specs.Headless.{AllUp, ClockedRunsGetMaster, Fair, Headless, Foremost, RunsGetMaster, delay_of, drift_of, lead, longest_headless}
-use Rattle.tsp_progress.specs.{FollowOn.role_of, Motives.is_call, OneAtATime.StandsAt, RunsWake.manner_of, Wakes.AllWake}
+use Rattle.tsp_progress.specs.{FollowOn.role_of, Calling.is_masters, OneAtATime.StandsAt, RunsWake.manner_of, Wakes.AllWake}
 use Rattle.tsp_progress.specs.Wakes.{Woken}
 use Rattle.tsp_progress.specs.WinsUnopposed.{Unopposed, Won, WonUnopposed, opposed, opposes, opposes_in}
 use Rattle.tsp_progress.proofs.{AsksAllProof.clocked_runs_ask, DueFacts.due, DueFacts.rest_from, HoldKept.SeenAt, HoldKept.seen_at}
@@ -52,7 +52,7 @@ drift_most setting =
 delay_most : (n : ℕ) (h : List Line) → (ELECT_MIN ≤ delay_of n h) × (delay_of n h ≤ ELECT_MIN + ELECT_SPREAD)
 delay_most n h = let less = mod-lt (word (dids (of n h))) {m = ELECT_SPREAD} (omega arith) in (omega arith, omega (arith, less))
 
-opposes_by : (k : Kind) → opposes k ≡ true → (k ≡ Refuse) ⊎ (is_call k ≡ true)
+opposes_by : (k : Kind) → opposes k ≡ true → (k ≡ Refuse) ⊎ (is_masters k ≡ true)
 opposes_by Refuse e = inl refl
 opposes_by QuitKind e = inr refl
 opposes_by MasterUp e = inr refl

@@ -30,7 +30,7 @@ use Rattle.tsp_rules.proofs.BuiltShared.{built_acknowledges}
 use Rattle.tsp_rules.proofs.BuiltAnswers.{built_date_acked, built_peer_replies}
 use Rattle.tsp_rules.proofs.{BuiltRoles.built_accepted_by, BuiltRoles.built_joins, BuiltRoles.built_finds_rival}
 use Rattle.tsp_progress.specs.AlarmsFit.{is_candidate, newest_is}
-use Rattle.tsp_progress.specs.{CausesFit.backs_by, Motives.TookCall, Motives.is_call, RolesLast.TookKind}
+use Rattle.tsp_progress.specs.{CausesFit.backs_by, Motives.TookCall, Calling.is_masters, RolesLast.TookKind}
 use Rattle.tsp_progress.proofs.PortWakes.{Leads_if}
 use Rattle.tsp_progress.proofs.MotiveLeads.{Base, In, Moved, any_role, calm_built, does_plain, is_common, is_plain, keep, now_did}
 use Rattle.tsp_progress.proofs.MotiveLeads.{plain, rule_built, says_open}
@@ -88,7 +88,7 @@ SaidIn ok p m x past = SaidBy p m x past × (ok (role past.seen) ≡ true)
 just : {row : Row} (from : Place) (t : Taken) → Leads Base row Base → Leads (TookFrom from t) row Base
 just from t d = Leads_from (λ x past h. h.0) d
 
-call_of : (p : PeerId) (m : MessageValue) (seen : List Seen) → is_call m.kind ≡ true →
+call_of : (p : PeerId) (m : MessageValue) (seen : List Seen) → is_masters m.kind ≡ true →
     taken seen ≡ Some (record { from = Peer p; taken = Good (Message m) }) → TookCall seen
 call_of p m seen call e = record { from = p; message = m; took = e; call = call }
 
@@ -109,7 +109,7 @@ quitting_keeps a e x past same h = ((plain any_role a e x past (h.0, refl)).0, c
 sent_away : (p : PeerId) (m : MessageValue) → m.kind ≡ QuitKind → Leads (SaidBy p m) (quits p m.number) Base
 unfolding quits posts
 sent_away p m kind = Leads_then {Q = Quitting} (puts (Quit p)) (posts p Ack m.number followed_by reading role_at (follows_unless p))
-    (Leads_puts (Quit p) (λ x past h. quitting_keeps (Quit p) refl x past refl (h.0, call_of p m past.seen (ap is_call kind) h.1)))
+    (Leads_puts (Quit p) (λ x past h. quitting_keeps (Quit p) refl x past refl (h.0, call_of p m past.seen (ap is_masters kind) h.1)))
     (Leads_then {Q = Quitting} (posts p Ack m.number) (reading role_at (follows_unless p))
     (record { run = λ x past h. quitting_keeps (post_of Ack m.number past.name p) refl x past refl h })
     (Leads_reading role_at (follows_unless p) (unless p)))
@@ -196,17 +196,17 @@ acked p number = calm_built any_role {sorts = Acking ∷ []} refl refl (built_ac
 
 slave : (p : PeerId) (m : MessageValue) (k : Kind) → m.kind ≡ k → Leads (SaidIn is_idle p m) (slave_takes_kind p m k) Base
 unfolding slave_takes_kind
-slave p m MasterUp is = Leads_from {Q = Quitting} (λ x past h. (h.0.0, call_of p m past.seen (ap is_call is) h.0.1))
+slave p m MasterUp is = Leads_from {Q = Quitting} (λ x past h. (h.0.0, call_of p m past.seen (ap is_masters is) h.0.1))
     (Leads_reading role_at (masterup_in p) (masterup p))
-slave p m MasterAck is = Leads_from {Q = Quitting} (λ x past h. (h.0.0, call_of p m past.seen (ap is_call is) h.0.1))
+slave p m MasterAck is = Leads_from {Q = Quitting} (λ x past h. (h.0.0, call_of p m past.seen (ap is_masters is) h.0.1))
     (Leads_reading role_at (masterack_in p) (masterack p))
 slave p m Election is = drop_said (votes p m is) where
   drop_said : {row : Row} → Leads (SaidIn is_idle p m) row (In is_idle) → Leads (SaidIn is_idle p m) row Base
   drop_said d = Leads_to (λ x past h. h.0) d
-slave p m AdjTime is = Leads_from {Q = Called is_idle} (λ x past h. ((h.0.0, h.1), call_of p m past.seen (ap is_call is) h.0.1))
+slave p m AdjTime is = Leads_from {Q = Called is_idle} (λ x past h. ((h.0.0, h.1), call_of p m past.seen (ap is_masters is) h.0.1))
     (Leads_to (λ x past h. h.0) (Leads_reading role_at _ (λ r. Leads_from (λ x past h. h.0)
     (of_master p (adjtime_of p m.number (time_in m.body)) r (adjusted p m.number (time_in m.body))))))
-slave p m SetTime is = Leads_from {Q = Called is_idle} (λ x past h. ((h.0.0, h.1), call_of p m past.seen (ap is_call is) h.0.1))
+slave p m SetTime is = Leads_from {Q = Called is_idle} (λ x past h. ((h.0.0, h.1), call_of p m past.seen (ap is_masters is) h.0.1))
     (Leads_to (λ x past h. h.0) (Leads_reading role_at _ (λ r. Leads_from (λ x past h. h.0)
     (of_master p (settime_of p m.number (time_in m.body)) r (set_so p m.number (time_in m.body))))))
 slave p m QuitKind is = Leads_from (λ x past h. h.0) (sent_away p m is)
@@ -215,7 +215,7 @@ slave p m _ is = Leads_from (λ x past h. h.0.0) Leads_nothing
 
 -- a candidate
 
-candidate_follows : (p : PeerId) (m : MessageValue) → is_call m.kind ≡ true → Leads (SaidIn is_candidate p m) (follow_row p) Base
+candidate_follows : (p : PeerId) (m : MessageValue) → is_masters m.kind ≡ true → Leads (SaidIn is_candidate p m) (follow_row p) Base
 candidate_follows p m call = Leads_from (λ x past h. (h.0.0, call_of p m past.seen call h.0.1)) (follows p)
 
 refused : (p : PeerId) (number : ℕ) → Leads (In is_candidate) (refused_by p number) Base
@@ -227,8 +227,8 @@ refused p number = Leads_either _ (puts (Acked p) followed_by yields) nothing
 
 candidate : (p : PeerId) (m : MessageValue) (k : Kind) → m.kind ≡ k → Leads (SaidIn is_candidate p m) (candidate_takes_kind p m k) Base
 unfolding candidate_takes_kind
-candidate p m MasterUp is = candidate_follows p m (ap is_call is)
-candidate p m MasterAck is = candidate_follows p m (ap is_call is)
+candidate p m MasterUp is = candidate_follows p m (ap is_masters is)
+candidate p m MasterAck is = candidate_follows p m (ap is_masters is)
 candidate p m Election is = Leads_from (λ x past h. h.0.0) (from_any (posted any_role p Refuse m.number refl))
 candidate p m Accept is = Leads_from (λ x past h. h.0.0)
     (from_any (calm_built any_role {sorts = Acking ∷ Counting ∷ []} refl refl (built_accepted_by p m.number tt)))

@@ -15,7 +15,7 @@ use Rattle.tsp_promises.proofs.promised.OwnFitsProof.{fits_at, fits_in, locate, 
 use Rattle.tsp_run.specs.Clocked.{Clocks, SetByClocks}
 use Rattle.tsp_progress.specs.{AlarmsFit.is_candidate, AsksAll.AsksAll, ByTable.ByTable, Delivered.Delivered, FollowOn.Calm, FollowOn.IsMild, FollowOn.role_of}
 use Rattle.tsp_progress.specs.{Headless.AllUp, Headless.Headless, InTime.CandidatureEnds, Motives.HaveMotives, Motives.MotiveFits}
-use Rattle.tsp_progress.specs.{Motives.is_call, Motives.may_say, OneWire.OneWire, RunsWake.manner_of, Wakes.AllWake, Wakes.Woken, Watched.Attended}
+use Rattle.tsp_progress.specs.{Calling.is_masters, Motives.may_say, OneWire.OneWire, RunsWake.manner_of, Wakes.AllWake, Wakes.Woken, Watched.Attended}
 use Rattle.tsp_progress.specs.{Watched.Told}
 use Rattle.tsp_progress.proofs.{FollowCalls.Cut, FollowCalls.cut, FollowProof.owes_at, FollowTaken.PostTaken, FollowTaken.taken_post}
 use Rattle.tsp_progress.proofs.{InTimeProof.attended_in_time}
@@ -86,7 +86,7 @@ pub record Candidacy (n y : ℕ) (world : List Line) : Type 0 where
 abbrev pub term : ℕ → ℕ
 term late = WINDOW + late + 9000
 
-call_master : (k : Kind) (r : Role) → is_call k ≡ true → may_say k r ≡ true → is_master r ≡ true
+call_master : (k : Kind) (r : Role) → is_masters k ≡ true → may_say k r ≡ true → is_master r ≡ true
 call_master AdjTime r e f = f
 call_master SetTime r e f = f
 call_master MasterUp r e f = f
@@ -229,7 +229,7 @@ module _ {clocks : Clocks} {header : HeaderValue} {setting : Setting} {late long
     says_first = subst (λ q. may_say m.kind (role (view q (of N o.before))) ≡ true) o.port says
 
     -- it is no master's word
-    pub no_call : is_call m.kind ≡ true → at ≤ t → ⊥
+    pub no_call : is_masters m.kind ≡ true → at ≤ t → ⊥
     no_call call until =
         let order = (fits_in setting o.post o.before world k.fits o.place).order in
         let early = o.early in

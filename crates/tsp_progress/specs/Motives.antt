@@ -6,16 +6,7 @@ use Rattle.tsp_rules.specs.{CommonRows.is_idle, Guards.is_master, Guards.is_star
 use Rattle.tsp_base.specs.Words.{Acts, Deed, Did, Elsewhere, HeaderValue, Here, Line, MessageValue, Receives, Seen, of, role, view}
 use Rattle.tsp_run.specs.{Clocked.Clocks, Clocked.run_by, Run.run}
 use Rattle.tsp_progress.specs.AlarmsFit.{is_candidate, newest_is, stands_now}
-use Rattle.tsp_progress.specs.{CausesFit.backs_by, CausesFit.elects_by, CausesFit.seeks_by, GivenUp.Owes, RolesLast.TookKind, RolesLast.TookOf}
-
--- messages that only masters send
-abbrev pub is_call : Kind → Bool
-is_call AdjTime = true
-is_call SetTime = true
-is_call MasterUp = true
-is_call MasterAck = true
-is_call QuitKind = true
-is_call _ = false
+use Rattle.tsp_progress.specs.{Calling.is_masters, CausesFit.backs_by, CausesFit.elects_by, CausesFit.seeks_by, GivenUp.Owes, RolesLast.TookKind, RolesLast.TookOf}
 
 -- which role may send a message of this kind: those are a master's, and questions for votes a candidate's
 abbrev pub may_say : Kind → Role → Bool
@@ -32,7 +23,7 @@ pub record TookCall (before : List Seen) : Type 0 where
   pub from : PeerId
   pub message : MessageValue
   pub took : Receives before from (Message message)
-  pub call : is_call message.kind ≡ true
+  pub call : is_masters message.kind ≡ true
 
 -- acts on the alarms after which a port becomes Loose and searches
 abbrev pub frees_by : Deed → Bool

@@ -36,8 +36,13 @@
 //! masters that find each other read `Resolving`, `MastersTell`, `RivalsFound`, `RivalsQuit`,
 //! `OneStops`, `NoneBeside` and `OneLeft`; then `RivalsUse`, `RivalsStay`, `LeadOnUse` and
 //! `OneLeftUse`. Of a network that follows one master read `RolesLast`, `FollowOn`, `Obeyed`,
-//! `MovedBy`, `TicketKept`, `ErrSoon` and `AgreesSoon`; then `FollowUse` and `ObeyedUse`. The words
-//! of histories are those of `tsp_promises`.
+//! `MovedBy`, `TicketKept`, `ErrSoon` and `AgreesSoon`; then `FollowUse` and `ObeyedUse`. Of a
+//! network that gets one read `OneWire`, `Motives` and `Headless`, then `HeadlessUse`; of how all
+//! come to follow it `Calling`, `Gather`, `LeadOnly` and `LeadFrom`, then `GatherUse`. Of the slaves
+//! of a master read `TableKept`, `ReportsSoon`, `NoDate`, `CorrectsApart`, `StaysIn` and
+//! `SettlesTable`, then `MembersUse`; of clocks at each time `OnePort`, `InTable`, `LateClose`,
+//! `MeasuresTable`, `SlewsTable`, `TakesRounds`, `AgreesOn`, `AgreesAlways` and `AgreesMeanwhile`,
+//! then `AgreeUse` and `TwoRoundsUse`. The words of histories are those of `tsp_promises`.
 //!
 //! # What is proved
 //!
@@ -135,6 +140,33 @@
 //!   (`runs_err_soon`, `clocked_runs_err_soon`). So two clocks that one Close corrected differ by
 //!   at most twice that, and the drift since, as long as they are left alone (`runs_agree_soon`,
 //!   `clocked_runs_agree_soon`).
+//! - In every run ports back, wait, search, stand and call only for what asks for it
+//!   (`runs_have_motives`, `clocked_runs_have_motives`, `runs_call`, `clocked_runs_call`). So a
+//!   network of nodes with one port each, in which one node waits less than the others, isn't
+//!   without a master for longer than 360 s, three times that wait and eight times `long`, in
+//!   elections that aren't strict (`runs_get_master`, `clocked_runs_get_master`), nor after all have
+//!   booted for 90 s longer (`runs_get_master_soon`, `clocked_runs_get_master_soon`).
+//! - All that stay come to follow the one that leads alone, 484 s and three times `long` later, and
+//!   609 s and `long` more for each of them (`runs_gather`, `clocked_runs_gather`). Who leads alone
+//!   for `long`, or is master where no other node has been for so long, leads alone from then on
+//!   (`runs_lead_only`, `clocked_runs_lead_only`, `runs_lead_from_win`,
+//!   `clocked_runs_lead_from_win`), and so all come to follow it (`runs_come_to_leader`,
+//!   `clocked_runs_come_to_leader`, `runs_come_to_winner`, `clocked_runs_come_to_winner`).
+//! - In every run a slave leaves its master's table for three reasons alone, and joins it by its
+//!   report (`runs_leave`, `clocked_runs_leave`). Each follower is in the table within 242 s and
+//!   twice `long` of each time (`runs_report`, `clocked_runs_report`). In a calm network nobody takes
+//!   a date (`runs_take_no_date`, `clocked_runs_take_no_date`), corrections to one follower begin 8 s
+//!   apart (`runs_correct_apart`, `clocked_runs_correct_apart`), and no follower leaves the table
+//!   (`runs_stay_member`, `clocked_runs_stay_member`), so that all are in it for ever, from 282 s
+//!   and twice `long` on (`runs_settle_table`, `clocked_runs_settle_table`).
+//! - A node with one port does everything there (`runs_use_one_port`, `clocked_runs_use_one_port`).
+//!   So where all are in the table each Close has a sample of each (`runs_measure_table`,
+//!   `clocked_runs_measure_table`), posts an ADJTIME to each (`runs_slew_table`,
+//!   `clocked_runs_slew_table`), and each takes it and is left alone until the next
+//!   (`runs_take_rounds`, `clocked_runs_take_rounds`). So all clocks agree from `long` after a Close
+//!   until the next one (`runs_agree_until_next`, `clocked_runs_agree_until_next`), at each time
+//!   except for `long` after each Close (`runs_agree_always`, `clocked_runs_agree_always`), and, less
+//!   closely, without that exception (`runs_agree_meanwhile`, `clocked_runs_agree_meanwhile`).
 //! - It says something: a worked run (`prompt_use`), one that leads one tick before the bound
 //!   (`slow_use`), runs that are looked at one tick too late (`late_use`), histories without each
 //!   premise (`needed`), a run in which a second node may be master, and leads (`one_use`), one in
@@ -151,11 +183,14 @@
 //!   has samples and in which it has none (`sampled_use`), two masters of which one stops
 //!   (`rivals_use`), and two that stay (`rivals_stay`), a candidate that is sent away already
 //!   (`lead_on_use`), two nodes of which one is left, and two of which both are (`one_left_use`), a
-//!   network that follows its master on, and ones that don't (`follow_use`), and corrections that
-//!   are taken, and that aren't (`obeyed_use`).
+//!   network that follows its master on, and ones that don't (`follow_use`), corrections that are
+//!   taken, and that aren't (`obeyed_use`), a network that gets a master, and ones that don't
+//!   (`headless_use`), a follower of a node that is gone that comes to the one that leads, and one
+//!   that doesn't (`gather_use`), a follower that stays in its master's table, and ones that leave
+//!   (`members_use`), and clocks that agree, and that don't (`agree_use`, `two_rounds_use`).
 //!
-//! It isn't proved that a network in which several nodes may be master gets one, or that all come
-//! to follow it and agree at each time from then on.
+//! It isn't proved that a network gets a master in strict elections, or if two nodes wait equally
+//! long; nor that networks with gateways get one, follow it and agree.
 #![tactic(auto)]
 
 pub mod agree;

@@ -7,10 +7,10 @@ ghost use Rattle.tsp_progress.specs.SettlesTable.{ClockedRunsSettleTable, RunsSe
 ghost use Rattle.tsp_progress.specs.StaysIn.{ClockedRunsStayMember, RunsStayMember};
 ghost use Rattle.tsp_progress.specs.TableKept.{ClockedRunsLeave, RunsLeave};
 
-/// In every run a slave leaves its master's table, other than at a change of the role or a boot, only
-/// when a correction to it was given up, when a round closes that measured it and has no sample of
-/// it, or in a step that sets the date; and a peer joins it only when its SLAVEUP with a ticket is
-/// taken, at a master in whose table it isn't.
+/// In every run a slave leaves its master's table, other than at a change of the role or a boot,
+/// only when a correction to it was given up, when a round closes that measured it and has no
+/// sample of it, or in a step that sets the date; and a peer joins it only when its SLAVEUP with a
+/// ticket is taken, at a master in whose table it isn't.
 pub fn runs_leave()
     ensures { RunsLeave }
 {}

@@ -24,9 +24,9 @@ use Rattle.tsp_rules.specs.GateRows.{loosens_master, forwards, takes_loop_step, 
 use Rattle.tsp_rules.specs.GateRows.{answers_all, boots_on, boots_all}
 use Rattle.tsp_group.specs.Groups.{group_from, goes_before, better}
 use Rattle.tsp_codec.specs.Taken.{taken_of}
-use Rattle.std.proofs.Common.{subst, sym, pos, neg_ℤ, arith, ◌∷◌, [], ◌≡◌, ℕ, refl}
+use Rattle.std.proofs.Common.{subst, sym, pos, neg_ℤ, arith, ◌∷◌, [], refl}
 use Rattle.tsp_rules.specs.Values.{Take, Turn}
-use Rattle.tsp_base.specs.Words.{first_port, of, peer_of, view}
+use Rattle.tsp_base.specs.Words.{of, peer_of, view}
 use Rattle.tsp_base.proofs.PlaceLemmas.{Within_all}
 use Rattle.tsp_promises.proofs.witness.PremiseChecks.{honest_by, life_by}
 use Rattle.tsp_run.specs.{Ranges.Accepted, Run.run}
