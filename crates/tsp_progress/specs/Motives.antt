@@ -6,7 +6,8 @@ use Rattle.tsp_rules.specs.{CommonRows.is_idle, Guards.is_master, Guards.is_star
 use Rattle.tsp_base.specs.Words.{Acts, Deed, Did, Elsewhere, HeaderValue, Here, Line, MessageValue, Receives, Seen, of, role, view}
 use Rattle.tsp_run.specs.{Clocked.Clocks, Clocked.run_by, Run.run}
 use Rattle.tsp_progress.specs.AlarmsFit.{is_candidate, newest_is, stands_now}
-use Rattle.tsp_progress.specs.{Calling.is_masters, CausesFit.backs_by, CausesFit.elects_by, CausesFit.seeks_by, GivenUp.Owes, RolesLast.TookKind, RolesLast.TookOf}
+use Rattle.tsp_progress.specs.{Calling.is_masters, CausesFit.backs_by, CausesFit.elects_by, CausesFit.seeks_by, GivenUp.Owes, RolesLast.TookKind}
+use Rattle.tsp_progress.specs.{RolesLast.TookOf}
 
 -- which role may send a message of this kind: those are a master's, and questions for votes a candidate's
 abbrev pub may_say : Kind → Role → Bool

@@ -10,7 +10,8 @@ use Rattle.tsp_daemon.proofs.{ReadLemmas.sheet_turned, ServeLemmas.same_page}
 use Rattle.tsp_query.specs.Outside.{paged}
 use Rattle.tsp_daemon.specs.Sessions.{past_after}
 use Rattle.tsp_daemon.proofs.SessionLemmas.{waits_is, waits_on, steps_is, turned_is, ends_is, lives_on, acts_known, unheard_is, finish_unlinked}
-use Rattle.tsp_daemon.proofs.TurnLemmas.{le_self, le_is, last_on, last_twice, sends_on, posts_on, memory_unlinked, memory_unwritten, link_unwritten, end_as, same_end}
+use Rattle.tsp_daemon.proofs.TurnLemmas.{le_self, le_is, last_on, last_twice, sends_on, posts_on, memory_unlinked, memory_unwritten, link_unwritten, end_as}
+use Rattle.tsp_daemon.proofs.TurnLemmas.{same_end}
 use Rattle.tsp_daemon.proofs.WaitLemmas.{first_reading, turn_noted, wait_noted}
 use Rattle.tsp_daemon.proofs.turn.turn.Goals as goal
 
