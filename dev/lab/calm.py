@@ -12,16 +12,16 @@ class Member(Node):
 
     def __init__(self, chance, number, delay):
         super().__init__(chance, number)
-        self.word, self.role, self.moved, self.base = WALL + delay - ELECT_MIN, None, 0, 0
+        self.word, self.role, self.moved = WALL + delay - ELECT_MIN, None, 0
 
     def start(self, at):
-        """It boots: its clock is its wall clock."""
+        """It boots: its clock is its wall clock, which counts by its own ticks."""
         super().start(at)
-        self.role, self.moved, self.base = 'starting', 0, WALL + at - self.tick(at)
+        self.role, self.moved = 'starting', 0
 
     def target(self, at):
         """What its clock aims at, at a true time."""
-        return self.base + self.tick(at) + self.moved
+        return WALL + self.tick(at) + self.moved
 
     def act(self, event, tick, act):
         super().act(event, tick, act)
