@@ -155,7 +155,7 @@ module _ {clocks : Clocks} {header : HeaderValue} {setting : Setting} (set : Set
         was (inl j) = ap (in_table P) j.is ∙ (ap (λ k. in_table_after P k (in_table P j.older)) j.deed ∙
             joined_now (n == n) (in_table P j.older) (eq-eqb n n refl))
         was (inr (inl r)) = r.kept (measured_in P r.past (owes_sub AskFits r.past (V world) (past-in r) (asks c first_port)) r.measured) where
-          past-in : (r : AtRound P g.last (V lf.older)) → Within r.past (V world)
+          past-in : (r : AtRound P g.last (V lf.older) op.message) → Within r.past (V world)
           past-in r = Within_through r.past (V lf.older) (V world) (Within_tail (Here r.close) r.past (V lf.older)
               (closed_at (V lf.older) r.close r.past r.is))
               (view_within first_port (of c lf.older) (of c world) (Within_of c lf.older world (Within_tail (line_on first_port g.last) lf.older world
@@ -164,7 +164,7 @@ module _ {clocks : Clocks} {header : HeaderValue} {setting : Setting} (set : Set
 
     -- so C doesn't follow a Join
     module _ (far : time_of (dids s) + 3 * WINDOW < g.last.step.at) where
-      joined-no : JoinedNow P (V o) → ⊥
+      joined-no : JoinedNow P d.step (V o) → ⊥
       joined-no j =
           let lj = locate c first_port o j.join j.older (let deed = j.deed in rw deed refl) (subst (λ z. Within (Here j.join ∷ j.older) z) (sym j.is)
           (Within_all (Here j.join ∷ j.older))) in
@@ -225,7 +225,7 @@ module _ {clocks : Clocks} {header : HeaderValue} {setting : Setting} (set : Set
               ]
 
       -- a round that measures it and closes with C began after L did
-      round_apart : AtRound P d (V o) → g.last.tick + CLOSE ≤ d.tick
+      round_apart : AtRound P d (V o) m → g.last.tick + CLOSE ≤ d.tick
       round_apart r = by_order (Within_comparable L S o lf.place s-o) where
         lc : Located c first_port o r.close r.past
         lc = locate c first_port o r.close r.past (let deed = r.deed in rw deed refl) (closed_at (V o) r.close r.past r.is)
@@ -324,7 +324,7 @@ module _ {clocks : Clocks} {header : HeaderValue} {setting : Setting} (set : Set
               (Within_through (At j.join lj.older) lf.older world lj.place (Within_tail (line_on first_port g.last) lf.older world l-begins.place))))
               (tables c first_port))
 
-          if-joined : (j : JoinedNow P (V lf.older)) (b : Bool) → is_starting (V lf.older) ≡ b → g.last.tick + CLOSE ≤ d.tick
+          if-joined : (j : JoinedNow P g.last.step (V lf.older)) (b : Bool) → is_starting (V lf.older) ≡ b → g.last.tick + CLOSE ≤ d.tick
           if-joined k true e =
               let same = step_of_start setting first_port (of c lf.older) own.1 e close.start close.idle now.started_is g.last.step
               (in_step_holds (Post (Peer P) (Message op.message)) g.last.step (of c lf.older)

@@ -115,7 +115,7 @@ module _ {header : HeaderValue} {setting : Setting} {late long t : ℕ} {stays :
   word_act (Acts Boot) un d w = absurd (un refl)
   word_act _ un d w = refl
 
-  same_word : (n : ℕ) (h : List Line) → Within h world → Within s h → word (dids (of n h)) ≡ word (dids (of n s))
+  pub same_word : (n : ℕ) (h : List Line) → Within h world → Within s h → word (dids (of n h)) ≡ word (dids (of n s))
   same_word n [] w e = ap (λ z. word (dids (of n z))) (sym e)
   same_word n (l ∷ older) w (inl e) = ap (λ z. word (dids (of n z))) (sym e)
   same_word n (l ∷ older) w (inr v) = by_node (node_of l == n) refl (same_word n older (Within_tail l older world w) v) where

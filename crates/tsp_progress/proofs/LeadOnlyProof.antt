@@ -17,7 +17,7 @@ use Rattle.tsp_progress.specs.LeadFrom.{WinsAlone}
 use Rattle.tsp_progress.specs.LeadOnly.{ClockedRunsComeToLeader, ClockedRunsLeadOnly, ComeTo, LeadOnly, RunsComeToLeader, RunsLeadOnly, candidatures_after}
 use Rattle.tsp_progress.specs.RolesLast.{EndFits, RoleFits, RolesLast, StopsLeading, TookOf}
 use Rattle.tsp_progress.proofs.{CallingProof.clocked_runs_call, FollowProof.owes_at, FollowProof.role_kept, GatherCalls.up_on}
-use Rattle.tsp_progress.proofs.{GatherPlaces.from_c, GatherPlaces.source, GatherProof.clocked_runs_gather, LeadOnlyWins.none_wins}
+use Rattle.tsp_progress.proofs.{GatherPlaces.from_c, GatherPlaces.source, GatherProof.clocked_runs_gather, LeadOnlyWins.none_wins, TimePlaces.before_time}
 use Rattle.tsp_progress.proofs.{RolesProof.clocked_runs_keep_roles, StandKeeps.runs_sound}
 
 -- what is calm from a place on is so from each later place on
@@ -88,23 +88,24 @@ module _ {clocks : Clocks} {header : HeaderValue} {setting : Setting} (set : Set
     (stays : ℕ → Bool) (c : ℕ) (s : List Line) (one : OneNetwork header setting stays c) (calm : Calm long stays s (run_by clocks header events))
     (delivered : Delivered setting long t stays s (run_by clocks header events)) (prompt : IsPrompt setting long) (up : AllAwake stays s)
     (honest : Honest (run_by clocks header events)) (life : Life (run_by clocks header events)) (h : List Line) (h-in : Within h (run_by clocks header events))
-    (s-in : Within s h) (settled : time_of (dids s) + candidatures_after ≤ time_of (dids h)) where
+    (s-in : Within s h) (from : ℕ) (early : time_of (dids h) ≤ from) (settled : time_of (dids s) + candidatures_after ≤ from) where
   abbrev World : List Line
   World = run_by clocks header events
 
   fits : Fits setting World
   fits = (clocked_runs_fit clocks header setting events set possible).0
 
-  next : (l : Line) (older : List Line) → Within (l ∷ older) World → Within h older → l.did.step.at ≤ t → time_of (dids h) + long < l.did.step.at →
+  next : (l : Line) (older : List Line) → Within (l ∷ older) World → Within h older → l.did.step.at ≤ t → from + long < l.did.step.at →
       ((g : List Line) → Within g older → Within h g → NoOther stays c g) → LeadsOnly stays c older → LeadsOnly stays c (l ∷ older)
   next l older place since until later sofar now = record {
     leads = role_kept c l older unbooted (λ node port r act. master_stays setting World fits (clocked_runs_call clocks header setting events set possible)
         (clocked_runs_keep_roles clocks header setting events set possible) long c stays h h-in one.net (calm_from long stays s h World s-in calm) l older place
-        since later sofar now.leads node port r act) ∙ now.leads;
+        since (omega (arith, later, early)) sofar now.leads node port r act) ∙ now.leads;
     alone = λ n there other is. now.alone n there other (sym (role_kept n l older unbooted (λ node port r act.
         none_wins set events possible late long t attended slack stays c s one calm delivered prompt
         (λ f here g w v. up_on World long stays s calm up (λ k. runs_sound clocks header events k first_port) f here g w v) honest life l older place
-        (Within_through s h older s-in since) until late-enough now n there other is)) ∙ is);
+        (Within_through s h older s-in since) until late-enough older (Within_all older)
+        (λ k kb v less. before_time setting World fits k kb l older v place (omega (arith, less))) now.leads n there other (now.alone n there other) is)) ∙ is);
   } where
     unbooted : l.did.deed ≢ Acts Boot
     unbooted = calm.unbooted l older place (Within_through s h older s-in since)
@@ -112,10 +113,10 @@ module _ {clocks : Clocks} {header : HeaderValue} {setting : Setting} (set : Set
     late-enough : time_of (dids s) + candidatures_after ≤ l.did.step.at
     late-enough = omega (arith, settled, later)
 
-  -- if it led alone for `long` since the place h
-  module _ (start : LeadUntil stays c (time_of (dids h) + long) h World) where
+  -- if it led alone until `long` after that time
+  module _ (start : LeadUntil stays c (from + long) h World) where
     upto : (k : List Line) → Within k World → time_of (dids k) ≤ t → (g : List Line) → Within g k → Within h g → LeadsOnly stays c g
-    upto [] w le g v u = start g (subst (λ z. Within z World) (sym v) w) u (subst (λ (z : List Line). time_of (dids z) ≤ time_of (dids h) + long) (sym v)
+    upto [] w le g v u = start g (subst (λ z. Within z World) (sym v) w) u (subst (λ (z : List Line). time_of (dids z) ≤ from + long) (sym v)
         (omega arith))
     upto (l ∷ older) w le g (inr v) u = upto older (Within_tail l older World w) (let order = (fits_in setting l older World fits w).order in
         omega (arith, order, le)) g v u
@@ -126,8 +127,8 @@ module _ {clocks : Clocks} {header : HeaderValue} {setting : Setting} (set : Set
 
           newest : Within h (l ∷ older) → (time_of (dids older) ≤ t → (k : List Line) → Within k older → Within h k → LeadsOnly stays c k) →
               LeadsOnly stays c (l ∷ older)
-          newest (inl same) before = start (l ∷ older) w (inl same) (let time = ap (λ (z : List Line). time_of (dids z)) same in omega (arith, time))
-          newest (inr since) before = elim (cases_lt (time_of (dids h) + long) l.did.step.at) [
+          newest (inl same) before = start (l ∷ older) w (inl same) (let time = ap (λ (z : List Line). time_of (dids z)) same in omega (arith, time, early))
+          newest (inr since) before = elim (cases_lt (from + long) l.did.step.at) [
             | inl later ↦
                 let sofar = before (omega (arith, order, le)) in
                 next l older w since le later (λ g v i. (sofar g v i).alone) (sofar older (Within_all older) since)
@@ -137,8 +138,8 @@ module _ {clocks : Clocks} {header : HeaderValue} {setting : Setting} (set : Set
     pub lead_only : LeadUntil stays c t h World
     lead_only g w v le = upto g w le g (Within_all g) v
 
-  -- if it is master at a line more than `long` after the place h, and nobody else was since that
-  module _ (x : Line) (xo : List Line) (won : WinsAlone long stays c h x xo World) where
+  -- if it is master at a line more than `long` after that time, and nobody else was since the place h
+  module _ (x : Line) (xo : List Line) (won : WinsAlone long stays c h x xo World) (late-x : from + long < x.did.step.at) where
     from-win : (k : List Line) → Within k World → time_of (dids k) ≤ t → (g : List Line) → Within g k → Within (x ∷ xo) g → LeadsOnly stays c g
     from-win [] w le g v u = Within_none x xo (subst (λ z. Within (x ∷ xo) z) v u)
     from-win (l ∷ older) w le g (inr v) u = from-win older (Within_tail l older World w) (let order = (fits_in setting l older World fits w).order in
@@ -158,7 +159,6 @@ module _ {clocks : Clocks} {header : HeaderValue} {setting : Setting} (set : Set
               let sofar = before (omega (arith, order, le)) in
               let older-in = Within_tail l older World w in
               let low = place_time setting (x ∷ xo) older (fits_at setting older World fits older-in) after in
-              let late-x = won.late in
               next l older w (Within_through h (x ∷ xo) older (inr won.since) after) le (omega (arith, low, order, late-x))
               (λ g v i. elim (Within_comparable g (x ∷ xo) older v after) [
                 | inl early ↦ won.alone g early i
@@ -170,7 +170,8 @@ module _ {clocks : Clocks} {header : HeaderValue} {setting : Setting} (set : Set
 
 pub clocked_runs_lead_only : ClockedRunsLeadOnly
 clocked_runs_lead_only clocks header setting events late long t stays c s set possible attended slack one calm delivered prompt up honest life h w v settled
-    start = lead_only set events possible late long t attended slack stays c s one calm delivered prompt up honest life h w v settled start
+    start = lead_only set events possible late long t attended slack stays c s one calm delivered prompt up honest life h w v (time_of (dids h)) (omega arith)
+    settled start
 
 pub runs_lead_only : RunsLeadOnly
 runs_lead_only header setting events late long t stays c s set possible = subst (λ h. Attended late h → late ≤ SLACK → OneNetwork header setting stays c →
@@ -185,7 +186,8 @@ clocked_runs_come_to_leader clocks header setting events late long t stays c s s
     clocked_runs_gather clocks header setting events late long t stays c h set possible attended slack told one (calm_from long stays s h world v calm)
     (delivered_from setting long t stays s h world v delivered) (omega (arith, prompt))
     (λ n there. up_on world long stays s calm up (λ k. runs_sound clocks header events k first_port) n there h v w)
-    (lead_only set events possible late long t attended slack stays c s one calm delivered prompt up honest life h w v settled start) g u i
+    (lead_only set events possible late long t attended slack stays c s one calm delivered prompt up honest life h w v (time_of (dids h)) (omega arith) settled
+    start) g u i
 
 pub runs_come_to_leader : RunsComeToLeader
 runs_come_to_leader header setting events late long t stays c s set possible = subst (λ h. Attended late h → late ≤ SLACK → AllTold late setting t stays h →
@@ -200,7 +202,8 @@ pub clocked_runs_lead_from_win : ClockedRunsLeadFromWin
 clocked_runs_lead_from_win clocks header setting events late long t stays c s set possible attended slack one calm delivered prompt up honest life h l older v
     settled won =
     lead_from set events possible late long t attended slack stays c s one calm delivered prompt up honest life h
-    (Within_through h older (run_by clocks header events) won.since (Within_tail l older (run_by clocks header events) won.place)) v settled l older won
+    (Within_through h older (run_by clocks header events) won.since (Within_tail l older (run_by clocks header events) won.place)) v (time_of (dids h))
+    (omega arith) settled l older won won.late
 
 pub runs_lead_from_win : RunsLeadFromWin
 runs_lead_from_win header setting events late long t stays c s set possible = subst (λ h. Attended late h → late ≤ SLACK → OneNetwork header setting stays c →

@@ -1,5 +1,5 @@
 -- Beside a master that leads alone no other candidate of its network wins.
-use Rattle.std.proofs.Common.{sym, ap, subst, arith, true≢false, inl, inr, ◌∙◌, ◌≡◌, ◌≤◌, ◌<◌, ℕ, ◌+◌, ◌*◌, ◌==◌, Bool, true, false, List, []}
+use Rattle.std.proofs.Common.{sym, ap, subst, arith, true≢false, inl, inr, ◌∙◌, ◌≡◌, ◌≢◌, ◌≤◌, ◌<◌, ℕ, ◌+◌, ◌*◌, ◌==◌, Bool, true, false, List, []}
 use Rattle.std.proofs.Common.{◌∷◌, eq-eqb}
 use Rattle.std.proofs.lemmas.{Nat.mul-le}
 use Rattle.tsp_rules.specs.Values.{Become, Candidate, Event, Master, Message, Peer, Port, Post, SLACK}
@@ -12,7 +12,7 @@ use Rattle.tsp_promises.proofs.promised.OwnFitsProof.{Located, fits_at, fits_in,
 use Rattle.tsp_run.specs.{Clocked.Clocks, Clocked.PossibleBy, Clocked.SetByClocks, Clocked.run_by}
 use Rattle.tsp_run.proofs.{RunFits.clocked_runs_fit}
 use Rattle.tsp_progress.specs.{AckedInTime.IsPrompt, AnswersInTime.Asks, Delivered.Delivered, FoundInTime.IsQuick, GivenUp.Owes, Heeds.is_candidate_role}
-use Rattle.tsp_progress.specs.{FollowOn.Calm, FollowOn.OneNetwork, FollowOn.role_of, Gather.LeadsOnly, NoneBeside.StaysUp}
+use Rattle.tsp_progress.specs.{FollowOn.Calm, FollowOn.OneNetwork, FollowOn.role_of, NoneBeside.StaysUp}
 use Rattle.tsp_progress.specs.{LeadOnly.candidatures_after, OneAtATime.WinsIt, RefusedLoses.WinsAfter, Watched.Attended, WinsLate.WinsLate, WinsLate.WonFits}
 use Rattle.tsp_progress.proofs.{BesideProof.none_then, ElectOneProof.clocked_runs_elect_one, LeadsKept.leads_later}
 use Rattle.tsp_progress.proofs.{PortSetups.differ, PortSetups.member_port, ReignProof.Reign}
@@ -51,15 +51,19 @@ module _ {clocks : Clocks} {header : HeaderValue} {setting : Setting} (set : Set
   abbrev Q : Port
   Q = first_port
 
-  -- the line l is after the place s, c led alone before it, and node f is master after it
+  -- the line l is after the place s, and node f wins there; c was master at a place g before, which has each line that is more than `long` earlier
   module _ (l : Line) (older : List Line) (place : Within (l ∷ older) World) (since : Within s older) (until : l.did.step.at ≤ t)
-      (settled : time_of (dids s) + candidatures_after ≤ l.did.step.at) (now : LeadsOnly stays c older) (f : ℕ) (there : stays f ≡ true)
-      (apart-f : (f == c) ≡ false) (wins : role_of f (l ∷ older) ≡ Master) where
+      (settled : time_of (dids s) + candidatures_after ≤ l.did.step.at) (g : List Line) (g-in : Within g older)
+      (has : (k : Line) (kb : List Line) → Within (k ∷ kb) World → k.did.step.at + long < l.did.step.at → Within (k ∷ kb) g) (led : role_of c g ≡ Master)
+      (f : ℕ) (there : stays f ≡ true) (apart-f : (f == c) ≡ false) (not-yet : role_of f older ≢ Master) (wins : role_of f (l ∷ older) ≡ Master) where
     older-in : Within older World
     older-in = Within_tail l older World place
 
-    E : Reign setting c Q long older
-    E = reign setting older (fits_at setting older World fits older-in) (won-at older older-in) long quick c Q now.leads
+    g-there : Within g World
+    g-there = Within_through g older World g-in older-in
+
+    E : Reign setting c Q long g
+    E = reign setting g (fits_at setting g World fits g-there) (won-at g g-there) long quick c Q led
 
     F : Reign setting f Q long (l ∷ older)
     F = reign setting (l ∷ older) (fits_at setting (l ∷ older) World fits place) (won-at (l ∷ older) place) long quick f Q wins
@@ -67,7 +71,7 @@ module _ {clocks : Clocks} {header : HeaderValue} {setting : Setting} (set : Set
     f-now : F.w ∷ F.wb ≡ l ∷ older
     f-now = elim F.place [
       | inl e ↦ e
-      | inr w ↦ absurd (now.alone f there apart-f
+      | inr w ↦ absurd (not-yet
           (leads_later f Q (F.w ∷ F.wb) older (l ∷ older) F.lasts w (inr (Within_all older))).master)
     ]
 
@@ -186,17 +190,17 @@ module _ {clocks : Clocks} {header : HeaderValue} {setting : Setting} (set : Set
           port = Q;
           net = net ∙ sym z-net;
           leads = λ line before at later soon.
-              let inside : Within (line ∷ before) older = before_time setting World fits line before l older at place
+              let inside : Within (line ∷ before) g = has line before at
               (let a = F.late in let e = z-time in let w = f-time in omega (arith, soon, a, e, w)) in
-              (leads_later c Q (E.w ∷ E.wb) before older E.lasts (Within_through (E.w ∷ E.wb) z-at.older before won (Within_tail Z z-at.older before later))
-              (Within_tail line before older inside)).master;
+              (leads_later c Q (E.w ∷ E.wb) before g E.lasts (Within_through (E.w ∷ E.wb) z-at.older before won (Within_tail Z z-at.older before later))
+              (Within_tail line before g inside)).master;
           long_since = (let b = c-late in let e = z-time in omega (arith, b, e));
           up = subst (λ k. StaysUp k Q s World) (sym z-at.node) (up f there);
         }) F.w F.wb wins-after
 
     -- else both stood at about the same time
     e-place : Within (E.w ∷ E.wb) World
-    e-place = Within_through (E.w ∷ E.wb) older World E.place older-in
+    e-place = Within_through (E.w ∷ E.wb) g World E.place g-there
 
     e-in : Within (E.c ∷ E.cb) World
     e-in = Within_through (E.c ∷ E.cb) E.wb World E.c_place (Within_tail E.w E.wb World e-place)
@@ -260,7 +264,8 @@ module _ {clocks : Clocks} {header : HeaderValue} {setting : Setting} (set : Set
 
     e-last : E.w.did.step.at ≤ l.did.step.at
     e-last =
-        let low = place_time setting (E.w ∷ E.wb) older (fits_at setting older World fits older-in) E.place in
+        let low = place_time setting (E.w ∷ E.wb) older (fits_at setting older World fits older-in)
+        (Within_through (E.w ∷ E.wb) g older E.place g-in) in
         let order = (fits_in setting l older World fits place).order in
         omega (arith, low, order)
 

@@ -1,6 +1,7 @@
 pub mod AckedProof
 pub mod AgreeChecks
 pub mod AgreesAlwaysProof
+pub mod AgreesFromProof
 pub mod AgreesMeanwhileProof
 pub mod AgreesOnProof
 pub mod AgreesSoonProof
@@ -133,6 +134,9 @@ pub mod SentAwayProof
 pub mod SentBefore
 pub mod SentRows
 pub mod SentTakes
+pub mod SetsNoneProof
+pub mod SettleRuns
+pub mod SettleWins
 pub mod SettlesProof
 pub mod SlewPlaces
 pub mod SlewsProof

@@ -13,7 +13,7 @@ use Rattle.tsp_progress.specs.FollowOn.{Calm, FollowUntil}
 use Rattle.tsp_progress.specs.MovedBy.{ClockedRunsMoveByMaster, FromMaster, MovedByMaster, RunsMoveByMaster}
 use Rattle.tsp_progress.proofs.{FollowTaken.taken_post}
 
-follows_not : {A : Type 0} (p : PeerId) (r : Role) → r ≡ Follow p → r ≡ Master → A
+pub follows_not : {A : Type 0} (p : PeerId) (r : Role) → r ≡ Follow p → r ≡ Master → A
 follows_not p r e m = let bad : Follow p ≡ Master = sym e ∙ m in absurd (no bad) where
   no : Follow p ≡ Master → ⊥
   no e = cc

@@ -60,27 +60,29 @@ message_is d m e = cc
 module _ (setting : Setting) (world : List Line) (fits : Fits setting world) (passed : (n : ℕ) (q : Port) → Owes PassFits (view q (of n world)))
     (long : ℕ) (stays : ℕ → Bool) (s : List Line) (s-in : Within s world) (calm : Calm long stays s world) where
   -- what is taken after s was posted at most `long` before
-  record Sent (l : Line) (older : List Line) (m : MessageValue) : Type 0 where
+  pub record Sent (l : Line) (older : List Line) (from : Place) (m : MessageValue) : Type 0 where
     pub post : Line
     pub before : List Line
     pub place : Within (post ∷ before) older
     pub deed : post.did.deed ≡ Acts (Post (Peer (peer_of (node_of l))) (Message m))
     pub soon : l.did.step.at ≤ post.did.step.at + long
+    pub from_is : from ≡ Peer (peer_of (node_of post))
 
   sent_by : (l : Line) (older : List Line) → Within (l ∷ older) world → Within s older → (from : Place) (m : MessageValue) → (cause : Cause) →
-      cause ≡ l.did.step.cause → TookFits cause setting l older from (Good (Message m)) → Sent l older m
+      cause ≡ l.did.step.cause → TookFits cause setting l older from (Good (Message m)) → Sent l older from m
   sent_by l older place since from m Handed is f = absurd (calm.unhanded l older place since (sym is))
   sent_by l older place since from m (Came k) is f = record {
     post = f.post;
     before = f.older;
     place = f.place;
+    from_is = f.from_is;
     deed = f.deed ∙ ap (λ d. Acts (Post (Peer (peer_of (node_of l))) d)) (message_is f.datagram m f.taken_is);
     soon = calm.soon l older place since f.post f.older (Peer (peer_of (node_of l))) f.datagram f.place f.deed (sym is ∙ ap Came (sym f.number));
   }
   sent_by l older place since from m _ is f = absurd f
 
-  sent : (l : Line) (older : List Line) → Within (l ∷ older) world → Within s older → (from : Place) (m : MessageValue) →
-      l.did.deed ≡ Acts (Took from (Good (Message m))) → Sent l older m
+  pub sent : (l : Line) (older : List Line) → Within (l ∷ older) world → Within s older → (from : Place) (m : MessageValue) →
+      l.did.deed ≡ Acts (Took from (Good (Message m))) → Sent l older from m
   sent l older place since from m deed = sent_by l older place since from m l.did.step.cause refl
       ((fits_in setting l older world fits place).took from (Good (Message m)) deed)
 
@@ -117,7 +119,7 @@ module _ (setting : Setting) (world : List Line) (fits : Fits setting world) (pa
       client-no x.line x.before x-world (after_place setting s world fits s-in x.line x.before x-world (omega (arith, at, late))) k.from k.message x.deed k.kind
 
   -- a date that is passed on again began to be so not long before
-  record Older (p : Line) (o : List Line) (q : PeerId) (m : MessageValue) : Type 0 where
+  pub record Older (p : Line) (o : List Line) (q : PeerId) (m : MessageValue) : Type 0 where
     pub first : Did
     pub before : List Line
     pub place : Within (line_on p.port first ∷ before) o
@@ -127,7 +129,7 @@ module _ (setting : Setting) (world : List Line) (fits : Fits setting world) (pa
     pub ticks : p.did.tick ≤ first.tick + LAST
     pub soon : p.did.step.at ≤ first.step.at + 4004007
 
-  older_of : (p : Line) (o : List Line) (q : PeerId) (m : MessageValue) → Within (p ∷ o) world → Again q p.did (view p.port (of (node_of p) o)) m →
+  pub older_of : (p : Line) (o : List Line) (q : PeerId) (m : MessageValue) → Within (p ∷ o) world → Again q p.did (view p.port (of (node_of p) o)) m →
       Older p o q m
   older_of p o q m place a =
       let seen = view p.port (of (node_of p) o) in
@@ -199,7 +201,7 @@ module _ (setting : Setting) (world : List Line) (fits : Fits setting world) (pa
   pub takes-no-date : (l : Line) (older : List Line) → Within (l ∷ older) world → Within s older → time_of (dids s) + undated_after long < l.did.step.at →
       (from : Place) (m : MessageValue) → l.did.deed ≡ Acts (Took from (Good (Message m))) → sets_date m.kind ≡ true → ⊥
   takes-no-date l older place since late from m deed sets = by_kind (which_date m.kind sets) where
-    k : Sent l older m
+    k : Sent l older from m
     k = sent l older place since from m deed
 
     k-world : Within (k.post ∷ k.before) world

@@ -6,7 +6,7 @@ use Rattle.tsp_rules.specs.Values.{Message, SPAN, LAST, TRIES}
 use Rattle.tsp_rules.specs.Values.{Kind, AdjTime}
 use Rattle.tsp_rules.specs.Values.{SetTime}
 use Rattle.tsp_base.specs.Words.{Acts, Deed, Did, Estimate, Here, Leads, MessageValue, Past, Row, Seen, Sending, either_by, estimate}
-use Rattle.tsp_base.specs.Words.{for_each, grown, in_table, is_correction, is_measured, nothing, open_send, posts_time, puts, reading}
+use Rattle.tsp_base.specs.Words.{for_each, grown, in_table, is_correction, is_measured, nothing, open_send, posts_time, puts, reading, Step}
 use Rattle.tsp_base.specs.Words.{◌followed_by◌}
 use Rattle.tsp_base.proofs.LeadsLemmas.{Leads_each, Leads_either, Leads_from, Leads_nothing, Leads_puts, Leads_reading, Leads_then}
 use Rattle.tsp_promises.specs.StepFacts.{closed}
@@ -24,15 +24,22 @@ use Rattle.tsp_rules.proofs.{Built.Built, EmitsBuilt.emits_built, EmitsBuilt.not
 use Rattle.tsp_rules.proofs.Emits.{Sort, Correcting, is_in, is_part, sort_of, sort_of_kind}
 use Rattle.tsp_progress.proofs.{DebtKeeps.OwedBy, DebtKeeps.Paid, DebtKeeps.pays, PortWakes.Leads_if}
 
--- p has joined right before
-pub record JoinedNow (p : PeerId) (before : List Seen) : Type 0 where
+-- p has joined right before, in the same step
+pub record JoinedNow (p : PeerId) (step : Step) (before : List Seen) : Type 0 where
   pub join : Did
   pub older : List Seen
   pub is : before ≡ Here join ∷ older
   pub deed : join.deed ≡ Acts (Join p)
+  pub same : join.step ≡ step
+
+-- p's best sample is FAR or more away
+pub record FarBest (p : PeerId) (past : List Seen) : Type 0 where
+  pub best : Estimate
+  pub is : estimate p past ≡ Some best
+  pub far : is_near best.diff ≡ false
 
 -- the step closed a round that measured p, which is in the table if it was then
-pub record AtRound (p : PeerId) (here : Did) (before : List Seen) : Type 0 where
+pub record AtRound (p : PeerId) (here : Did) (before : List Seen) (m : MessageValue) : Type 0 where
   pub close : Did
   pub past : List Seen
   pub is : closed before ≡ Here close ∷ past
@@ -44,6 +51,8 @@ pub record AtRound (p : PeerId) (here : Did) (before : List Seen) : Type 0 where
   pub deed : close.deed ≡ Acts (Close count lo size mean)
   pub measured : is_measured p past ≡ true
   pub kept : in_table p past ≡ true → in_table p before ≡ true
+  -- a SETTIME is for a clock that is FAR or more away
+  pub far : m.kind ≡ SetTime → FarBest p past
 
 -- the message is that of the open send, which began not long ago
 pub record Again (p : PeerId) (here : Did) (before : List Seen) (m : MessageValue) : Type 0 where
@@ -53,7 +62,7 @@ pub record Again (p : PeerId) (here : Did) (before : List Seen) (m : MessageValu
   pub soon : here.tick ≤ sending.began + LAST
 
 abbrev pub SentFor : PeerId → Did → List Seen → MessageValue → Type 0
-SentFor p here before m = JoinedNow p before ⊎ (AtRound p here before ⊎ Again p here before m)
+SentFor p here before m = JoinedNow p here.step before ⊎ (AtRound p here before m ⊎ Again p here before m)
 
 abbrev pub SentFits : Deed → Did → List Seen → Type 0
 SentFits (Acts (Post (Peer p) (Message m))) here before = is_correction m.kind ≡ true → SentFor p here before m
@@ -146,10 +155,10 @@ some_none : {A : Type 0} (b : Estimate) (o : Option Estimate) → Some b ≡ o �
 some_none b o e n = let bad : ⊥ = (let k = e ∙ n in cc) in absurd bad
 
 -- the correction of the first of them
-sent_one : (s : Standing) (rest : List Standing) (b : Estimate) → s.best ≡ Some b → (kind : Kind) (number : ℕ) (time : ℤ) →
-    Leads (Closed (s ∷ rest)) (posts_time s.peer kind number time) (Closed rest)
+sent_one : (s : Standing) (rest : List Standing) (b : Estimate) → s.best ≡ Some b → (kind : Kind) → (kind ≡ SetTime → is_near b.diff ≡ false) →
+    (number : ℕ) (time : ℤ) → Leads (Closed (s ∷ rest)) (posts_time s.peer kind number time) (Closed rest)
 unfolding posts_time
-sent_one s rest b e kind number time = record {
+sent_one s rest b e kind far number time = record {
   run = λ x past h. record {
     paid = (
       λ c. inr (inl (record {
@@ -167,6 +176,7 @@ sent_one s rest b e kind number time = record {
           | inl now ↦ now
           | inr none ↦ some_none b (estimate s.peer h.there) (sym e ∙ h.so.0.0) none
         ];
+        far = λ k. record { best = b; is = sym h.so.0.0 ∙ e; far = far k };
       })),
       h.paid,
     );
@@ -204,14 +214,15 @@ by_amount : (s : Standing) (rest : List Standing) (b : Estimate) → s.best ≡ 
     Leads (Closed (s ∷ rest)) (begins_adjtime s.peer number amount) (Closed rest)
 unfolding begins_adjtime
 by_amount s rest b e number amount = Leads_either (may_correct s.peer number) (posts_time s.peer AdjTime number amount) nothing
-    (Leads_from (λ x past h. h.0) (sent_one s rest b e AdjTime number amount)) (Leads_from (λ x past h. skipped s rest x past h.0) Leads_nothing)
+    (Leads_from (λ x past h. h.0) (sent_one s rest b e AdjTime (λ k. let bad : ⊥ = cc in absurd bad) number amount))
+    (Leads_from (λ x past h. skipped s rest x past h.0) Leads_nothing)
 
-by_setting : (s : Standing) (rest : List Standing) (b : Estimate) → s.best ≡ Some b → (number : ℕ) →
+by_setting : (s : Standing) (rest : List Standing) (b : Estimate) → s.best ≡ Some b → is_near b.diff ≡ false → (number : ℕ) →
     Leads (Closed (s ∷ rest)) (begins_settime s.peer number) (Closed rest)
 unfolding begins_settime
-by_setting s rest b e number = Leads_either (may_set s.peer number) (reading target_at (posts_time s.peer SetTime number)) nothing
+by_setting s rest b e far number = Leads_either (may_set s.peer number) (reading target_at (posts_time s.peer SetTime number)) nothing
     (Leads_from (λ x past h. h.0) (Leads_reading target_at (posts_time s.peer SetTime number) (λ time. Leads_from (λ x past h. h.0)
-    (sent_one s rest b e SetTime number time)))) (Leads_from (λ x past h. skipped s rest x past h.0) Leads_nothing)
+    (sent_one s rest b e SetTime (λ k. far) number time)))) (Leads_from (λ x past h. skipped s rest x past h.0) Leads_nothing)
 
 -- one that leaves has no sample
 left_one : (s : Standing) (rest : List Standing) → s.best ≡ None → (x : ℕ) (past : Past) → Closed (s ∷ rest) x past →
@@ -240,8 +251,11 @@ unfolding corrects_peer corrects_by
 corrects_one mean s rest = by_best s.best refl where
   by_best : (o : Option Estimate) → s.best ≡ o → Leads (Closed (s ∷ rest)) (corrects_by mean s.peer o) (Closed rest)
   by_best None e = Leads_puts (Leave s.peer) (left_one s rest e)
-  by_best (Some b) e = Leads_if (is_near b.diff) (begins_adjtime s.peer b.ticket (mean -ℤ b.diff)) (begins_settime s.peer b.ticket)
-      (by_amount s rest b e b.ticket (mean -ℤ b.diff)) (by_setting s rest b e b.ticket)
+  by_best (Some b) e = by_near (is_near b.diff) refl where
+    by_near : (v : Bool) → is_near b.diff ≡ v → Leads (Closed (s ∷ rest))
+        (if v then begins_adjtime s.peer b.ticket (mean -ℤ b.diff) else begins_settime s.peer b.ticket) (Closed rest)
+    by_near true near = by_amount s rest b e b.ticket (mean -ℤ b.diff)
+    by_near false near = by_setting s rest b e near b.ticket
 
 corrects_all : (mean : ℤ) (round : List Standing) → Leads (Closed round) (for_each (corrects_peer mean) round) Base
 unfolding for_each

@@ -31,7 +31,7 @@ use Rattle.tsp_progress.proofs.SentRows.{Base, JoinedNow, SentFits, by_correctin
 -- p has just joined
 record Joined (p : PeerId) (x : ℕ) (past : Past) : Type 0 where
   pub paid : Paid SentFits x past
-  pub joined : JoinedNow p past.seen
+  pub joined : JoinedNow p past.step past.seen
 
 settime : (p : PeerId) (number : ℕ) → Leads (Joined p) (begins_settime p number) Base
 unfolding begins_settime posts_time
@@ -47,7 +47,7 @@ joining p number = Leads_either (may_join p number) (puts (Join p) followed_by b
     (Leads_then {Q = Joined p} (puts (Join p)) (begins_settime p number)
     (Leads_puts (Join p) (λ x past h. record {
       paid = (tt, h.0);
-      joined = record { join = record { step = past.step; tick = x; deed = Acts (Join p) }; older = past.seen; is = refl; deed = refl };
+      joined = record { join = record { step = past.step; tick = x; deed = Acts (Join p) }; older = past.seen; is = refl; deed = refl; same = refl };
     }))
     (settime p number))
     (Leads_from (λ x past h. h.0) Leads_nothing)

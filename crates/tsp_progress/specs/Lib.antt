@@ -2,6 +2,7 @@ pub mod AckedInTime
 pub mod AckedUse
 pub mod AgreeUse
 pub mod AgreesAlways
+pub mod AgreesFrom
 pub mod AgreesMeanwhile
 pub mod AgreesOn
 pub mod AgreesSoon
@@ -85,6 +86,7 @@ pub mod SecondUse
 pub mod SendsEnd
 pub mod SentAway
 pub mod SentAwayUse
+pub mod Settles
 pub mod SettlesTable
 pub mod SlewsTable
 pub mod Stands

@@ -2,6 +2,7 @@
 //! Nothing here runs.
 ghost use Rattle.tsp_progress.specs.AgreeUse.{AgreeUse};
 ghost use Rattle.tsp_progress.specs.AgreesAlways.{ClockedRunsAgreeAlways, RunsAgreeAlways};
+ghost use Rattle.tsp_progress.specs.AgreesFrom.{ClockedRunsAgreeFrom, RunsAgreeFrom};
 ghost use Rattle.tsp_progress.specs.AgreesMeanwhile.{ClockedRunsAgreeMeanwhile, RunsAgreeMeanwhile};
 ghost use Rattle.tsp_progress.specs.AgreesOn.{ClockedRunsAgreeUntilNext, RunsAgreeUntilNext};
 ghost use Rattle.tsp_progress.specs.MeasuresTable.{ClockedRunsMeasureTable, RunsMeasureTable};
@@ -86,6 +87,18 @@ pub fn runs_agree_meanwhile()
 /// So it is in a run by any clocks.
 pub fn clocked_runs_agree_meanwhile()
     ensures { ClockedRunsAgreeMeanwhile }
+{}
+
+/// So in a calm network that follows its master, and that may have begun as it liked, all clocks
+/// agree from 1,015 s and three times `long` on, as long as the master gives up no round, and finds
+/// no clock 34 years away: by then all nodes are in its table, and what began before is over.
+pub fn runs_agree_from()
+    ensures { RunsAgreeFrom }
+{}
+
+/// So it is in a run by any clocks.
+pub fn clocked_runs_agree_from()
+    ensures { ClockedRunsAgreeFrom }
 {}
 
 /// A run in which two clocks agree from 10 ms after a Close on, for which all that these laws ask

@@ -6,6 +6,7 @@ ghost use Rattle.tsp_progress.specs.LeadFrom.{ClockedRunsComeToWinner, ClockedRu
 ghost use Rattle.tsp_progress.specs.LeadFrom.{RunsComeToWinner, RunsLeadFromWin};
 ghost use Rattle.tsp_progress.specs.LeadOnly.{ClockedRunsComeToLeader, ClockedRunsLeadOnly};
 ghost use Rattle.tsp_progress.specs.LeadOnly.{RunsComeToLeader, RunsLeadOnly};
+ghost use Rattle.tsp_progress.specs.Settles.{ClockedRunsSettle, RunsSettle};
 
 /// A port comes to follow another only when that calls it, by a MASTERUP, a MASTERACK or a QUIT,
 /// which only masters post; only candidates ask for votes; and a follower waits anew only by what
@@ -71,6 +72,18 @@ pub fn runs_come_to_winner()
 /// So it is in a run by any clocks.
 pub fn clocked_runs_come_to_winner()
     ensures { ClockedRunsComeToWinner }
+{}
+
+/// A calm network settles, in elections that aren't strict: one of its nodes comes to lead, and all
+/// others follow it for ever, from 513 s, four times `long`, the longest stretch without a master,
+/// and what it takes until all others follow, after some place on.
+pub fn runs_settle()
+    ensures { RunsSettle }
+{}
+
+/// So it is in a run by any clocks.
+pub fn clocked_runs_settle()
+    ensures { ClockedRunsSettle }
 {}
 
 /// A run in which a node that follows another, which is gone, hears three calls of the one that

@@ -38,11 +38,12 @@
 //! `OneLeftUse`. Of a network that follows one master read `RolesLast`, `FollowOn`, `Obeyed`,
 //! `MovedBy`, `TicketKept`, `ErrSoon` and `AgreesSoon`; then `FollowUse` and `ObeyedUse`. Of a
 //! network that gets one read `OneWire`, `Motives` and `Headless`, then `HeadlessUse`; of how all
-//! come to follow it `Calling`, `Gather`, `LeadOnly` and `LeadFrom`, then `GatherUse`. Of the slaves
-//! of a master read `TableKept`, `ReportsSoon`, `NoDate`, `CorrectsApart`, `StaysIn` and
+//! come to follow it `Calling`, `Gather`, `LeadOnly`, `LeadFrom` and `Settles`, then `GatherUse`. Of
+//! the slaves of a master read `TableKept`, `ReportsSoon`, `NoDate`, `CorrectsApart`, `StaysIn` and
 //! `SettlesTable`, then `MembersUse`; of clocks at each time `OnePort`, `InTable`, `LateClose`,
-//! `MeasuresTable`, `SlewsTable`, `TakesRounds`, `AgreesOn`, `AgreesAlways` and `AgreesMeanwhile`,
-//! then `AgreeUse` and `TwoRoundsUse`. The words of histories are those of `tsp_promises`.
+//! `MeasuresTable`, `SlewsTable`, `TakesRounds`, `AgreesOn`, `AgreesAlways`, `AgreesMeanwhile` and
+//! `AgreesFrom`, then `AgreeUse` and `TwoRoundsUse`. The words of histories are those of
+//! `tsp_promises`.
 //!
 //! # What is proved
 //!
@@ -146,12 +147,14 @@
 //!   without a master for longer than 360 s, three times that wait and eight times `long`, in
 //!   elections that aren't strict (`runs_get_master`, `clocked_runs_get_master`), nor after all have
 //!   booted for 90 s longer (`runs_get_master_soon`, `clocked_runs_get_master_soon`).
-//! - All that stay come to follow the one that leads alone, 484 s and three times `long` later, and
-//!   609 s and `long` more for each of them (`runs_gather`, `clocked_runs_gather`). Who leads alone
-//!   for `long`, or is master where no other node has been for so long, leads alone from then on
-//!   (`runs_lead_only`, `clocked_runs_lead_only`, `runs_lead_from_win`,
+//! - All that stay come to follow the one that leads alone, 484 s and three times `long` later,
+//!   and 609 s and `long` more for each of them (`runs_gather`, `clocked_runs_gather`). Who
+//!   leads alone for longer than `long`, or is master where no other node has been for so long,
+//!   does so from then on (`runs_lead_only`, `clocked_runs_lead_only`, `runs_lead_from_win`,
 //!   `clocked_runs_lead_from_win`), and so all come to follow it (`runs_come_to_leader`,
-//!   `clocked_runs_come_to_leader`, `runs_come_to_winner`, `clocked_runs_come_to_winner`).
+//!   `clocked_runs_come_to_leader`, `runs_come_to_winner`, `clocked_runs_come_to_winner`). So
+//!   the network settles, in elections that aren't strict: one of its nodes leads, and all
+//!   others that stay follow it, for ever (`runs_settle`, `clocked_runs_settle`).
 //! - In every run a slave leaves its master's table for three reasons alone, and joins it by its
 //!   report (`runs_leave`, `clocked_runs_leave`). Each follower is in the table within 242 s and
 //!   twice `long` of each time (`runs_report`, `clocked_runs_report`). In a calm network nobody takes
@@ -166,7 +169,9 @@
 //!   (`runs_take_rounds`, `clocked_runs_take_rounds`). So all clocks agree from `long` after a Close
 //!   until the next one (`runs_agree_until_next`, `clocked_runs_agree_until_next`), at each time
 //!   except for `long` after each Close (`runs_agree_always`, `clocked_runs_agree_always`), and, less
-//!   closely, without that exception (`runs_agree_meanwhile`, `clocked_runs_agree_meanwhile`).
+//!   closely, without that exception (`runs_agree_meanwhile`, `clocked_runs_agree_meanwhile`); and
+//!   so from some time on whoever was in the table before (`runs_agree_from`,
+//!   `clocked_runs_agree_from`).
 //! - It says something: a worked run (`prompt_use`), one that leads one tick before the bound
 //!   (`slow_use`), runs that are looked at one tick too late (`late_use`), histories without each
 //!   premise (`needed`), a run in which a second node may be master, and leads (`one_use`), one in
