@@ -1,10 +1,10 @@
 -- That clocks are in their range, as a computation.
 use Rattle.std.proofs.Common.{sym, ap, subst, true≢false, inl, inr, ◌∙◌, ◌≡◌, ◌≤◌, ℕ, ◌+◌, ◌==◌, ◌&&◌, ◌||◌, not, nat_le, Bool, true, false, List, [], ◌∷◌}
 use Rattle.std.proofs.Common.{length, if◌then◌else◌, le-leb, eq-eqb, refl}
-use Rattle.std.proofs.lemmas.Bool.{and_parts, not-true}
-use Rattle.tsp_rules.specs.Values.{AdjTime, Good, Kind, Message, Peer, PeerId, Place, Post, Took}
+use Rattle.std.proofs.lemmas.Bool.{and_parts}
+use Rattle.tsp_rules.specs.Values.{AdjTime, Kind, Message, Peer, Post}
 use Rattle.tsp_rules.specs.{ClockRows.can_adjust, Guards.is_in_range}
-use Rattle.tsp_base.specs.Words.{Acts, Deed, HeaderValue, Line, MessageValue, Within, of, peer_of, sets_date, time_in}
+use Rattle.tsp_base.specs.Words.{Acts, Deed, HeaderValue, Line, Within, of, time_in}
 use Rattle.tsp_base.proofs.PlaceLemmas.{Within_length}
 use Rattle.tsp_promises.specs.{Fits.node_of}
 use Rattle.tsp_progress.specs.{ByTable.node_in, ByTable.port_before, StaysIn.InRange}

@@ -1,5 +1,5 @@
 -- In a calm network whoever wins has been master alone for `long` since, so it leads on alone, and all come to follow it.
-use Rattle.std.proofs.Common.{sym, ap, arith, true≢false, inl, inr, ◌∙◌, ◌≡◌, ◌≢◌, ◌≤◌, ◌<◌, ℕ, ◌+◌, ◌-◌, Bool, true, false}
+use Rattle.std.proofs.Common.{sym, ap, arith, true≢false, inl, inr, ◌∙◌, ◌≡◌, ◌≢◌, ◌≤◌, ◌<◌, ℕ, ◌+◌, ◌-◌, Bool, true}
 use Rattle.std.proofs.Common.{List, [], ◌∷◌, eq-eqb, length}
 use Rattle.tsp_rules.specs.Values.{Become, Candidate, Event, Master}
 use Rattle.tsp_base.specs.Words.{Acts, HeaderValue, Line, Within, dids, first_port, of, role, time_of, view}

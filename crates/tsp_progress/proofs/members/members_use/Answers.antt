@@ -25,13 +25,13 @@ use Rattle.tsp_rules.specs.GateRows.{answers_all, boots_on, boots_all}
 use Rattle.tsp_group.specs.Groups.{group_from, goes_before, better}
 use Rattle.tsp_codec.specs.Taken.{taken_of}
 use Rattle.std.proofs.Common.{arith, inl, inr, subst, sym, true≢false, ◌∙◌, ◌≡◌, ◌+◌, ◌*◌, ◌/◌, ◌<◌, ℕ, zero, suc, true, length, ◌∷◌, []}
-use Rattle.tsp_rules.specs.Values.{Become, Boot, GAP, Leave, Master, PeerId, Take, Turn}
+use Rattle.tsp_rules.specs.Values.{Become, Boot, GAP, Leave, Master, Take, Turn}
 use Rattle.tsp_base.specs.Words.{Acts, Begins, first_port, of, peer_of, view}
 use Rattle.tsp_promises.specs.{Setting.Setting}
 use Rattle.tsp_promises.proofs.witness.PremiseChecks.{honest_by, life_by}
 use Rattle.tsp_run.specs.{Ranges.Accepted, Setting.SetBy}
 use Rattle.tsp_run.proofs.{PossibleRun.accepted_possible, RunFits.possible_runs_fit_holds}
-use Rattle.tsp_progress.specs.{ByTable.node_in, FollowUse.two_stay, MembersUse.lets_go, MembersUse.looks_on, Needed.does_at, OneUse.two_may}
+use Rattle.tsp_progress.specs.{ByTable.node_in, FollowUse.two_stay, MembersUse.looks_on, Needed.does_at, OneUse.two_may}
 use Rattle.tsp_progress.specs.{TableKept.TableFits, TableUse.until_reports, TableUse.until_set, Watched.Watched}
 use Rattle.tsp_progress.proofs.{CalmChecks.calm_by, CalmChecks.follow_by, DeliveredChecks.delivered_by, MemberChecks.range_by}
 use Rattle.tsp_progress.proofs.{UseLemmas.later_ranges, UseLemmas.ranges, UseLemmas.two_header_is, WatchChecks.attended_by_holds, WatchChecks.watched_by_holds}
