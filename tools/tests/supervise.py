@@ -165,7 +165,7 @@ def flood(server, count, rate, every=1000):
 def stuck():
     """A reader that takes nothing: questions are answered on, and when it reads again it has all of the daemon's own lines, and is told how many
     others there were."""
-    count, rate = 60_000, 20_000
+    count, rate = 60_000, 6_000
     end, into = os.pipe()
     server = Supervised(stdout=into)
     os.close(into)
